@@ -1,0 +1,38 @@
+-- Laws of rows and columns over the width. `by-width` is the one place where the widths are gone through.
+-- Assumes nothing.
+use mathlib.Core.Path.{_≡_, refl, sym, subst}
+use mathlib.Core.Logic.{⊎-elim}
+use Prim.Native.Nat.{ℕ, suc, _+_, _-_, _*_, _/_, _%_, _≤_, _<_}
+use native.Mathlib.Omega.{arith}
+use Rattle.rules.specs.Row.{Width, rowEnd}
+
+-- what holds at each width: with a numeral for the width, `omega` does the rest
+pub by-width : (P : ℕ → Type 0) → P 80 → P 132 → {w : ℕ} → Width w → P w
+by-width P a b k = ⊎-elim (λ e. subst P (sym e) a) (λ e. subst P (sym e) b) k
+
+module _ {w : ℕ} (k : Width w) where
+  -- so many rows begin no later
+  pub rows-le : {a b : ℕ} → a ≤ b → a * w ≤ b * w
+  rows-le {a} {b} h = by-width (λ (w : ℕ). a * w ≤ b * w) (omega arith) (omega arith) k
+
+  pub rows-small : {a : ℕ} → a ≤ 24 → a * w ≤ 3168
+  rows-small {a} h = by-width (λ (w : ℕ). a * w ≤ 3168) (omega arith) (omega arith) k
+
+  pub row-is : (at : ℕ) → at / w * w + w ≡ rowEnd w at
+  unfolding rowEnd
+  row-is at = by-width (λ (w : ℕ). at / w * w + w ≡ (at / w + 1) * w) (omega arith) (omega arith) k
+
+  pub row-after : (at : ℕ) → at < rowEnd w at
+  unfolding rowEnd
+  row-after at = by-width (λ (w : ℕ). at < (at / w + 1) * w) (omega arith) (omega arith) k
+
+  pub row-inside : (at : ℕ) → at < 24 * w → rowEnd w at ≤ 24 * w
+  unfolding rowEnd
+  row-inside at h = by-width (λ (w : ℕ). at < 24 * w → (at / w + 1) * w ≤ 24 * w) (λ h. omega arith) (λ h. omega arith) k h
+
+  pub page-small : 24 * w ≤ 3168
+  page-small = by-width (λ (w : ℕ). 24 * w ≤ 3168) (omega arith) (omega arith) k
+
+  pub cell-inside : {row column : ℕ} → row < 24 → column < w → row * w + column < 24 * w
+  cell-inside {row} {column} h i =
+      by-width (λ (w : ℕ). column < w → row * w + column < 24 * w) (λ i. omega arith) (λ i. omega arith) k i

@@ -1,0 +1,93 @@
+-- The bench list's marked cases (document 01, "The bench list"): one table, one statement.
+use mathlib.Core.Path.{_≡_}
+use mathlib.Core.Bool.{Bool, true, false}
+use mathlib.Core.List.{List, [], _∷_, _++_, map}
+use Prim.Native.Nat.{ℕ}
+use lib.Dec.{eqb}
+use lib.ListN.{getD, replicate}
+use Rattle.rules.specs.Cell.{both}
+use Rattle.rules.specs.State.{cursorOf}
+use Rattle.rules.specs.Possible.{powerOn, blank}
+use Rattle.rules.specs.Calls.{Call, Step, Press, Given, Played, play}
+
+-- what a case claims once its calls are made: a cell's number, the active cursor's cell, all reply bytes joined, the answer of each call
+pub data Claim : Type 0 where
+  Cell : ℕ → ℕ → Claim
+  Cursor : ℕ → Claim
+  Replies : List ℕ → Claim
+  Answers : List ℕ → Claim
+
+unfoldable pub same : List ℕ → List ℕ → Bool
+same [] [] = true
+same [] (y ∷ ys) = false
+same (x ∷ xs) [] = false
+same (x ∷ xs) (y ∷ ys) = both (eqb x y) (same xs ys)
+
+unfoldable pub replies : List Given → List ℕ
+replies [] = []
+replies (g ∷ gs) = g .reply ++ replies gs
+
+unfoldable pub answers : List Given → List ℕ
+answers [] = []
+answers (g ∷ gs) = g .answer ∷ answers gs
+
+unfoldable pub holds : Played → Claim → Bool
+holds r (Cell i v) = eqb (getD (r .page) i 0) v
+holds r (Cursor c) = eqb (cursorOf (r .state .core .screen)) c
+holds r (Replies l) = same (replies (r .given)) l
+holds r (Answers l) = same (answers (r .given)) l
+
+unfoldable pub allHold : Played → List Claim → Bool
+allHold r [] = true
+allHold r (c ∷ cs) = both (holds r c) (allHold r cs)
+
+-- calls from power-on, and what is claimed of them
+pub data Case : Type 0 where
+  from-power-on : List Call → List Claim → Case
+
+unfoldable pub casesHold : List Case → Bool
+casesHold [] = true
+casesHold (from-power-on calls claims ∷ cs) = both (allHold (play calls blank powerOn) claims) (casesHold cs)
+
+-- host bytes, each with a room of 1,944
+unfoldable pub host : List ℕ → List Call
+host bytes = map (λ b. Step b 1944) bytes
+
+-- ESC ) and two letters, ESC ( and ESC &, CR, 08h
+unfoldable pub label : ℕ → ℕ → List ℕ
+label a b = 0x1b ∷ 0x29 ∷ a ∷ b ∷ 0x1b ∷ 0x28 ∷ 0x1b ∷ 0x26 ∷ 0x0d ∷ 0x08 ∷ []
+
+unfoldable pub table : List Case
+table =
+    -- 1: A B ESC ?
+    from-power-on (host (0x41 ∷ 0x42 ∷ 0x1b ∷ 0x3f ∷ [])) (Replies (0x20 ∷ 0x22 ∷ 0x0d ∷ []) ∷ Answers (replicate 4 0) ∷ [])
+    -- 2: ESC = 37h 6Fh X
+    ∷ from-power-on (host (0x1b ∷ 0x3d ∷ 0x37 ∷ 0x6f ∷ 0x58 ∷ [])) (Cell 1839 0x58 ∷ Cursor 1840 ∷ Answers (replicate 5 0) ∷ [])
+    -- 3: ESC = 38h 20h; ESC = 20h 70h
+    ∷ from-power-on (host (0x1b ∷ 0x3d ∷ 0x38 ∷ 0x20 ∷ [])) (Cursor 0 ∷ Answers (0 ∷ 0 ∷ 0 ∷ 3 ∷ []) ∷ [])
+    ∷ from-power-on (host (0x1b ∷ 0x3d ∷ 0x20 ∷ 0x70 ∷ [])) (Cursor 0 ∷ Answers (0 ∷ 0 ∷ 0 ∷ 3 ∷ []) ∷ [])
+    -- 4: ESC a 24R80C, ESC b
+    ∷ from-power-on (host (0x1b ∷ 0x61 ∷ 0x32 ∷ 0x34 ∷ 0x52 ∷ 0x38 ∷ 0x30 ∷ 0x43 ∷ 0x1b ∷ 0x62 ∷ []))
+    (Cursor 1919 ∷ Replies (0x32 ∷ 0x34 ∷ 0x52 ∷ 0x30 ∷ 0x38 ∷ 0x30 ∷ 0x43 ∷ []) ∷ Answers (replicate 10 0) ∷ [])
+    -- 5: No protected, CR, 08h; then x, ESC 4
+    ∷ from-power-on (host (label 0x4e 0x6f)) (Cell 0 206 ∷ Cell 1 239 ∷ Cursor 2 ∷ Answers (replicate 10 0) ∷ [])
+    ∷ from-power-on (host (label 0x4e 0x6f ++ 0x78 ∷ 0x1b ∷ 0x34 ∷ []))
+    (Cell 2 0x78 ∷ Replies (0x78 ∷ 0x20 ∷ 0x0d ∷ []) ∷ Answers (replicate 13 0) ∷ [])
+    -- 6: the same with Hi
+    ∷ from-power-on (host (label 0x48 0x69 ++ 0x78 ∷ 0x1b ∷ 0x34 ∷ [])) (Replies (0x78 ∷ 0x20 ∷ 0x0d ∷ []) ∷ Answers (replicate 13 0) ∷ [])
+    -- 7: ESC , ESC & A
+    ∷ from-power-on (host (0x1b ∷ 0x2c ∷ 0x1b ∷ 0x26 ∷ 0x41 ∷ [])) (Cell 0 160 ∷ Cursor 0 ∷ Answers (0 ∷ 0 ∷ 0 ∷ 0 ∷ 4 ∷ []) ∷ [])
+    -- 8: ESC z 40h hi DEL; key 40h; key 41h
+    ∷ from-power-on (host (0x1b ∷ 0x7a ∷ 0x40 ∷ 0x68 ∷ 0x69 ∷ 0x7f ∷ []) ++ Press 0x40 8 ∷ []) (Replies (0x68 ∷ 0x69 ∷ []) ∷ Answers (replicate 7 0) ∷ [])
+    ∷ from-power-on (host (0x1b ∷ 0x7a ∷ 0x40 ∷ 0x68 ∷ 0x69 ∷ 0x7f ∷ []) ++ Press 0x41 8 ∷ [])
+    (Replies (0x01 ∷ 0x41 ∷ 0x0d ∷ []) ∷ Answers (replicate 7 0) ∷ [])
+    -- 9: ESC E9h = 20h 20h
+    ∷ from-power-on (host (0x1b ∷ 0xe9 ∷ 0x3d ∷ 0x20 ∷ 0x20 ∷ [])) (Cursor 0 ∷ Answers (0 ∷ 1 ∷ 0 ∷ 0 ∷ 0 ∷ []) ∷ [])
+    -- 10: ESC x 1 2Ch, ESC }, ESC /; ESC = 2Ch 20h
+    ∷ from-power-on (host (0x1b ∷ 0x78 ∷ 0x31 ∷ 0x2c ∷ 0x1b ∷ 0x7d ∷ 0x1b ∷ 0x2f ∷ 0x1b ∷ 0x3d ∷ 0x2c ∷ 0x20 ∷ []))
+    (Replies (0x31 ∷ 0x20 ∷ 0x20 ∷ 0x0d ∷ []) ∷ Answers (replicate 11 0 ++ 3 ∷ []) ∷ [])
+    ∷ []
+
+-- the statement
+abbrev pub BenchList : Type 0
+BenchList = casesHold table ≡ true

@@ -1,0 +1,93 @@
+-- A plan carried out: the only place that reads or writes a cell's contents.
+use mathlib.Core.Bool.{Bool, true, false}
+use mathlib.Core.List.{List, [], _∷_, _++_}
+use Prim.Native.Nat.{ℕ, zero, suc, _+_, _-_, _*_, _/_, _%_}
+use lib.Dec.{leb, ltb, eqb}
+use lib.ListN.{length, take, drop}
+use Rattle.rules.specs.declared.Core.{Core}
+use Rattle.rules.specs.declared.Plan.{Plan}
+use Rattle.rules.specs.declared.Write.{Write}
+use Rattle.rules.specs.declared.Write.the-variants as Write
+use Rattle.rules.specs.declared.SetupChange.{SetupChange}
+use Rattle.rules.specs.declared.SetupChange.the-variants as SetupChange
+use Rattle.rules.specs.declared.Reply.{Reply}
+use Rattle.rules.specs.declared.Reply.the-variants as Reply
+use Rattle.rules.specs.declared.Land.{Land}
+use Rattle.rules.specs.declared.Land.the-variants as Land
+use Rattle.rules.specs.Cell.{pick, both, guarded, sent}
+use Rattle.rules.specs.Row.{width}
+use Rattle.rules.specs.Search.{guardedAt, settled}
+use Rattle.rules.specs.Change.{within, filled, columnFilled, editShifted, rowsShifted}
+use Rattle.rules.specs.State.{number, segmentStart, segmentEnd, withCursor, withScreen}
+
+-- the page after a write
+unfoldable pub applied : Bool → Write → List ℕ → List ℕ
+applied on Write.Nothing p = p
+applied on (Write.Fill a e v) p = within a e (filled on v) p
+applied on (Write.FillAll a e v) p = within a e (filled false v) p
+applied on (Write.Column top bottom c v) p = columnFilled width on v c (bottom - top) top p
+applied on (Write.Edit right at v) p = editShifted width on right v at p
+applied on (Write.Rows down top bottom) p = rowsShifted width down top bottom p
+
+-- US before each row but the first of a send from cell a on, at cell i
+unfoldable pub separator : ℕ → ℕ → ℕ → List ℕ
+separator w a i = pick (both (eqb (i % w) 0) (ltb a i)) (0x1f ∷ []) []
+
+-- a guarded cell is left out
+unfoldable pub openCell : Bool → ℕ → List ℕ
+openCell on v = pick (guarded on v) [] (sent v ∷ [])
+
+-- the text of cells in a send from cell a on; the first of them is cell i
+unfoldable pub textFrom : ℕ → Bool → ℕ → ℕ → List ℕ → List ℕ
+textFrom w on a i [] = []
+textFrom w on a i (v ∷ l) = let r = textFrom w on a (suc i) l in separator w a i ++ (openCell on v ++ r)
+
+-- the text of the cells a up to, not including, e
+abbrev pub textOf : ℕ → Bool → List ℕ → ℕ → ℕ → List ℕ
+textOf w on p a e = textFrom w on a a (take (e - a) (drop a p))
+
+abbrev pub digit : ℕ → ℕ
+digit n = 0x30 + n % 10
+
+unfoldable pub replied : Bool → List ℕ → Reply → List ℕ
+replied on p Reply.Nothing = []
+replied on p Reply.Acknowledge = 0x06 ∷ []
+replied on p Reply.Identity = 0x35 ∷ 0x30 ∷ 0x0d ∷ []
+replied on p (Reply.Address r c) = r ∷ c ∷ 0x0d ∷ []
+replied on p (Reply.SegmentAddress n r c) = n ∷ r ∷ c ∷ 0x0d ∷ []
+replied on p (Reply.Decimal r c) = digit (r / 10) ∷ digit r ∷ 0x52 ∷ digit (c / 100) ∷ digit (c / 10) ∷ digit c ∷ 0x43 ∷ []
+replied on p (Reply.Cell at) = textOf width on p at (at + 1)
+replied on p (Reply.Text all a e) = textOf width (pick all false on) p a e ++ 0x0d ∷ []
+
+-- the active cursor goes where the plan says
+unfoldable pub landed : List Bool → Land → Core → Core
+landed g Land.Stay c = c
+landed g (Land.Settle i) c = withScreen c (withCursor (c .screen) (settled g (segmentStart (c .screen)) (segmentEnd (c .screen)) i))
+
+-- what a byte comes to. The set-up is not handed through, only its change
+pub record Effect : Type 0 where
+  pub answer : ℕ
+  pub core : Core
+  pub change : SetupChange
+  pub page : List ℕ
+  pub reply : List ℕ
+
+abbrev pub effect : ℕ → Core → SetupChange → List ℕ → List ℕ → Effect
+effect n c x p r = record { answer = n; core = c; change = x; page = p; reply = r }
+
+-- only the answer and the core
+abbrev pub quiet : ℕ → Core → List ℕ → Effect
+quiet n c p = effect n c SetupChange.Nothing p []
+
+abbrev pub pageAfter : Bool → Plan → List ℕ → List ℕ
+pageAfter on x p = applied on (x .second) (applied on (x .first) p)
+
+-- written, replied, and settled over the page as it then is, with protect mode as it then is
+unfoldable pub done : Bool → List ℕ → Plan → Effect
+done on p x =
+    effect (number (x .answer)) (landed (guardedAt (x .next .modes .protect) (pageAfter on x p)) (x .land) (x .next)) (x .change)
+    (pageAfter on x p) (replied on p (x .reply))
+
+-- a reply longer than the room answers 6, and nothing has changed
+unfoldable pub carried : List ℕ → Core → Plan → ℕ → Effect
+carried p c x room = pick (leb (length (replied (c .modes .protect) p (x .reply))) room) (done (c .modes .protect) p x) (quiet 6 c p)

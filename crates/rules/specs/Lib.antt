@@ -1,0 +1,14 @@
+pub mod Cell
+pub mod Row
+pub mod Search
+pub mod Change
+pub mod State
+pub mod Possible
+pub mod Decode
+pub mod Plan
+pub mod Carry
+pub mod Step
+pub mod Calls
+pub mod Noninterference
+pub mod Good
+pub mod Bench

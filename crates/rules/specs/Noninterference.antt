@@ -1,0 +1,94 @@
+-- Demand 3, the statement: document 01, "What demand 3 speaks of".
+use mathlib.Core.Path.{_≡_}
+use mathlib.Core.Bool.{Bool, true, false}
+use mathlib.Core.List.{List, [], _∷_}
+use Prim.Native.Nat.{ℕ, _-_, _<_}
+use lib.Dec.{eqb}
+use lib.ListN.{getD}
+use Rattle.rules.specs.declared.State.{State}
+use Rattle.rules.specs.declared.Pending.{Pending}
+use Rattle.rules.specs.declared.Pending.the-variants as Pending
+use Rattle.rules.specs.Cell.{pick, both, either, protected}
+use Rattle.rules.specs.Possible.{good}
+use Rattle.rules.specs.Step.{stepRule}
+use Rattle.rules.specs.Calls.{Call, Step, Run, Press, callRule, Played, play}
+
+-- "alike" at the start: the same state, the same page length, the same protected bit in each cell, and the same number in each unprotected
+-- cell
+pub record Alike (p q : List ℕ) (s t : State) : Type 0 where
+  pub state : s ≡ t
+  pub length : lib.ListN.length p ≡ lib.ListN.length q
+  pub bits : (i : ℕ) → i < lib.ListN.length p → protected (getD p i 0) ≡ protected (getD q i 0)
+  pub cells : (i : ℕ) → i < lib.ListN.length p → protected (getD p i 0) ≡ false → getD p i 0 ≡ getD q i 0
+
+-- the sequence under way is a bare ESC: the next byte is the last of a two-byte command, and no other sequence's argument
+abbrev pub afterEscape : Pending → Bool
+afterEscape Pending.Idle = false
+afterEscape Pending.Escape = true
+afterEscape Pending.Address = false
+afterEscape (Pending.AddressRow r) = false
+afterEscape Pending.Segment = false
+afterEscape (Pending.SegmentNumber n) = false
+afterEscape (Pending.SegmentRow n r) = false
+afterEscape (Pending.DecimalRow n row) = false
+afterEscape (Pending.DecimalColumn row n column) = false
+afterEscape Pending.Split = false
+afterEscape Pending.SplitRow = false
+afterEscape Pending.Attribute = false
+afterEscape Pending.Graphic = false
+afterEscape Pending.FillAttribute = false
+afterEscape Pending.FillCode = false
+afterEscape Pending.Feature = false
+afterEscape Pending.FieldAttribute = false
+afterEscape (Pending.FieldNumber n) = false
+afterEscape Pending.KeyValue = false
+afterEscape (Pending.KeyText v) = false
+afterEscape (Pending.KeyOver v) = false
+
+abbrev pub anyOf : List ℕ → ℕ → Bool
+anyOf [] b = false
+anyOf (k ∷ ks) b = either (eqb b k) (anyOf ks b)
+
+-- protect-off ESC '; the clear-all commands ESC *, ESC + and ESC ,; those that send protected text, ESC 6 and ESC 7
+abbrev pub excludedBytes : List ℕ
+excludedBytes = 0x27 ∷ 0x2a ∷ 0x2b ∷ 0x2c ∷ 0x36 ∷ 0x37 ∷ []
+
+-- "completed": the last byte of one of the six is taken and answers 0
+unfoldable pub completes : State → ℕ → ℕ → Bool
+completes s b answer = both (both (afterEscape (s .core .pending)) (anyOf excludedBytes b)) (eqb answer 0)
+
+-- one of the six is completed by a byte that a run takes
+unfoldable pub runCompletes : List ℕ → List ℕ → State → ℕ → Bool
+runCompletes [] p s room = false
+runCompletes (b ∷ bs) p s room =
+    let o = stepRule p s b room in
+    let r = either (completes s b (o .answer)) (runCompletes bs (o .page) (o .state) (room - lib.ListN.length (o .reply))) in
+    pick (eqb (o .answer) 6) false r
+
+unfoldable pub callCompletes : List ℕ → State → Call → Bool
+callCompletes p s (Step b room) = completes s b ((stepRule p s b room) .answer)
+callCompletes p s (Run bytes room) = let r = runCompletes bytes p s room in pick (good p s) r false
+callCompletes p s (Press v room) = false
+
+-- one of the six is completed somewhere in the list, judged in this terminal
+unfoldable pub anyCompleted : List Call → List ℕ → State → Bool
+anyCompleted [] p s = false
+anyCompleted (c ∷ cs) p s =
+    let r = callRule p s c in
+    either (callCompletes p s c) (anyCompleted cs (r .page) (r .given .state))
+
+-- After the list: all answers, counts, reply bytes, handed-back input and states agree after every call, and so do the states at the end.
+-- Cells open at the start have equal numbers in both, and each cell protected at the start has, in each terminal, the number it had there
+pub record Indistinguishable (p q : List ℕ) (a b : Played) : Type 0 where
+  pub given : a .given ≡ b .given
+  pub state : a .state ≡ b .state
+  pub length : lib.ListN.length (a .page) ≡ lib.ListN.length (b .page)
+  pub open-cells : (i : ℕ) → protected (getD p i 0) ≡ false → getD (a .page) i 0 ≡ getD (b .page) i 0
+  pub first : (i : ℕ) → protected (getD p i 0) ≡ true → getD (a .page) i 0 ≡ getD p i 0
+  pub second : (i : ℕ) → protected (getD q i 0) ≡ true → getD (b .page) i 0 ≡ getD q i 0
+
+-- any list of calls, from any page and state with protect mode on, in which the first terminal completes none of the six
+abbrev pub Demand3 : Type 0
+Demand3 =
+    (p q : List ℕ) (s t : State) (calls : List Call) → s .core .modes .protect ≡ true → Alike p q s t → anyCompleted calls p s ≡ false
+    → Indistinguishable p q (play calls p s) (play calls q t)

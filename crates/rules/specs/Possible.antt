@@ -1,0 +1,119 @@
+-- The power-on state, and which states are "possible" (document 01, "Possible means exactly").
+use Prim.Native.Nat.{ℕ, zero, suc, _+_, _-_, _*_, _^_}
+use mathlib.Core.List.{List, [], _∷_}
+use mathlib.Core.Bool.{Bool, true, false}
+use lib.ListN.{length, getD, replicate}
+use lib.Dec.{ltb, leb, eqb}
+use Rattle.rules.specs.declared.State.{State}
+use Rattle.rules.specs.declared.Screen.{Screen}
+use Rattle.rules.specs.declared.Key.{Key}
+use Rattle.rules.specs.declared.Pending.{Pending}
+use Rattle.rules.specs.declared.Pending.the-variants as Pending
+use Rattle.rules.specs.Cell.{pick, both, either, among}
+use Rattle.rules.specs.Row.{width, height, pageLength}
+use Rattle.rules.specs.State.{keyText, noKey}
+
+unfoldable pub powerOn : State
+powerOn = record {
+  core = record {
+    screen = record { active = 0; split = 0; cursor0 = 0; cursor1 = 0 };
+    modes = record { protect = false; mark = false; insert = false; autoscroll = true; locked = false; local = false };
+    bells = 0;
+    pending = Pending.Idle;
+    gathered = noKey;
+  };
+  setup = record {
+    tabs = replicate width false;
+    attributes = replicate 4 0x30;
+    features = 0x31 ∷ 0x35 ∷ 0x37 ∷ 0x39 ∷ 0x40 ∷ [];
+    keys = replicate 32 noKey;
+  };
+}
+
+-- all cells 0
+unfoldable pub blank : List ℕ
+blank = replicate pageLength 0
+
+-- unsplit: segment 0 active, the whole page for both cursors
+unfoldable pub unsplitOk : Screen → Bool
+unsplitOk x = both (eqb (x .active) 0) (both (ltb (x .cursor0) pageLength) (ltb (x .cursor1) pageLength))
+
+-- split row 2 to 24, each cursor within its segment
+unfoldable pub splitOk : Screen → Bool
+splitOk x =
+    both (leb 2 (x .split)) (both (leb (x .split) height) (both (leb (x .active) 1)
+    (both (ltb (x .cursor0) ((x .split - 1) * width))
+    (both (leb ((x .split - 1) * width) (x .cursor1)) (ltb (x .cursor1) pageLength)))))
+
+unfoldable pub screenOk : Screen → Bool
+screenOk x = pick (eqb (x .split) 0) (unsplitOk x) (splitOk x)
+
+unfoldable pub allBelow : ℕ → List ℕ → Bool
+allBelow n [] = true
+allBelow n (x ∷ l) = both (ltb x n) (allBelow n l)
+
+-- at most 8 bytes below 80h and not 7Fh
+unfoldable pub keyOk : Key → Bool
+keyOk k = both (leb (k .len) 8) (allBelow 0x7f (keyText k))
+
+unfoldable pub keysOk : List Key → Bool
+keysOk [] = true
+keysOk (k ∷ ks) = both (keyOk k) (keysOk ks)
+
+-- attr of ESC G: 20h, 30h to 3Fh or 70h to 7Eh
+unfoldable pub isAttribute : ℕ → Bool
+isAttribute a = either (eqb a 0x20) (either (among 0x30 16 a) (among 0x70 15 a))
+
+unfoldable pub attributesOk : List ℕ → Bool
+attributesOk [] = true
+attributesOk (a ∷ l) = both (isAttribute a) (attributesOk l)
+
+-- which feature a code of ESC ` sets: 0 and 1 whether the cursor is shown, 2 to 5 its style, 6 7 A the protected look, 8 and 9 whether the
+-- screen is shown, 3Ch to 40h scrolling. Five for any other code
+unfoldable pub featurePlace : ℕ → ℕ
+featurePlace f =
+    pick (among 0x30 2 f) 0 (pick (among 0x32 4 f) 1 (pick (either (among 0x36 2 f) (eqb f 0x41)) 2
+    (pick (among 0x38 2 f) 3 (pick (among 0x3c 5 f) 4 5))))
+
+-- each feature from its own list; `n` is the place of the list's first
+unfoldable pub featuresOk : ℕ → List ℕ → Bool
+featuresOk n [] = true
+featuresOk n (f ∷ l) = both (eqb (featurePlace f) n) (featuresOk (suc n) l)
+
+-- value of ESC z: 40h to 4Fh or 60h to 6Fh
+unfoldable pub isKey : ℕ → Bool
+isKey v = either (among 0x40 16 v) (among 0x60 16 v)
+
+-- a sequence that some bytes fed from power-on leave under way; k is the key text gathered
+unfoldable pub pendingOk : Pending → Key → Bool
+pendingOk Pending.Idle k = true
+pendingOk Pending.Escape k = true
+pendingOk Pending.Address k = true
+pendingOk (Pending.AddressRow r) k = ltb r 128
+pendingOk Pending.Segment k = true
+pendingOk (Pending.SegmentNumber n) k = ltb n 128
+pendingOk (Pending.SegmentRow n r) k = both (ltb n 128) (ltb r 128)
+pendingOk (Pending.DecimalRow n row) k = both (leb n 2) (ltb row (10 ^ n))
+pendingOk (Pending.DecimalColumn row n column) k = both (ltb row 100) (both (leb n 3) (ltb column (10 ^ n)))
+pendingOk Pending.Split k = true
+pendingOk Pending.SplitRow k = true
+pendingOk Pending.Attribute k = true
+pendingOk Pending.Graphic k = true
+pendingOk Pending.FillAttribute k = true
+pendingOk Pending.FillCode k = true
+pendingOk Pending.Feature k = true
+pendingOk Pending.FieldAttribute k = true
+pendingOk (Pending.FieldNumber n) k = ltb n 128
+pendingOk Pending.KeyValue k = true
+pendingOk (Pending.KeyText v) k = both (isKey v) (keyOk k)
+pendingOk (Pending.KeyOver v) k = isKey v
+
+-- the term "possible"
+unfoldable pub possible : State → Bool
+possible s =
+    both (screenOk (s .core .screen)) (both (keysOk (s .setup .keys)) (both (attributesOk (s .setup .attributes))
+    (both (featuresOk 0 (s .setup .features)) (both (ltb (s .core .bells) 256) (pendingOk (s .core .pending) (s .core .gathered))))))
+
+-- a page of the right length, and a possible state
+unfoldable pub good : List ℕ → State → Bool
+good p s = both (eqb (length p) pageLength) (possible s)

@@ -1,0 +1,318 @@
+// The types of the alert terminal. The rules over them are the definitions in specs/; there is no executable code here.
+
+// The split row counts from 1, and 0 is none. A cursor is a cell of the page, counted from 0, one for each segment.
+pub struct Screen {
+    pub active: u8,
+    pub split: u8,
+    pub cursor0: u16,
+    pub cursor1: u16,
+}
+
+// `mark` is write-protect mode, `local` local edit.
+pub struct Modes {
+    pub protect: bool,
+    pub mark: bool,
+    pub insert: bool,
+    pub autoscroll: bool,
+    pub locked: bool,
+    pub local: bool,
+}
+
+// A function key's bytes: the first `len` of `bytes`.
+pub struct Key {
+    pub len: u8,
+    pub bytes: [u8; 8],
+}
+
+// Features: cursor shown, cursor style, protected look, screen shown, scrolling.
+// Keys: 40h to 4Fh, then 60h to 6Fh.
+pub struct Setup {
+    pub tabs: [bool; 80],
+    pub attributes: [u8; 4],
+    pub features: [u8; 5],
+    pub keys: [Key; 32],
+}
+
+// The sequence under way: which bytes have come since ESC.
+pub enum Pending {
+    Idle,
+    Escape,
+    // ESC =, and its row code
+    Address,
+    AddressRow(u8),
+    // ESC -, its segment code, and its row code
+    Segment,
+    SegmentNumber(u8),
+    SegmentRow(u8, u8),
+    // ESC a: digits so far and the number that they make; after R also the row
+    DecimalRow(u8, u8),
+    DecimalColumn(u8, u8, u16),
+    // ESC x, ESC x 1
+    Split,
+    SplitRow,
+    // ESC G, ESC H, ESC !, ESC ., ESC `
+    Attribute,
+    Graphic,
+    FillAttribute,
+    FillCode,
+    Feature,
+    // ESC A, and its field
+    FieldAttribute,
+    FieldNumber(u8),
+    // ESC z; its key while the text is gathered; its key once there were too many bytes
+    KeyValue,
+    KeyText(u8),
+    KeyOver(u8),
+}
+
+// What the bytes of the host change most; `gathered` holds the key text under way.
+pub struct Core {
+    pub screen: Screen,
+    pub modes: Modes,
+    pub bells: u8,
+    pub pending: Pending,
+    pub gathered: Key,
+}
+
+pub struct State {
+    pub core: Core,
+    pub setup: Setup,
+}
+
+// What a call answers: 0 to 8 in this order.
+pub enum Answer {
+    Done,
+    HighByte,
+    Unknown,
+    BadArgument,
+    Barred,
+    KeysFull,
+    NoRoom,
+    BadCall,
+    Locked,
+}
+
+// What a search looks for. FieldStart holds the first cell of the segment.
+pub enum Mark {
+    Open,
+    Guarded,
+    FieldStart(usize),
+}
+
+// A cell's contents: its kind, and its code.
+pub enum Contents {
+    Text(u8),
+    Attribute(u8),
+    Graphic(u8),
+}
+
+// The commands, by what they touch.
+
+pub enum Move {
+    Back,
+    Right,
+    Return,
+    Home,
+    Up,
+    Reverse,
+    Down,
+    NextLine,
+    Tab,
+    BackTab,
+    // codes from 20h
+    Address(u8, u8),
+    // numbers from 1
+    Decimal(u8, u16),
+}
+
+pub enum Window {
+    Unsplit,
+    Split(u8),
+    Other,
+    First,
+    Second,
+    // segment, row and column codes
+    Place(u8, u8, u8),
+}
+
+pub enum Edit {
+    InsertCell,
+    DeleteCell,
+    InsertRow,
+    DeleteRow,
+}
+
+// Open cells: from the cursor to the end of the row, or of the segment; the whole segment; the cursor's column.
+pub enum Clear {
+    Row(Contents),
+    Rest(Contents),
+    Segment(Contents),
+    Column,
+}
+
+pub enum Mode {
+    WriteProtect,
+    Insert,
+    Autoscroll,
+    Lock,
+    LocalEdit,
+}
+
+pub enum Setting {
+    Tab(bool),
+    ClearTabs,
+    // field, attribute
+    Attribute(u8, u8),
+    Feature(u8),
+}
+
+pub enum Send {
+    Acknowledge,
+    Identity,
+    Cursor,
+    SegmentCursor,
+    DecimalCursor,
+    Cell,
+    OpenRow,
+    OpenSegment,
+}
+
+// The six commands that demand 3 leaves out.
+pub enum Excluded {
+    ProtectOff,
+    ClearNulls,
+    ClearSpaces,
+    ClearProtected,
+    SendRow,
+    SendSegment,
+}
+
+pub enum Command {
+    Nothing,
+    Go(Move),
+    Window(Window),
+    Store(Contents),
+    Edit(Edit),
+    Clear(Clear),
+    Turn(Mode, bool),
+    ProtectOn,
+    Bell,
+    Set(Setting),
+    Send(Send),
+    Excluded(Excluded),
+}
+
+// What a byte comes to after the sequence under way: more is awaited, a byte of a key's text, the key's text is complete (the key counted
+// from 0), a refusal, or a command.
+pub enum Decoded {
+    Wait(Pending),
+    Gather(u8),
+    Program(u8),
+    Reject(Answer),
+    Do(Command),
+}
+
+// What is written to the page. Cells and rows count from 0; `to` and `bottom` are not included.
+pub enum Write {
+    Nothing,
+    // the open cells, or all cells
+    Fill {
+        from: u16,
+        to: u16,
+        value: u16,
+    },
+    FillAll {
+        from: u16,
+        to: u16,
+        value: u16,
+    },
+    Column {
+        top: u16,
+        bottom: u16,
+        column: u16,
+        value: u16,
+    },
+    // the edit run at a cell moves by one cell
+    Edit {
+        right: bool,
+        at: u16,
+        value: u16,
+    },
+    // rows move by one row
+    Rows {
+        down: bool,
+        top: u16,
+        bottom: u16,
+    },
+}
+
+// What changes in the set-up. Key takes the text gathered.
+pub enum SetupChange {
+    Nothing,
+    Tab(u16, bool),
+    ClearTabs,
+    Attribute(u8, u8),
+    Feature(u8, u8),
+    Key(u8),
+}
+
+// What is replied.
+pub enum Reply {
+    Nothing,
+    Acknowledge,
+    Identity,
+    Address(u8, u8),
+    SegmentAddress(u8, u8, u8),
+    Decimal(u8, u8),
+    Cell(u16),
+    // cells `from` up to `to`; guarded cells too, or left out
+    Text { all: bool, from: u16, to: u16 },
+}
+
+// Where the active cursor goes at the end, over the page as it then is.
+pub enum Land {
+    Stay,
+    Settle(u16),
+}
+
+pub struct Plan {
+    pub answer: Answer,
+    pub first: Write,
+    pub second: Write,
+    pub change: SetupChange,
+    pub reply: Reply,
+    pub next: Core,
+    pub land: Land,
+}
+
+// What one byte gives: the set-up is not handed through, only its change.
+pub struct CoreResult {
+    pub answer: Answer,
+    pub replied: usize,
+    pub core: Core,
+    pub change: SetupChange,
+}
+
+pub struct PowerOn {
+    pub answer: Answer,
+    pub state: State,
+}
+
+pub struct StepResult {
+    pub answer: Answer,
+    pub replied: usize,
+    pub state: State,
+}
+
+pub struct RunResult {
+    pub answer: Answer,
+    pub taken: usize,
+    pub replied: usize,
+    pub refused: usize,
+    pub state: State,
+}
+
+pub struct PressResult {
+    pub answer: Answer,
+    pub replied: usize,
+}
