@@ -7,6 +7,7 @@ pub mod Possible
 pub mod Decode
 pub mod Plan
 pub mod Carry
+pub mod Room
 pub mod Step
 pub mod Calls
 pub mod Noninterference
