@@ -5,3 +5,12 @@ pub mod Related
 pub mod Unrevealing
 pub mod ExcludedBytes
 pub mod Noninterference
+pub mod Tests
+pub mod Screens
+pub mod Places
+pub mod Good
+pub mod Lengths
+pub mod Keys
+pub mod Decoding
+pub mod Kept
+pub mod Bound

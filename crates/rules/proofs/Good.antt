@@ -1,0 +1,301 @@
+-- Every plan stays inside the page: `good-plan`, what carrying it out needs.
+-- And it keeps a possible state possible: `plan-kept`, which says also that the sequence under way is over, that the set-up's change fits,
+-- and that no plan answers 6.
+-- Assumes nothing.
+use mathlib.Core.Path.{_≡_, refl}
+use mathlib.Core.Bool.{Bool, true, false}
+use mathlib.Core.List.{List}
+use Prim.Native.Nat.{ℕ, _+_, _-_, _≤_, _<_}
+use native.Mathlib.Omega.{arith}
+use lib.Dec.{ltb, eqb}
+use lib.ListN.{length, getD}
+use borrow.Author.Tests.{ltb-true, ltb-false, eqb-false, lt-ltb, eq-eqb}
+use Rattle.rules.specs.declared.Screen.{Screen}
+use Rattle.rules.specs.declared.Modes.{Modes}
+use Rattle.rules.specs.declared.Core.{Core}
+use Rattle.rules.specs.declared.Key.{Key}
+use Rattle.rules.specs.declared.Plan.{Plan}
+use Rattle.rules.specs.declared.Answer.{Answer}
+use Rattle.rules.specs.declared.Answer.the-variants as Answer
+use Rattle.rules.specs.declared.Pending.the-variants as Pending
+use Rattle.rules.specs.declared.Contents.{Contents}
+use Rattle.rules.specs.declared.Move.{Move}
+use Rattle.rules.specs.declared.Move.the-variants as Move
+use Rattle.rules.specs.declared.Window.{Window}
+use Rattle.rules.specs.declared.Window.the-variants as Window
+use Rattle.rules.specs.declared.Edit.{Edit}
+use Rattle.rules.specs.declared.Edit.the-variants as Edit
+use Rattle.rules.specs.declared.Clear.{Clear}
+use Rattle.rules.specs.declared.Clear.the-variants as Clear
+use Rattle.rules.specs.declared.Setting.{Setting}
+use Rattle.rules.specs.declared.Setting.the-variants as Setting
+use Rattle.rules.specs.declared.Send.{Send}
+use Rattle.rules.specs.declared.Send.the-variants as Send
+use Rattle.rules.specs.declared.Excluded.{Excluded}
+use Rattle.rules.specs.declared.Excluded.the-variants as Excluded
+use Rattle.rules.specs.declared.Command.{Command}
+use Rattle.rules.specs.declared.Command.the-variants as Command
+use Rattle.rules.specs.declared.Write.{Write}
+use Rattle.rules.specs.declared.SetupChange.{SetupChange}
+use Rattle.rules.specs.declared.SetupChange.the-variants as SetupChange
+use Rattle.rules.specs.declared.Reply.{Reply}
+use Rattle.rules.specs.declared.Land.{Land}
+use Rattle.rules.specs.Cell.{pick, both, among}
+use Rattle.rules.specs.Row.{width, pageLength, columnOf, rowStart, rowEnd}
+use Rattle.rules.specs.State.{number, segmentTop, segmentBottom, segmentStart, segmentEnd, cursorOf, activated, withScreen, withModes, withProtect, withMode, idle, Inside}
+use Rattle.rules.specs.Possible.{screenOk, keyOk, isAttribute, featurePlace}
+use Rattle.rules.specs.Plan.{refusing, plain, writingTwo, settling, replying, changing, unlessGuarded, scrolls, atTop, reversePlan, downPlan, tabCell, backTabCell, addressPlan, movePlan, unsplitScreen, splitScreen, activate, isSegment, windowPlan, storing, advancing, storePlan, rowEditPlan, editPlan, clearPlan, settingPlan, sendPlan, clearAll, excludedPlan, planRule}
+use Rattle.rules.specs.Good.{GoodWrite, GoodReply, GoodLand, GoodPlan}
+use Rattle.rules.proofs.Tests.{pick-if, both-parts, both-true, among-parts}
+use Rattle.rules.proofs.Places.{In, segment-there, in-next, in-up, in-next-tab, in-previous-tab, in-back, in-next-field, in-previous-field}
+use Rattle.rules.proofs.Screens.{screen-inside, activated-kept, unsplit-screen, split-screen}
+
+-- a change that fits the set-up: its place is there, and its value from its list. k is the key text gathered
+unfoldable pub changeOk : Key → SetupChange → Bool
+changeOk k SetupChange.Nothing = true
+changeOk k (SetupChange.Tab c b) = ltb c width
+changeOk k SetupChange.ClearTabs = true
+changeOk k (SetupChange.Attribute n a) = both (ltb n 4) (isAttribute a)
+changeOk k (SetupChange.Feature n f) = both (ltb n 5) (eqb (featurePlace f) n)
+changeOk k (SetupChange.Key n) = both (ltb n 32) (keyOk k)
+
+-- a setting, and a command, that makes such a change
+unfoldable pub settingOk : Setting → Bool
+settingOk (Setting.Tab b) = true
+settingOk Setting.ClearTabs = true
+settingOk (Setting.Attribute n a) = both (ltb n 4) (isAttribute a)
+settingOk (Setting.Feature f) = ltb (featurePlace f) 5
+
+unfoldable pub commandOk : Command → Bool
+commandOk Command.Nothing = true
+commandOk (Command.Go m) = true
+commandOk (Command.Window x) = true
+commandOk (Command.Store k) = true
+commandOk (Command.Edit x) = true
+commandOk (Command.Clear x) = true
+commandOk (Command.Turn m b) = true
+commandOk Command.ProtectOn = true
+commandOk Command.Bell = true
+commandOk (Command.Set x) = settingOk x
+commandOk (Command.Send x) = true
+commandOk (Command.Excluded x) = true
+
+-- the next core of a plan
+record Next (c n : Core) : Type 0 where
+  screen : screenOk (n .screen) ≡ true
+  idle : n .pending ≡ Pending.Idle
+  bells : c .bells < 256 → n .bells < 256
+
+-- what holds of every plan; t says whether its command is good
+pub record PlanKept (t : Bool) (c : Core) (x : Plan) : Type 0 where
+  pub good : GoodPlan x
+  pub idle : x .next .pending ≡ Pending.Idle
+  pub bells : c .bells < 256 → x .next .bells < 256
+  pub change : t ≡ true → (k : Key) → changeOk k (x .change) ≡ true
+  pub answer : eqb (number (x .answer)) 6 ≡ false
+
+-- ---- the forms of plans
+
+module _ {t : Bool} {c n : Core} (h : Next c n) where
+  kept-refusing : (a : Answer) → eqb (number a) 6 ≡ false → PlanKept t c (refusing n a)
+  unfolding changeOk
+  kept-refusing a e =
+      record { good = record { one = tt; two = tt; text = tt; screen = h .screen; place = tt }; idle = h .idle; bells = h .bells; change = λ u k. refl; answer = e }
+
+  kept-writing : {w v : Write} {l : Land} → GoodWrite w → GoodWrite v → GoodLand (n .screen) l → PlanKept t c (writingTwo n w v l)
+  unfolding changeOk
+  kept-writing a b d =
+      record { good = record { one = a; two = b; text = tt; screen = h .screen; place = d }; idle = h .idle; bells = h .bells; change = λ u k. refl; answer = refl }
+
+  kept-replying : {r : Reply} → GoodReply r → PlanKept t c (replying n r)
+  unfolding changeOk
+  kept-replying a =
+      record { good = record { one = tt; two = tt; text = a; screen = h .screen; place = tt }; idle = h .idle; bells = h .bells; change = λ u k. refl; answer = refl }
+
+  kept-changing : {x : SetupChange} → (t ≡ true → (k : Key) → changeOk k x ≡ true) → PlanKept t c (changing n x)
+  kept-changing f =
+      record { good = record { one = tt; two = tt; text = tt; screen = h .screen; place = tt }; idle = h .idle; bells = h .bells; change = f; answer = refl }
+
+-- ---- the commands
+
+module _ (c : Core) (ok : screenOk (c .screen) ≡ true) (i : Inside (c .screen)) where
+  here : Next c (idle c)
+  here = record { screen = ok; idle = refl; bells = λ h. h }
+
+  on-screen : (x : Screen) → screenOk x ≡ true → Next c (withScreen (idle c) x)
+  on-screen x h = record { screen = h; idle = refl; bells = λ h. h }
+
+  in-modes : (m : Modes) → Next c (withModes (idle c) m)
+  in-modes m = record { screen = ok; idle = refl; bells = λ h. h }
+
+  module _ {t : Bool} where
+    kept-pick : (s : Bool) {x y : Plan} → (s ≡ true → PlanKept t c x) → (s ≡ false → PlanKept t c y) → PlanKept t c (pick s x y)
+    kept-pick s f g = pick-if (PlanKept t c) s f g
+
+    kept-done : PlanKept t c (plain (idle c))
+    kept-done = kept-refusing here Answer.Done refl
+
+    kept-bad : PlanKept t c (refusing (idle c) Answer.BadArgument)
+    kept-bad = kept-refusing here Answer.BadArgument refl
+
+    kept-barred : PlanKept t c (refusing (idle c) Answer.Barred)
+    kept-barred = kept-refusing here Answer.Barred refl
+
+    kept-unless : (g : List Bool) {x : Plan} → PlanKept t c x → PlanKept t c (unlessGuarded g c x)
+    unfolding unlessGuarded
+    kept-unless g h = kept-pick (getD g (cursorOf (c .screen)) false) (λ e. kept-barred) (λ e. h)
+
+    kept-settling : {n : ℕ} → In (c .screen) n → PlanKept t c (settling (idle c) n)
+    kept-settling h = kept-writing here tt tt h
+
+    kept-reverse : PlanKept t c (reversePlan c)
+    unfolding reversePlan atTop
+    kept-reverse =
+        kept-pick (ltb (cursorOf (c .screen)) (segmentStart (c .screen) + width))
+        (λ e. kept-pick (c .modes .protect) (λ u. kept-settling (omega arith)) (λ u. kept-writing here (omega arith) tt (omega arith)))
+        (λ e. kept-settling (omega (arith, ltb-false (cursorOf (c .screen)) (segmentStart (c .screen) + width) e)))
+
+    kept-down : (n : ℕ) → In (c .screen) n → PlanKept t c (downPlan c n)
+    unfolding downPlan
+    kept-down n h =
+        kept-pick (ltb (n + width) (segmentEnd (c .screen))) (λ e. kept-settling (omega (arith, ltb-true (n + width) (segmentEnd (c .screen)) e)))
+        (λ e. kept-pick (scrolls (c .modes)) (λ u. kept-writing here (omega arith) tt h) (λ u. kept-settling (omega arith)))
+
+    kept-address : (x : Screen) (base row column : ℕ) → screenOk x ≡ true → PlanKept t c (addressPlan c x base row column)
+    unfolding addressPlan
+    kept-address x base row column h =
+        kept-pick (both (among base (segmentBottom x - segmentTop x) row) (among base width column))
+        (λ e.
+        let r = both-parts _ _ e in
+        let a = among-parts base _ row (r .0) in
+        let b = among-parts base _ column (r .1) in
+        kept-writing (on-screen x h) tt tt (omega (arith, screen-inside x h)))
+        (λ e. kept-bad)
+
+    kept-move : (g tabs : List Bool) → length g ≡ pageLength → (m : Move) → PlanKept t c (movePlan g tabs c m)
+    unfolding movePlan tabCell backTabCell
+    kept-move g tabs n Move.Back = kept-settling (in-back (c .screen) i g n)
+    kept-move g tabs n Move.Right = kept-settling (in-next (c .screen) i)
+    kept-move g tabs n Move.Return = kept-settling (omega arith)
+    kept-move g tabs n Move.Home = kept-settling (omega arith)
+    kept-move g tabs n Move.Up = kept-settling (in-up (c .screen) i)
+    kept-move g tabs n Move.Reverse = kept-reverse
+    kept-move g tabs n Move.Down = kept-down (cursorOf (c .screen)) (omega arith)
+    kept-move g tabs n Move.NextLine = kept-down (rowStart width (cursorOf (c .screen))) (omega arith)
+    kept-move g tabs n Move.Tab =
+        kept-settling (pick-if (In (c .screen)) (c .modes .protect) (λ e. in-next-field (c .screen) i g n) (λ e. in-next-tab (c .screen) i tabs))
+    kept-move g tabs n Move.BackTab =
+        kept-settling (pick-if (In (c .screen)) (c .modes .protect) (λ e. in-previous-field (c .screen) i g n) (λ e. in-previous-tab (c .screen) i tabs))
+    kept-move g tabs n (Move.Address r k) = kept-address (c .screen) 0x20 r k ok
+    kept-move g tabs n (Move.Decimal r k) = kept-address (c .screen) 1 r k ok
+
+    kept-activate : (n : ℕ) → n ≤ 1 → n ≤ c .screen .split → PlanKept t c (activate c n)
+    unfolding activate
+    kept-activate n h k =
+        let x = activated (c .screen) n in
+        let s = activated-kept (c .screen) n ok h k in
+        kept-writing (on-screen x s) tt tt (omega (arith, screen-inside x s))
+
+    kept-window : (x : Window) → PlanKept t c (windowPlan c x)
+    unfolding windowPlan cursorOf
+    kept-window Window.Unsplit = kept-writing (on-screen unsplitScreen unsplit-screen) tt tt (omega (arith, screen-inside unsplitScreen unsplit-screen))
+    kept-window (Window.Split r) =
+        kept-pick (among 0x21 23 r)
+        (λ e.
+        let a = among-parts 0x21 23 r e in
+        let s = split-screen (r - 0x1f) (omega arith) (omega arith) in
+        kept-writing (on-screen (splitScreen (r - 0x1f)) s) tt tt (omega (arith, screen-inside (splitScreen (r - 0x1f)) s)))
+        (λ e. kept-bad)
+    kept-window Window.Other =
+        kept-pick (eqb (c .screen .split) 0) (λ e. kept-done)
+        (λ e. kept-activate (1 - c .screen .active) (omega arith) (omega (arith, eqb-false (c .screen .split) 0 e)))
+    kept-window Window.First = kept-activate 0 (omega arith) (omega arith)
+    kept-window Window.Second =
+        kept-pick (eqb (c .screen .split) 0) (λ e. kept-bad) (λ e. kept-activate 1 (omega arith) (omega (arith, eqb-false (c .screen .split) 0 e)))
+    kept-window (Window.Place n r k) =
+        kept-pick (isSegment (c .screen) n)
+        (λ e.
+        let s = segment-there (c .screen) n e in
+        kept-address (activated (c .screen) (n - 0x30)) 0x20 r k (activated-kept (c .screen) (n - 0x30) ok (s .0) (s .1)))
+        (λ e. kept-bad)
+
+    kept-advancing : (w : Write) → GoodWrite w → PlanKept t c (advancing c w)
+    unfolding advancing
+    kept-advancing w h =
+        kept-pick (ltb (cursorOf (c .screen) + 1) (segmentEnd (c .screen)))
+        (λ e. kept-writing here h tt (omega (arith, ltb-true (cursorOf (c .screen) + 1) (segmentEnd (c .screen)) e)))
+        (λ e. kept-pick (scrolls (c .modes)) (λ u. kept-writing here h (omega arith) (omega arith)) (λ u. kept-writing here h tt (omega arith)))
+
+    kept-store : (g : List Bool) (k : Contents) → PlanKept t c (storePlan g c k)
+    unfolding storePlan storing
+    kept-store g k = kept-unless g (kept-advancing _ (pick-if GoodWrite (c .modes .insert) (λ e. omega arith) (λ e. omega arith)))
+
+    kept-row-edit : (down : Bool) → PlanKept t c (rowEditPlan c down)
+    unfolding rowEditPlan
+    kept-row-edit down = kept-pick (c .modes .protect) (λ e. kept-barred) (λ e. kept-writing here (omega arith) tt (omega arith))
+
+    kept-edit : (g : List Bool) (x : Edit) → PlanKept t c (editPlan g c x)
+    unfolding editPlan
+    kept-edit g Edit.InsertCell = kept-unless g (kept-writing here (omega arith) tt tt)
+    kept-edit g Edit.DeleteCell = kept-unless g (kept-writing here (omega arith) tt tt)
+    kept-edit g Edit.InsertRow = kept-row-edit true
+    kept-edit g Edit.DeleteRow = kept-row-edit false
+
+    kept-clear : (x : Clear) → PlanKept t c (clearPlan c x)
+    unfolding clearPlan rowEnd
+    kept-clear (Clear.Row k) = kept-writing here (omega arith) tt tt
+    kept-clear (Clear.Rest k) = kept-writing here (omega arith) tt tt
+    kept-clear (Clear.Segment k) = kept-writing here (omega arith) tt (omega arith)
+    kept-clear Clear.Column = kept-writing here (omega arith) tt (omega arith)
+
+    kept-send : (g : List Bool) (x : Send) → PlanKept t c (sendPlan g c x)
+    unfolding sendPlan
+    kept-send g Send.Acknowledge = kept-replying here tt
+    kept-send g Send.Identity = kept-replying here tt
+    kept-send g Send.Cursor = kept-replying here tt
+    kept-send g Send.SegmentCursor = kept-replying here tt
+    kept-send g Send.DecimalCursor = kept-replying here tt
+    kept-send g Send.Cell = kept-unless g (kept-replying here (omega arith))
+    kept-send g Send.OpenRow = kept-replying here (omega arith)
+    kept-send g Send.OpenSegment = kept-replying here (omega arith)
+
+    kept-clear-all : (m : Modes) (v : ℕ) → PlanKept t c (clearAll (withModes (idle c) m) v)
+    kept-clear-all m v = kept-writing (in-modes m) (omega arith) tt (omega arith)
+
+    kept-excluded : (x : Excluded) → PlanKept t c (excludedPlan c x)
+    unfolding excludedPlan
+    kept-excluded Excluded.ProtectOff = kept-refusing (in-modes (withProtect (c .modes) false)) Answer.Done refl
+    kept-excluded Excluded.ClearNulls = kept-clear-all (c .modes) 0
+    kept-excluded Excluded.ClearSpaces = kept-clear-all (c .modes) 32
+    kept-excluded Excluded.ClearProtected = kept-clear-all (withProtect (c .modes) false) 160
+    kept-excluded Excluded.SendRow = kept-replying here (omega arith)
+    kept-excluded Excluded.SendSegment = kept-replying here (omega arith)
+
+  kept-setting : (x : Setting) → PlanKept (settingOk x) c (settingPlan c x)
+  unfolding settingPlan settingOk changeOk
+  kept-setting (Setting.Tab b) = kept-changing here (λ e k. lt-ltb (columnOf width (cursorOf (c .screen))) width (omega arith))
+  kept-setting Setting.ClearTabs = kept-changing here (λ e k. refl)
+  kept-setting (Setting.Attribute n a) = kept-changing here (λ e k. e)
+  kept-setting (Setting.Feature f) = kept-changing here (λ e k. both-true e (eq-eqb (featurePlace f) (featurePlace f) refl))
+
+  kept-command : (g : List Bool) → length g ≡ pageLength → (tabs : List Bool) (d : Command) → PlanKept (commandOk d) c (planRule g tabs c d)
+  unfolding planRule commandOk
+  kept-command g n tabs Command.Nothing = kept-done
+  kept-command g n tabs (Command.Go m) = kept-move g tabs n m
+  kept-command g n tabs (Command.Window x) = kept-window x
+  kept-command g n tabs (Command.Store k) = kept-store g k
+  kept-command g n tabs (Command.Edit x) = kept-edit g x
+  kept-command g n tabs (Command.Clear x) = kept-clear x
+  kept-command g n tabs (Command.Turn m b) = kept-refusing (in-modes (withMode (c .modes) m b)) Answer.Done refl
+  kept-command g n tabs Command.ProtectOn = kept-writing (in-modes (withProtect (c .modes) true)) tt tt (omega arith)
+  kept-command g n tabs Command.Bell = kept-refusing record { screen = ok; idle = refl; bells = λ h. omega arith } Answer.Done refl
+  kept-command g n tabs (Command.Set x) = kept-setting x
+  kept-command g n tabs (Command.Send x) = kept-send g x
+  kept-command g n tabs (Command.Excluded x) = kept-excluded x
+
+module _ (c : Core) (ok : screenOk (c .screen) ≡ true) (g : List Bool) (n : length g ≡ pageLength) (tabs : List Bool) (d : Command) where
+  pub plan-kept : PlanKept (commandOk d) c (planRule g tabs c d)
+  plan-kept = kept-command c ok (screen-inside (c .screen) ok) g n tabs d
+
+  pub good-plan : GoodPlan (planRule g tabs c d)
+  good-plan = plan-kept .good

@@ -1,0 +1,269 @@
+-- A possible state stays possible under every call, and no call changes the page's length: what the calls' one check needs.
+--     planned-kept, carried-kept, inner-kept, inner-setup     the inner step on a good page and core: what a loop over it wants
+--     step-keeps, run-keeps, call-keeps, play-keeps           of any page and state, bad ones too: the length stays, and possible stays possible
+--     call-length, call-possible                              these two of a call
+--     step-good, run-good, call-good, play-good               a good page and state stay good
+--     powerOn-possible, powerOn-good, powerOn-length
+-- Assumes nothing.
+use mathlib.Core.Path.{_≡_, refl, sym, _∙_}
+use mathlib.Core.Bool.{Bool, true}
+use mathlib.Core.List.{List, [], _∷_}
+use Prim.Native.Nat.{ℕ, zero, suc, _+_, _-_, _<_}
+use native.Mathlib.Omega.{arith}
+use lib.Dec.{ltb, leb, eqb}
+use lib.ListN.{length, set}
+use borrow.Author.Tests.{ltb-true, lt-ltb, eqb-true, eq-eqb}
+use Rattle.rules.specs.declared.Core.{Core}
+use Rattle.rules.specs.declared.Key.{Key}
+use Rattle.rules.specs.declared.Setup.{Setup}
+use Rattle.rules.specs.declared.State.{State}
+use Rattle.rules.specs.declared.Plan.{Plan}
+use Rattle.rules.specs.declared.Command.{Command}
+use Rattle.rules.specs.declared.Decoded.{Decoded}
+use Rattle.rules.specs.declared.Decoded.the-variants as Decoded
+use Rattle.rules.specs.declared.SetupChange.{SetupChange}
+use Rattle.rules.specs.declared.SetupChange.the-variants as SetupChange
+use Rattle.rules.specs.declared.Land.{Land}
+use Rattle.rules.specs.declared.Land.the-variants as Land
+use Rattle.rules.specs.Row.{pageLength}
+use Rattle.rules.specs.Search.{guardedAt}
+use Rattle.rules.specs.State.{idle, changed, keyOf, keyText}
+use Rattle.rules.specs.Possible.{powerOn, blank, unsplitOk, screenOk, allBelow, keyOk, keysOk, isAttribute, attributesOk, featurePlace, featuresOk, pendingOk, possible, good}
+use Rattle.rules.specs.Decode.{decodeRule}
+use Rattle.rules.specs.Plan.{planRule}
+use Rattle.rules.specs.Good.{GoodLand}
+use Rattle.rules.specs.Carry.{replied, landed, Effect, pageAfter, done, carried}
+use Rattle.rules.specs.Step.{overfull, programmed, obeyed, innerRule, Outcome, stepRule}
+use Rattle.rules.specs.Calls.{powerOnRule, Ran, joined, repeated, runRule, Call, Step, Run, Press, ofStep, ofRun, ofPress, callRule, after, play}
+use Rattle.rules.proofs.Tests.{pick-if, both-parts, both-true}
+use Rattle.rules.proofs.Marks.{length-guards}
+use Rattle.rules.proofs.Places.{in-settled}
+use Rattle.rules.proofs.Screens.{screen-inside, cursor-kept}
+use Rattle.rules.proofs.Good.{changeOk, commandOk, PlanKept, plan-kept}
+use Rattle.rules.proofs.Lengths.{length-after}
+use Rattle.rules.proofs.Keys.{key-copied, keys-set}
+use Rattle.rules.proofs.Decoding.{decodedOk, decoded-ok}
+
+-- ---- a possible state, by its parts
+
+pub record PossibleCore (c : Core) : Type 0 where
+  pub screen : screenOk (c .screen) ≡ true
+  pub bells : c .bells < 256
+  pub pending : pendingOk (c .pending) (c .gathered) ≡ true
+
+pub record PossibleSetup (u : Setup) : Type 0 where
+  pub keys : keysOk (u .keys) ≡ true
+  pub attributes : attributesOk (u .attributes) ≡ true
+  pub features : featuresOk 0 (u .features) ≡ true
+
+pub record PossibleState (s : State) : Type 0 where
+  pub core : PossibleCore (s .core)
+  pub setup : PossibleSetup (s .setup)
+
+pub possible-parts : (s : State) → possible s ≡ true → PossibleState s
+unfolding possible
+possible-parts s h =
+    let r1 = both-parts (screenOk (s .core .screen)) _ h in
+    let r2 = both-parts (keysOk (s .setup .keys)) _ (r1 .1) in
+    let r3 = both-parts (attributesOk (s .setup .attributes)) _ (r2 .1) in
+    let r4 = both-parts (featuresOk 0 (s .setup .features)) _ (r3 .1) in
+    let r5 = both-parts (ltb (s .core .bells) 256) _ (r4 .1) in
+    record {
+      core = record { screen = r1 .0; bells = ltb-true (s .core .bells) 256 (r5 .0); pending = r5 .1 };
+      setup = record { keys = r2 .0; attributes = r3 .0; features = r4 .0 };
+    }
+
+pub possible-whole : (s : State) → PossibleCore (s .core) → PossibleSetup (s .setup) → possible s ≡ true
+unfolding possible
+possible-whole s c u =
+    both-true (c .screen) (both-true (u .keys) (both-true (u .attributes) (both-true (u .features) (both-true (lt-ltb (s .core .bells) 256 (c .bells)) (c .pending)))))
+
+-- ---- the set-up after a change that fits it
+
+attributes-set : (l : List ℕ) (n a : ℕ) → attributesOk l ≡ true → isAttribute a ≡ true → attributesOk (set l n a) ≡ true
+unfolding attributesOk
+attributes-set [] n a e h = refl
+attributes-set (x ∷ l) zero a e h = both-true h (both-parts (isAttribute x) (attributesOk l) e .1)
+attributes-set (x ∷ l) (suc n) a e h =
+    let r = both-parts (isAttribute x) (attributesOk l) e in
+    both-true (r .0) (attributes-set l n a (r .1) h)
+
+features-set : (first : ℕ) (l : List ℕ) (n f : ℕ) → featuresOk first l ≡ true → featurePlace f ≡ first + n → featuresOk first (set l n f) ≡ true
+unfolding featuresOk
+features-set first [] n f e h = refl
+features-set first (x ∷ l) zero f e h =
+    both-true (eq-eqb (featurePlace f) first (omega arith)) (both-parts (eqb (featurePlace x) first) (featuresOk (suc first) l) e .1)
+features-set first (x ∷ l) (suc n) f e h =
+    let r = both-parts (eqb (featurePlace x) first) (featuresOk (suc first) l) e in
+    both-true (r .0) (features-set (suc first) l n f (r .1) (omega arith))
+
+pub changed-kept : (x : SetupChange) (k : Key) (u : Setup) → changeOk k x ≡ true → PossibleSetup u → PossibleSetup (changed x k u)
+unfolding changed changeOk
+changed-kept SetupChange.Nothing k u e h = h
+changed-kept (SetupChange.Tab c b) k u e h = record { keys = h .keys; attributes = h .attributes; features = h .features }
+changed-kept SetupChange.ClearTabs k u e h = record { keys = h .keys; attributes = h .attributes; features = h .features }
+changed-kept (SetupChange.Attribute n a) k u e h =
+    record { keys = h .keys; attributes = attributes-set (u .attributes) n a (h .attributes) (both-parts (ltb n 4) (isAttribute a) e .1); features = h .features }
+changed-kept (SetupChange.Feature n f) k u e h =
+    record {
+      keys = h .keys;
+      attributes = h .attributes;
+      features = features-set 0 (u .features) n f (h .features) (omega (arith, eqb-true (featurePlace f) n (both-parts (ltb n 5) (eqb (featurePlace f) n) e .1)));
+    }
+changed-kept (SetupChange.Key n) k u e h =
+    record { keys = keys-set (u .keys) n (keyOf (keyText k)) (h .keys) (key-copied k (both-parts (ltb n 32) (keyOk k) e .1)); attributes = h .attributes; features = h .features }
+
+-- ---- the inner step
+
+landed-kept : (g : List Bool) → length g ≡ pageLength → (l : Land) (c : Core) → PossibleCore c → GoodLand (c .screen) l → PossibleCore (landed g l c)
+unfolding landed
+landed-kept g n Land.Stay c h k = h
+landed-kept g n (Land.Settle i) c h k =
+    let r = in-settled (c .screen) (screen-inside (c .screen) (h .screen)) g n i k in
+    record { screen = cursor-kept (c .screen) _ (h .screen) (r .0) (r .1); bells = h .bells; pending = h .pending }
+
+-- what holds of the effect of a byte on a good page and core; k is the key text that was gathered
+pub record EffectKept (k : Key) (e : Effect) : Type 0 where
+  pub size : length (e .page) ≡ pageLength
+  pub core : PossibleCore (e .core)
+  pub change : changeOk k (e .change) ≡ true
+
+idle-kept : (c : Core) → PossibleCore c → PossibleCore (idle c)
+unfolding pendingOk
+idle-kept c h = record { screen = h .screen; bells = h .bells; pending = refl }
+
+module _ (p : List ℕ) (c : Core) (n : length p ≡ pageLength) (h : PossibleCore c) where
+  -- the plan of a command, from the page's own guarded cells
+  pub planned-kept : (tabs : List Bool) (d : Command) → PlanKept (commandOk d) c (planRule (guardedAt (c .modes .protect) p) tabs c d)
+  planned-kept tabs d = plan-kept c (h .screen) (guardedAt (c .modes .protect) p) (length-guards (c .modes .protect) p ∙ n) tabs d
+
+  next-kept : {t : Bool} {x : Plan} → PlanKept t c x → PossibleCore (x .next)
+  unfolding pendingOk
+  next-kept {t} {x} k = record { screen = k .good .screen; bells = k .bells (h .bells); pending = rw (k .idle) }
+
+  pub carried-kept : {t : Bool} (x : Plan) (room : ℕ) → PlanKept t c x → t ≡ true → EffectKept (c .gathered) (carried p c x room)
+  unfolding carried done changeOk
+  carried-kept x room k good =
+      pick-if (EffectKept (c .gathered)) (leb (length (replied (c .modes .protect) p (x .reply))) room)
+      (λ e. let on = c .modes .protect in let q = pageAfter on x p in
+      record {
+        size = length-after on x p ∙ n;
+        core = landed-kept (guardedAt (x .next .modes .protect) q) (length-guards (x .next .modes .protect) q ∙ (length-after on x p ∙ n)) (x .land) (x .next) (next-kept k) (k .good .place);
+        change = k .change good (c .gathered);
+      })
+      (λ e. record { size = n; core = h; change = refl })
+
+  obeyed-kept : (u : Setup) (d : Decoded) (room : ℕ) → decodedOk (c .pending) (c .gathered) d ≡ true → EffectKept (c .gathered) (obeyed p c u d room)
+  unfolding obeyed decodedOk programmed changeOk
+  obeyed-kept u (Decoded.Wait q) room e = record { size = n; core = record { screen = h .screen; bells = h .bells; pending = e }; change = refl }
+  obeyed-kept u (Decoded.Gather b) room e = record { size = n; core = record { screen = h .screen; bells = h .bells; pending = e }; change = refl }
+  obeyed-kept u (Decoded.Program i) room e =
+      pick-if (EffectKept (c .gathered)) (overfull (u .keys) i (c .gathered)) (λ z. record { size = n; core = idle-kept c h; change = refl })
+      (λ z. record { size = n; core = idle-kept c h; change = e })
+  obeyed-kept u (Decoded.Reject a) room e = record { size = n; core = idle-kept c h; change = refl }
+  obeyed-kept u (Decoded.Do d) room e = carried-kept _ room (planned-kept (u .tabs) d) e
+
+  pub inner-kept : (u : Setup) (b room : ℕ) → EffectKept (c .gathered) (innerRule p c u b room)
+  unfolding innerRule changeOk
+  inner-kept u b room =
+      pick-if (EffectKept (c .gathered)) (ltb b 128)
+      (λ e. obeyed-kept u (decodeRule (c .pending) (c .gathered .len) b) room (decoded-ok (c .pending) (c .gathered) b (ltb-true b 128 e) (h .pending)))
+      (λ e. record { size = n; core = h; change = refl })
+
+  pub inner-setup : (u : Setup) (b room : ℕ) → PossibleSetup u → PossibleSetup (changed (innerRule p c u b room .change) (c .gathered) u)
+  inner-setup u b room w = changed-kept (innerRule p c u b room .change) (c .gathered) u (inner-kept u b room .change) w
+
+-- ---- the calls
+
+-- from a page and a state to a page and a state: the length stays, and possible stays possible
+pub record Keeps (p : List ℕ) (s : State) (q : List ℕ) (t : State) : Type 0 where
+  pub size : length q ≡ length p
+  pub state : possible s ≡ true → possible t ≡ true
+
+keeps-same : {p : List ℕ} {s : State} → Keeps p s p s
+keeps-same = record { size = refl; state = λ h. h }
+
+keeps-then : {p q r : List ℕ} {s t u : State} → Keeps p s q t → Keeps q t r u → Keeps p s r u
+keeps-then a b = record { size = b .size ∙ a .size; state = λ h. b .state (a .state h) }
+
+pub good-parts : (p : List ℕ) (s : State) → good p s ≡ true → (length p ≡ pageLength) × (possible s ≡ true)
+unfolding good
+good-parts p s h =
+    let r = both-parts (eqb (length p) pageLength) (possible s) h in
+    (eqb-true (length p) pageLength (r .0), r .1)
+
+pub good-whole : (p : List ℕ) (s : State) → length p ≡ pageLength → possible s ≡ true → good p s ≡ true
+unfolding good
+good-whole p s n h = both-true (eq-eqb (length p) pageLength n) h
+
+pub keeps-good : {p q : List ℕ} {s t : State} → Keeps p s q t → good p s ≡ true → good q t ≡ true
+keeps-good {p} {q} {s} {t} k h =
+    let r = good-parts p s h in
+    good-whole q t (k .size ∙ r .0) (k .state (r .1))
+
+pub step-keeps : (p : List ℕ) (s : State) (b room : ℕ) → Keeps p s (stepRule p s b room .page) (stepRule p s b room .state)
+unfolding stepRule
+step-keeps p s b room =
+    pick-if (λ (o : Outcome). Keeps p s (o .page) (o .state)) (good p s)
+    (λ g.
+    let r = good-parts p s g in
+    let w = possible-parts s (r .1) in
+    let k = inner-kept p (s .core) (r .0) (w .core) (s .setup) b room in
+    record { size = k .size ∙ sym (r .0); state = λ h. possible-whole _ (k .core) (inner-setup p (s .core) (r .0) (w .core) (s .setup) b room (w .setup)) })
+    (λ g. keeps-same)
+
+repeated-keeps : (bytes p : List ℕ) (s : State) (room : ℕ) → Keeps p s (repeated bytes p s room .page) (repeated bytes p s room .state)
+unfolding repeated joined
+repeated-keeps [] p s room = keeps-same
+repeated-keeps (b ∷ bytes) p s room =
+    pick-if (λ (r : Ran). Keeps p s (r .page) (r .state)) (eqb (stepRule p s b room .answer) 6) (λ e. keeps-same)
+    (λ e. keeps-then (step-keeps p s b room) (repeated-keeps bytes (stepRule p s b room .page) (stepRule p s b room .state) (room - length (stepRule p s b room .reply))))
+
+pub run-keeps : (p : List ℕ) (s : State) (bytes : List ℕ) (room : ℕ) → Keeps p s (runRule p s bytes room .page) (runRule p s bytes room .state)
+unfolding runRule
+run-keeps p s bytes room = pick-if (λ (r : Ran). Keeps p s (r .page) (r .state)) (good p s) (λ e. repeated-keeps bytes p s room) (λ e. keeps-same)
+
+pub call-keeps : (p : List ℕ) (s : State) (c : Call) → Keeps p s (callRule p s c .page) (callRule p s c .given .state)
+unfolding callRule ofStep ofRun ofPress
+call-keeps p s (Step b room) = step-keeps p s b room
+call-keeps p s (Run bytes room) = run-keeps p s bytes room
+call-keeps p s (Press v room) = keeps-same
+
+pub play-keeps : (calls : List Call) (p : List ℕ) (s : State) → Keeps p s (play calls p s .page) (play calls p s .state)
+unfolding play after
+play-keeps [] p s = keeps-same
+play-keeps (c ∷ calls) p s = keeps-then (call-keeps p s c) (play-keeps calls (callRule p s c .page) (callRule p s c .given .state))
+
+pub step-good : (p : List ℕ) (s : State) (b room : ℕ) → good p s ≡ true → good (stepRule p s b room .page) (stepRule p s b room .state) ≡ true
+step-good p s b room h = keeps-good (step-keeps p s b room) h
+
+pub run-good : (p : List ℕ) (s : State) (bytes : List ℕ) (room : ℕ) → good p s ≡ true → good (runRule p s bytes room .page) (runRule p s bytes room .state) ≡ true
+run-good p s bytes room h = keeps-good (run-keeps p s bytes room) h
+
+pub call-good : (p : List ℕ) (s : State) (c : Call) → good p s ≡ true → good (callRule p s c .page) (callRule p s c .given .state) ≡ true
+call-good p s c h = keeps-good (call-keeps p s c) h
+
+pub call-length : (p : List ℕ) (s : State) (c : Call) → length (callRule p s c .page) ≡ length p
+call-length p s c = call-keeps p s c .size
+
+pub call-possible : (p : List ℕ) (s : State) (c : Call) → possible s ≡ true → possible (callRule p s c .given .state) ≡ true
+call-possible p s c h = call-keeps p s c .state h
+
+pub play-good : (calls : List Call) (p : List ℕ) (s : State) → good p s ≡ true → good (play calls p s .page) (play calls p s .state) ≡ true
+play-good calls p s h = keeps-good (play-keeps calls p s) h
+
+-- ---- power-on
+
+pub powerOn-possible : possible powerOn ≡ true
+unfolding possible powerOn screenOk unsplitOk keysOk keyOk allBelow attributesOk isAttribute featuresOk featurePlace pendingOk
+powerOn-possible = refl
+
+pub powerOn-good : (p : List ℕ) → length p ≡ pageLength → good (powerOnRule p .page) (powerOnRule p .state) ≡ true
+unfolding powerOnRule blank
+powerOn-good p n = rw n (good-whole blank powerOn refl powerOn-possible)
+
+-- a page of the wrong length is left
+pub powerOn-length : (p : List ℕ) → length (powerOnRule p .page) ≡ length p
+unfolding powerOnRule blank
+powerOn-length p =
+    pick-if (λ (o : Outcome). length (o .page) ≡ length p) (eqb (length p) pageLength) (λ e. sym (eqb-true (length p) pageLength e)) (λ e. refl)

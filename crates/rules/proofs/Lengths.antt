@@ -1,0 +1,49 @@
+-- No write changes the page's length, whatever its numbers are.
+--     length-applied     a write
+--     length-after       both writes of a plan
+-- Assumes nothing.
+use mathlib.Core.Path.{_≡_, refl, _∙_}
+use mathlib.Core.Bool.{Bool, true, false}
+use mathlib.Core.List.{List}
+use Prim.Native.Nat.{ℕ, zero, suc, _+_, _-_, _*_}
+use native.Mathlib.Omega.{arith}
+use lib.ListN.{length, length-append, length-take, length-drop, length-map, length-replicate}
+use Rattle.rules.specs.declared.Plan.{Plan}
+use Rattle.rules.specs.declared.Write.{Write}
+use Rattle.rules.specs.declared.Write.the-variants as Write
+use Rattle.rules.specs.Row.{width}
+use Rattle.rules.specs.Search.{guardedAt, editEnd}
+use Rattle.rules.specs.Change.{within, fillCell, filled, shiftLeft, shiftRight, shifted, editShifted, rowsShifted, columnFilled}
+use Rattle.rules.specs.Carry.{applied, pageAfter}
+
+pub length-within : (a e : ℕ) (f : List ℕ → List ℕ) → ((l : List ℕ) → length (f l) ≡ length l) → (p : List ℕ) → length (within a e f p) ≡ length p
+unfolding within
+length-within a e f same p =
+    simp (length-append, same, length-take, length-drop) (omega arith)
+
+pub length-filled : (on : Bool) (v : ℕ) (p : List ℕ) → length (filled on v p) ≡ length p
+unfolding filled
+length-filled on v p = length-map p (fillCell on v)
+
+pub length-shifted : (right : Bool) (k v : ℕ) (p : List ℕ) → length (shifted right k v p) ≡ length p
+unfolding shiftLeft shiftRight
+length-shifted true k v p = simp (length-take, length-append, length-replicate) (omega arith)
+length-shifted false k v p = simp (length-drop, length-append, length-replicate) (omega arith)
+
+pub length-column : (w : ℕ) (on : Bool) (v column n row : ℕ) (p : List ℕ) → length (columnFilled w on v column n row p) ≡ length p
+unfolding columnFilled
+length-column w on v column zero row p = refl
+length-column w on v column (suc n) row p =
+    length-column w on v column n (suc row) _ ∙ length-within (row * w + column) (row * w + column + 1) (filled on v) (length-filled on v) p
+
+pub length-applied : (on : Bool) (w : Write) (p : List ℕ) → length (applied on w p) ≡ length p
+unfolding applied editShifted rowsShifted
+length-applied on Write.Nothing p = refl
+length-applied on (Write.Fill a e v) p = length-within a e (filled on v) (length-filled on v) p
+length-applied on (Write.FillAll a e v) p = length-within a e (filled false v) (length-filled false v) p
+length-applied on (Write.Column top bottom c v) p = length-column width on v c (bottom - top) top p
+length-applied on (Write.Edit right at v) p = length-within at (editEnd width (guardedAt on p) at) (shifted right 1 v) (length-shifted right 1 v) p
+length-applied on (Write.Rows down top bottom) p = length-within (top * width) (bottom * width) (shifted down width 32) (length-shifted down width 32) p
+
+pub length-after : (on : Bool) (x : Plan) (p : List ℕ) → length (pageAfter on x p) ≡ length p
+length-after on x p = length-applied on (x .second) (applied on (x .first) p) ∙ length-applied on (x .first) p
