@@ -10,7 +10,7 @@ use Prim.Native.Nat.{ℕ, suc, _+_, _-_, _/_, _%_, _≤_, _<_}
 use native.Mathlib.Omega.{arith}
 use lib.Dec.{ltb, leb, eqb}
 use lib.ListN.{length, take, drop, length-append, length-take}
-use borrow.Author.Tests.{eqb-true, ltb-true, leb-true, leb-false, not-true}
+use borrow.Author.Tests.{eqb-true, ltb-true, leb-true, leb-false, ne-eqb}
 use Rattle.rules.specs.declared.Core.{Core}
 use Rattle.rules.specs.declared.Key.{Key}
 use Rattle.rules.specs.declared.Setup.{Setup}
@@ -29,7 +29,7 @@ use Rattle.rules.specs.Good.{GoodReply}
 use Rattle.rules.specs.Carry.{separator, openCell, textFrom, textOf, replied, Effect, done, carried}
 use Rattle.rules.specs.Step.{overfull, programmed, obeyed, innerRule, Outcome, stepRule}
 use Rattle.rules.specs.Calls.{joined, repeated, runRule, keySends, keyAt, Pressed, pressRule}
-use Rattle.rules.proofs.Tests.{pick-if, both-parts}
+use Rattle.rules.proofs.Tests.{pick-if, both-parts, among-parts}
 use Rattle.rules.proofs.Good.{PlanKept}
 use Rattle.rules.proofs.Keys.{key-parts, text-short, keys-at}
 use Rattle.rules.proofs.Decoding.{decodedOk, decoded-ok}
@@ -107,7 +107,7 @@ module _ (p : List ℕ) (c : Core) (n : length p ≡ pageLength) (h : PossibleCo
   obeyed-bounded u (Decoded.Gather b) room e = silent refl refl
   obeyed-bounded u (Decoded.Program i) room e =
       pick-if (Bounded room) (overfull (u .keys) i (c .gathered)) (λ z. silent refl refl) (λ z. silent refl refl)
-  obeyed-bounded u (Decoded.Reject a) room e = silent refl (not-true (eqb (number a) 6) e)
+  obeyed-bounded u (Decoded.Reject a) room e = silent refl (ne-eqb (number a) 6 (omega (arith, among-parts 2 4 (number a) e)))
   obeyed-bounded u (Decoded.Do d) room e = carried-bounded _ room (planned-kept p c n h (u .tabs) d)
 
   pub inner-bounded : (u : Setup) (b room : ℕ) → Bounded room (innerRule p c u b room)

@@ -12,4 +12,9 @@ pub mod Step
 pub mod Calls
 pub mod Noninterference
 pub mod Good
+pub mod Steps
+pub mod Left
+pub mod Press
+pub mod Reach
 pub mod Bench
+pub mod Cases

@@ -1,0 +1,108 @@
+-- What each answer of a step leaves.
+--     step-left, step-most     an answer other than 0 leaves what the table says; none is above 7
+--     page-changed     nothing but answer 0 changes a page
+--     step-high     a byte of 80h or above changes nothing, whatever is under way
+--     inner-ends     the ways in which a byte ends, on a good page and core
+-- Assumes nothing.
+use mathlib.Core.Path.{_≡_, refl, ap}
+use mathlib.Core.Bool.{Bool, true, false}
+use mathlib.Core.List.{List, []}
+use Prim.Native.Nat.{ℕ, _≤_}
+use native.Mathlib.Omega.{arith}
+use lib.Dec.{leb, ltb, eqb, leb·zero}
+use lib.ListN.{length}
+use borrow.Author.Tests.{le-ltb, ltb-true, eqb-true, eqb-false}
+use Rattle.rules.specs.declared.State.{State}
+use Rattle.rules.specs.declared.Core.{Core}
+use Rattle.rules.specs.declared.Setup.{Setup}
+use Rattle.rules.specs.declared.Plan.{Plan}
+use Rattle.rules.specs.declared.Decoded.{Decoded}
+use Rattle.rules.specs.declared.Decoded.the-variants as Decoded
+use Rattle.rules.specs.Cell.{pick, among}
+use Rattle.rules.specs.Search.{guardedAt}
+use Rattle.rules.specs.State.{number, idle, changed}
+use Rattle.rules.specs.Possible.{pendingOk, good}
+use Rattle.rules.specs.Decode.{decodeRule}
+use Rattle.rules.specs.Carry.{Effect, quiet, applied, replied, landed, done, carried}
+use Rattle.rules.specs.Step.{Outcome, outcomeOf, overfull, programmed, obeyed, innerRule, stepRule}
+use Rattle.rules.specs.Left.{Left, Unchanged}
+use Rattle.rules.proofs.Tests.{pick-if, among-parts}
+use Rattle.rules.proofs.Decoding.{decodedOk, decoded-ok}
+use Rattle.rules.proofs.Kept.{good-parts, possible-parts}
+use Rattle.rules.proofs.Planned.{Planned, obeys, refuses, planned}
+
+-- how a byte ends: 0; 2 to 5 and the sequence cleared; 1 or 6 and nothing changed
+pub data Ended (p : List ℕ) (c : Core) : Effect → Type 0 where
+  ends : {e : Effect} → e .answer ≡ 0 → Ended p c e
+  clears : (n : ℕ) → among 2 4 n ≡ true → Ended p c (quiet n (idle c) p)
+  keeps : (n : ℕ) → among 2 4 n ≡ false → n ≤ 6 → Ended p c (quiet n c p)
+
+module _ (p : List ℕ) (c : Core) where
+  carried-ends : (x : Plan) (room : ℕ) → Planned c x → Ended p c (carried p c x room)
+  unfolding carried done applied replied landed
+  carried-ends x room (obeys e) =
+      pick-if (Ended p c) (leb (length (replied (c .modes .protect) p (x .reply))) room) (λ t. ends (ap number e)) (λ t. keeps 6 refl (omega arith))
+  carried-ends x room (refuses a e) = rw (leb·zero room) (clears (number a) e)
+
+  module _ (u : Setup) (room : ℕ) where
+    obeyed-ends : (d : Decoded) → decodedOk (c .pending) (c .gathered) d ≡ true → Ended p c (obeyed p c u d room)
+    unfolding obeyed programmed decodedOk
+    obeyed-ends (Decoded.Wait q) e = ends refl
+    obeyed-ends (Decoded.Gather b) e = ends refl
+    obeyed-ends (Decoded.Program n) e = pick-if (Ended p c) (overfull (u .keys) n (c .gathered)) (λ t. clears 5 refl) (λ t. ends refl)
+    obeyed-ends (Decoded.Reject a) e = clears (number a) e
+    obeyed-ends (Decoded.Do d) e = carried-ends _ room (planned c (guardedAt (c .modes .protect) p) (u .tabs) d)
+
+    pub inner-ends : (b : ℕ) → pendingOk (c .pending) (c .gathered) ≡ true → Ended p c (innerRule p c u b room)
+    unfolding innerRule
+    inner-ends b h =
+        pick-if (Ended p c) (ltb b 128)
+        (λ t. obeyed-ends (decodeRule (c .pending) (c .gathered .len) b) (decoded-ok (c .pending) (c .gathered) b (ltb-true b 128 t) h))
+        (λ t. keeps 1 refl (omega arith))
+
+-- ---- the step
+
+module _ (p : List ℕ) (s : State) where
+  ended-left : {e : Effect} → Ended p (s .core) e → (e .answer ≡ 0 → ⊥) → Left p s (outcomeOf s e)
+  unfolding changed
+  ended-left (ends a) n = absurd (n a)
+  ended-left (clears m a) n = record { page = refl; state = rw a; reply = refl }
+  ended-left (keeps m a l) n = record { page = refl; state = rw a; reply = refl }
+
+  ended-most : {e : Effect} → Ended p (s .core) e → e .answer ≤ 7
+  ended-most (ends a) = omega (arith, a)
+  ended-most (clears m a) = omega (arith, among-parts 2 4 m a)
+  ended-most (keeps m a l) = omega arith
+
+  module _ (b room : ℕ) where
+    good-ends : good p s ≡ true → Ended p (s .core) (innerRule p (s .core) (s .setup) b room)
+    good-ends g = inner-ends p (s .core) (s .setup) room b (possible-parts s (good-parts p s g .1) .core .pending)
+
+    -- an answer other than 0 leaves the page, replies nothing, and leaves of the state what the table says
+    pub step-left : (stepRule p s b room .answer ≡ 0 → ⊥) → Left p s (stepRule p s b room)
+    unfolding stepRule
+    step-left =
+        pick-if (λ (o : Outcome). (o .answer ≡ 0 → ⊥) → Left p s o) (good p s) (λ g. ended-left (good-ends g))
+        (λ g n. record { page = refl; state = refl; reply = refl })
+
+    -- no answer is above 7
+    pub step-most : stepRule p s b room .answer ≤ 7
+    unfolding stepRule
+    step-most = pick-if (λ (o : Outcome). o .answer ≤ 7) (good p s) (λ g. ended-most (good-ends g)) (λ g. omega arith)
+
+    -- nothing but answer 0 changes a page
+    pub page-changed : (stepRule p s b room .page ≡ p → ⊥) → stepRule p s b room .answer ≡ 0
+    page-changed h = by (eqb (stepRule p s b room .answer) 0) refl
+      where
+        by : (t : Bool) → eqb (stepRule p s b room .answer) 0 ≡ t → stepRule p s b room .answer ≡ 0
+        by true e = eqb-true _ _ e
+        by false e = absurd (h (step-left (eqb-false _ _ e) .page))
+
+    -- a byte of 80h or above changes nothing, whatever is under way
+    pub step-high : 128 ≤ b → Unchanged (pick (good p s) 1 7) p s (stepRule p s b room)
+    unfolding stepRule innerRule changed
+    step-high h = rw (le-ltb b 128 h) (by (good p s))
+      where
+        by : (t : Bool) → Unchanged (pick t 1 7) p s (pick t (outcomeOf s (quiet 1 (s .core) p)) (record { answer = 7; state = s; page = p; reply = [] }))
+        by true = record { answer = refl; page = refl; state = refl; reply = refl }
+        by false = record { answer = refl; page = refl; state = refl; reply = refl }
