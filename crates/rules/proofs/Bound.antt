@@ -67,7 +67,7 @@ cells-bound on a [] h = omega arith
 cells-bound on a (v ∷ l) h =
     rw (first-row a) (simp length-append (omega (arith, text-bound on a (suc a) l, open-bound on v)))
 
-part-bound : (on : Bool) (p : List ℕ) (a e : ℕ) → a ≤ e → e ≤ pageLength → length (textOf width on p a e) ≤ 1943
+pub part-bound : (on : Bool) (p : List ℕ) (a e : ℕ) → a ≤ e → e ≤ pageLength → length (textOf width on p a e) ≤ 1943
 part-bound on p a e h k = cells-bound on a (take (e - a) (drop a p)) (omega (arith, length-take (e - a) (drop a p)))
 
 replied-bound : (on : Bool) (p : List ℕ) (r : Reply) → GoodReply r → length (replied on p r) ≤ 1944

@@ -1,0 +1,54 @@
+// A plan carried out: the only place that reads or writes a cell's contents.
+ghost use mathlib.Core.Path.{_≡_};
+ghost use lib.ListN.{length};
+ghost use Rattle.rules.specs.Good.{GoodPlan};
+ghost use Rattle.rules.specs.Carry.{carried};
+ghost use Rattle.carry.specs.Carried.{Carried};
+
+mod landing; // where the cursor goes
+mod replies; // what is replied: its length, and its bytes
+mod writes; // what is written
+
+use landing::land;
+use replies::put_reply;
+use replies::reply_length;
+use rules::Answer;
+use rules::Core;
+use rules::CoreResult;
+use rules::Plan;
+use rules::SetupChange;
+use writes::write;
+
+// The room is judged before anything is written: a reply longer than it answers 6, and nothing has changed.
+pub fn carry_out(page: &mut [u16], core: Core, plan: Plan, room: &mut [u8]) -> CoreResult
+    requires { ⌜ (length (now page) ≡ 1920) × GoodPlan plan ⌝ }
+    ensures { λ r. ⌜ Carried (carried (now (page .entry)) core plan (length (now (room .entry)))) r (now (page .exit)) (now (room .entry)) (now (room .exit)) ⌝ }
+{
+    let on = core.modes.protect;
+    let reply = plan.reply;
+    let n = reply_length(page, on, reply);
+    if room.len() < n {
+        return CoreResult {
+            answer: Answer::NoRoom,
+            replied: 0,
+            core: core,
+            change: SetupChange::Nothing,
+        };
+    }
+    put_reply(page, on, reply, room);
+    let first = plan.first;
+    write(page, on, first);
+    let second = plan.second;
+    write(page, on, second);
+    let next = plan.next;
+    let place = plan.land;
+    let c = land(page, next, place);
+    let answer = plan.answer;
+    let change = plan.change;
+    CoreResult {
+        answer: answer,
+        replied: n,
+        core: c,
+        change: change,
+    }
+}

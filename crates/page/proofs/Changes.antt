@@ -1,0 +1,149 @@
+-- Laws of the changes of cells: the length, and what stands at each place.
+--     lent                                     a part of the page was lent and came back
+--     length-filled, filled-at, one-filled
+--     length-left, left-kept, left-new         what comes from the right; what comes in
+--     length-right, right-kept, right-new
+--     filled-up                                a shift ends by a fill of the cells that come in
+--     column-step                              one row of a column
+-- Assumes nothing.
+use mathlib.Core.Path.{_≡_, refl, sym, ap, _∙_}
+use mathlib.Core.List.{List, [], _∷_, _++_}
+use mathlib.Core.Bool.{Bool, false}
+use mathlib.Core.Logic.{_⊎_, inl, inr, ⊎-elim}
+use Prim.Native.Nat.{ℕ, zero, suc, _+_, _-_, _*_, _≤_, _<_}
+use native.Mathlib.Nat.{le-of-suc-le-suc, not-suc-le-zero}
+use native.Mathlib.Numerals.{add-one}
+use native.Mathlib.Omega.{arith}
+use lib.ListN.{length, getD, set, take, drop, replicate, length-append, length-drop, length-map, length-replicate, getD-replicate, List·getD-append}
+use lib.Seq.{length-take-le, getD-drop, getD-take, getD-append-add, drop-cons, set-split, ext-getD}
+use borrow.Rule.Slice.PartMut.{putMid, mid-len, same-len-mid}
+use Rattle.rules.specs.Change.{within, fillCell, filled, shiftLeft, shiftRight, columnFilled}
+
+-- a part was lent, `&mut page[a..e]`, and came back as q, which f makes of it
+pub lent : (a e : ℕ) (f : List ℕ → List ℕ) (p : List ℕ) {q : List ℕ} → q ≡ f (take (e - a) (drop a p)) → putMid a (e - a) p q ≡ within a e f p
+unfolding within
+lent a e f p w = rw w
+
+-- ---- fills
+
+module _ (on : Bool) (v : ℕ) where
+  pub length-filled : (p : List ℕ) → length (filled on v p) ≡ length p
+  unfolding filled
+  length-filled p = length-map p (fillCell on v)
+
+  pub filled-at : (p : List ℕ) (i : ℕ) → i < length p → getD (filled on v p) i 0 ≡ fillCell on v (getD p i 0)
+  unfolding filled
+  filled-at [] i h = absurd (not-suc-le-zero h)
+  filled-at (x ∷ p) zero h = refl
+  filled-at (x ∷ p) (suc i) h = filled-at p i (le-of-suc-le-suc h)
+
+  -- a fill of one cell
+  pub one-filled : (p : List ℕ) (i : ℕ) → i < length p → set p i (fillCell on v (getD p i 0)) ≡ within i (i + 1) (filled on v) p
+  unfolding within filled
+  one-filled p i h =
+      let e : i + 1 - i ≡ 1 = omega arith in
+      rw (e, drop-cons p i 0 h) (set-split p i (fillCell on v (getD p i 0)) h)
+
+-- ---- shifts
+
+getD-second : (x y : List ℕ) (i : ℕ) → length x ≤ i → getD (x ++ y) i 0 ≡ getD y (i - length x) 0
+getD-second x y i h =
+    let e : i ≡ length x + (i - length x) = omega arith in
+    ap (λ (k : ℕ). getD (x ++ y) k 0) e ∙ getD-append-add x y (i - length x) 0
+
+module _ (k v : ℕ) (p : List ℕ) where
+  pub length-left : length (shiftLeft k v p) ≡ length p
+  unfolding shiftLeft
+  length-left = simp (length-drop, length-append, length-replicate) (omega arith)
+
+  pub left-kept : (i : ℕ) → i + k < length p → getD (shiftLeft k v p) i 0 ≡ getD p (i + k) 0
+  unfolding shiftLeft
+  left-kept i h =
+      let e : k + i ≡ i + k = omega arith in
+      getD-drop k (p ++ replicate k v) i 0 ∙ rw e (List·getD-append p (replicate k v) 0 (i + k) h)
+
+  pub left-new : (i : ℕ) → i < length p → length p ≤ i + k → getD (shiftLeft k v p) i 0 ≡ v
+  unfolding shiftLeft
+  left-new i h n =
+      getD-drop k (p ++ replicate k v) i 0
+      ∙ getD-second p (replicate k v) (k + i) (omega arith)
+      ∙ getD-replicate k (k + i - length p) v 0 (omega arith)
+
+  pub length-right : length (shiftRight k v p) ≡ length p
+  unfolding shiftRight
+  length-right = length-take-le (length p) (replicate k v ++ p) (simp (length-append, length-replicate) (omega arith))
+
+  pub right-kept : (i : ℕ) → i < length p → k ≤ i → getD (shiftRight k v p) i 0 ≡ getD p (i - k) 0
+  unfolding shiftRight
+  right-kept i h n =
+      getD-take (length p) (replicate k v ++ p) i 0 h
+      ∙ getD-second (replicate k v) p i (rw length-replicate n)
+      ∙ rw length-replicate refl
+
+  pub right-new : (i : ℕ) → i < length p → i < k → getD (shiftRight k v p) i 0 ≡ v
+  unfolding shiftRight
+  right-new i h n =
+      getD-take (length p) (replicate k v ++ p) i 0 h
+      ∙ List·getD-append (replicate k v) p 0 i (rw length-replicate n)
+      ∙ getD-replicate k i v 0 n
+
+-- ---- cell by cell, after all cells of a part became v
+
+lt-or-le : (i n : ℕ) → (i < n) ⊎ (n ≤ i)
+lt-or-le i zero = inr (omega arith)
+lt-or-le zero (suc n) = inl (omega arith)
+lt-or-le (suc i) (suc n) = ⊎-elim (λ h. inl (omega arith)) (λ h. inr (omega arith)) (lt-or-le i n)
+
+module _ (a e v : ℕ) (p x : List ℕ) (h : a ≤ e) (k : e ≤ length p) where
+  front : length (take a p) ≡ a
+  front = length-take-le a p (omega arith)
+
+  middle : length (filled false v (take (e - a) (drop a p))) ≡ e - a
+  middle = length-filled false v (take (e - a) (drop a p)) ∙ mid-len a e p k
+
+  at-middle : (i : ℕ) → a ≤ i → i < e → getD (within a e (filled false v) p) i 0 ≡ v
+  unfolding within
+  at-middle i b c =
+      let q = filled false v (take (e - a) (drop a p)) in
+      let r = drop (e - a) (drop a p) in
+      getD-second (take a p) (q ++ r) i (rw front b)
+      ∙ rw front (List·getD-append q r 0 (i - a) (rw middle (omega arith)))
+      ∙ filled-at false v (take (e - a) (drop a p)) (i - a) (omega (arith, mid-len a e p k))
+
+  at-back : (i : ℕ) → e ≤ i → getD (within a e (filled false v) p) i 0 ≡ getD p i 0
+  unfolding within
+  at-back i b =
+      let q = filled false v (take (e - a) (drop a p)) in
+      let r = drop (e - a) (drop a p) in
+      let s : a + (e - a + (i - a - (e - a))) ≡ i = omega arith in
+      getD-second (take a p) (q ++ r) i (rw front (omega arith))
+      ∙ rw (front, getD-second q r (i - a) (rw middle (omega arith)), middle, getD-drop (e - a) (drop a p) (i - a - (e - a)) 0, getD-drop a p (e - a + (i - a - (e - a))) 0, s)
+
+  at-front : (i : ℕ) → i < a → getD (within a e (filled false v) p) i 0 ≡ getD p i 0
+  unfolding within
+  at-front i b = List·getD-append (take a p) _ 0 i (rw front b) ∙ getD-take a p i 0 b
+
+  length-within : length (within a e (filled false v) p) ≡ length p
+  unfolding within
+  length-within = same-len-mid a (e - a) p (filled false v (take (e - a) (drop a p))) (length-filled false v (take (e - a) (drop a p)))
+
+  -- p is x but for the cells a up to e, and these are v in x
+  pub filled-up : length p ≡ length x → ((i : ℕ) → i < a → getD p i 0 ≡ getD x i 0)
+      → ((i : ℕ) → a ≤ i → i < e → getD x i 0 ≡ v) → ((i : ℕ) → e ≤ i → i < length p → getD p i 0 ≡ getD x i 0)
+      → within a e (filled false v) p ≡ x
+  filled-up n before new after =
+      ext-getD 0 (within a e (filled false v) p) x (length-within ∙ n)
+      (λ i b. ⊎-elim
+      (λ c. at-front i c ∙ before i c)
+      (λ c. ⊎-elim (λ d. at-middle i c d ∙ sym (new i c d)) (λ d. at-back i d ∙ after i d (omega (arith, length-within))) (lt-or-le i e))
+      (lt-or-le i a))
+
+-- ---- one row of a column
+
+pub column-step : (w : ℕ) (on : Bool) (v column row bottom : ℕ) (p : List ℕ) → row < bottom
+    → columnFilled w on v column (bottom - row) row p
+    ≡ columnFilled w on v column (bottom - (row + 1)) (row + 1) (within (row * w + column) (row * w + column + 1) (filled on v) p)
+unfolding columnFilled
+column-step w on v column row bottom p h =
+    let e : bottom - row ≡ suc (bottom - (row + 1)) = omega arith in
+    rw (e, add-one)

@@ -1,0 +1,4 @@
+pub mod Loop
+pub mod Changes
+pub mod Room
+pub mod Sends

@@ -1,0 +1,15 @@
+-- `page::cell::sent_code` meets its contract.
+use borrow.Author.Needs.{needs}
+use borrow.Author.Tests.{le-leb, lt-leb, eq-eqb, ne-eqb}
+use Rattle.page.proofs.cell.sent_code.Statement.{statement}
+use Rattle.page.proofs.cell.sent_code.Tie as tie
+
+pub sent-code-spec : {M : Type 1} → statement M
+sent-code-spec =
+    tie.close
+    (tie.spec
+    (λ c. search needs)
+    (λ c. simp (eq-eqb _ _ (c .before .before .if1 .taken), le-leb _ _ (c .before .if2 .taken), le-leb _ _ (c .if3 .taken)))
+    (λ c. simp (eq-eqb _ _ (c .before .before .if1 .taken), le-leb _ _ (c .before .if2 .taken), lt-leb _ _ (c .if3 .left)))
+    (λ c. simp (eq-eqb _ _ (c .before .if1 .taken), lt-leb _ _ (c .if2 .left)))
+    (λ c. simp (ne-eqb _ _ (c .if1 .left))))

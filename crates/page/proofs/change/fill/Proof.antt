@@ -1,0 +1,41 @@
+-- `page::change::fill` meets its contract. The loop: below i the cells are filled, from i on they are as they were.
+use mathlib.Core.Path.{sym, ap, _∙_}
+use Prim.Native.Nat.{_-_, _≤_}
+use native.Mathlib.Omega.{arith}
+use borrow.Author.Needs.{needs}
+use denote.Ref.{now}
+use lib.ListN.{length}
+use Rattle.rules.specs.Change.{fillCell, filled}
+use Rattle.page.proofs.Loop.{Joined, joined-start, step-up, joined-all}
+use Rattle.page.proofs.Changes.{length-filled, filled-at}
+use Rattle.page.proofs.change.fill.Statement.{statement}
+use Rattle.page.proofs.change.fill.Tie as tie
+
+abbrev Inv-loop : tie.InvT-loop
+Inv-loop part₀ protect value i₀ part i =
+    (i ≤ length part₀) × Joined i (filled protect value part₀) part₀ part
+
+abbrev μ-loop : tie.MeasureT-loop
+μ-loop part₀ protect value i₀ part i = length part₀ - i
+
+pub fill-spec : {M : Type 1} → statement M
+fill-spec =
+    tie.close
+    (tie.spec
+    Inv-loop
+    μ-loop
+    (λ c. let x = c .before .args in (omega arith, joined-start (length-filled (x .protect) (x .value) (now (x .part)))))
+    (λ c. search needs)
+    (λ c. search needs)
+    (λ c κs. search needs)
+    (λ c. search needs)
+    (λ c. search needs)
+    (λ c. search needs)
+    (λ c. search needs)
+    (λ c.
+    let x = c .before .before .before .before .before .args in
+    let l = c .before .before .before .loop in
+    let j = l .inv .1 in
+    (omega arith, step-up j (omega arith) (c .filled-cell .ensures ∙ ap (fillCell (x .protect) (x .value)) (j .above (l .i) (omega arith)) ∙ sym (filled-at (x .protect) (x .value) (now (x .part)) (l .i) (omega arith)))))
+    (λ c. search needs)
+    (λ c. joined-all (c .before .loop .inv .1) (omega arith)))

@@ -1,0 +1,21 @@
+-- `page::change::shift_cells` meets its contract.
+use borrow.Author.Needs.{needs}
+use denote.Ref.{now}
+use Rattle.rules.specs.Change.{shifted}
+use Rattle.page.proofs.Changes.{lent}
+use Rattle.page.proofs.change.shift_cells.Statement.{statement}
+use Rattle.page.proofs.change.shift_cells.Tie as tie
+
+pub shift-cells-spec : {M : Type 1} → statement M
+shift-cells-spec =
+    tie.close
+    (tie.spec
+    (λ c. search needs)
+    (λ c. search needs)
+    (λ c. search needs)
+    (λ c. search needs)
+    (λ c κs. search needs)
+    (λ c. search needs)
+    (λ c.
+    let x = c .before .before .before .before .before .args in
+    lent (x .from) (x .to) (shifted (x .right) (x .count) (x .value)) (now (x .page)) (c .before .before .shift .ensures)))

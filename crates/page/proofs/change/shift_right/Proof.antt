@@ -1,0 +1,56 @@
+-- `page::change::shift_right` meets its contract. The loop: from i on the cells are shifted, below i they are as they were.
+use mathlib.Core.Path.{_≡_, refl, sym, _∙_}
+use Prim.Native.Nat.{_-_, _≤_}
+use native.Mathlib.Omega.{arith}
+use borrow.Author.Needs.{needs}
+use denote.Ref.{now}
+use lib.ListN.{length}
+use Rattle.rules.specs.Change.{shiftRight}
+use Rattle.page.proofs.Loop.{Joined, joined-end, step-down}
+use Rattle.page.proofs.Changes.{length-right, right-kept, right-new, filled-up}
+use Rattle.page.proofs.change.shift_right.Statement.{statement}
+use Rattle.page.proofs.change.shift_right.Tie as tie
+
+abbrev Inv-loop : tie.InvT-loop
+Inv-loop part₀ count value n first i₀ part i =
+    (n ≡ length part₀) × ((first ≡ length part₀ - (length part₀ - count)) × (((first ≤ i) × (i ≤ n)) × Joined i part₀ (shiftRight count value part₀) part))
+
+abbrev μ-loop : tie.MeasureT-loop
+μ-loop part₀ count value n first i₀ part i = i
+
+pub shift-right-spec : {M : Type 1} → statement M
+shift-right-spec =
+    tie.close
+    (tie.spec
+    Inv-loop
+    μ-loop
+    (λ c κs. search needs)
+    (λ c. search needs)
+    (λ c.
+    let x = c .before .before .args in
+    let e = c .kept .ensures in
+    (refl, (rw e, (omega arith, joined-end (sym (length-right (x .count) (x .value) (now (x .part))))))))
+    (λ c. search needs)
+    (λ c. search needs)
+    (λ c. search needs)
+    (λ c. search needs)
+    (λ c. search needs)
+    (λ c. search needs)
+    (λ c. search needs)
+    (λ c.
+    let x = c .before .before .before .before .before .args in
+    let l = c .before .before .loop in
+    let j = l .inv .1 .1 .1 in
+    let e = c .before .before .before .kept .ensures in
+    let z = length-right (x .count) (x .value) (now (x .part)) in
+    (refl, (rw e, (omega arith, step-down j (omega arith) (omega arith) (j .below (l .i - 1 - x .count) (omega arith) ∙ sym (right-kept (x .count) (x .value) (now (x .part)) (l .i - 1) (omega arith) (omega arith)))))))
+    (λ c κs. search needs)
+    (λ c. search needs)
+    (λ c.
+    let x = c .before .before .before .before .before .before .before .before .args in
+    let l = c .before .before .before .before .before .loop in
+    let j = l .inv .1 .1 .1 in
+    let y = now (x .part) in
+    let e = c .before .before .before .before .before .before .kept .ensures in
+    let z = length-right (x .count) (x .value) y in
+    c .before .before .fill-cells .ensures ∙ filled-up 0 (length y - c .before .before .before .before .before .before .kept .result) (x .value) (l .part) (shiftRight (x .count) (x .value) y) (omega arith) (omega arith) (j .long) (λ i b. absurd (omega arith)) (λ i b d. right-new (x .count) (x .value) y i (omega arith) (omega arith)) (λ i b d. j .above i (omega arith))))

@@ -1,0 +1,18 @@
+-- `page::change::shift_rows` meets its contract.
+use native.Mathlib.Omega.{arith}
+use borrow.Author.Needs.{needs}
+use Rattle.rules.specs.Change.{rowsShifted}
+use Rattle.rules.proofs.Rows.{rows-le, rows-small}
+use Rattle.page.proofs.change.shift_rows.Statement.{statement}
+use Rattle.page.proofs.change.shift_rows.Tie as tie
+
+pub shift-rows-spec : {M : Type 1} → statement M
+unfolding rowsShifted
+shift-rows-spec =
+    tie.close
+    (tie.spec
+    (λ c. let k = c .before .before .pre in omega (arith, rows-small (k .0) {a = c .before .before .args .top} (omega arith)))
+    (λ c. let k = c .before .before .pre in omega (arith, rows-small (k .0) (k .1 .1 .0)))
+    (λ c κs. let k = c .before .before .pre in (rows-le (k .0) (k .1 .0), omega (arith, rows-le (k .0) (k .1 .1 .0))))
+    (λ c. search needs)
+    (λ c. c .before .before .shift-cells .ensures))

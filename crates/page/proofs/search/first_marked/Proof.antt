@@ -1,0 +1,43 @@
+-- `page::search::first_marked` meets its contract. The loop: the first mark from here on is the first from the start.
+use mathlib.Core.Path.{_≡_, sym, _∙_}
+use Prim.Native.Nat.{_-_, _≤_}
+use native.Mathlib.Omega.{arith}
+use borrow.Author.Needs.{needs}
+use denote.Ref.{now}
+use Rattle.rules.specs.Search.{guardedAt, marksOf, firstIn}
+use Rattle.rules.proofs.Marks.{hit, miss, first-none, length-marks, length-guards}
+use Rattle.page.proofs.search.first_marked.Statement.{statement}
+use Rattle.page.proofs.search.first_marked.Tie as tie
+
+abbrev Inv-loop : tie.InvT-loop
+Inv-loop page protect mark from end at₀ at =
+    (at ≤ end) × (firstIn (marksOf mark (guardedAt protect page)) from end ≡ firstIn (marksOf mark (guardedAt protect page)) at end)
+
+abbrev μ-loop : tie.MeasureT-loop
+μ-loop page protect mark from end at₀ at = end - at
+
+pub first-marked-spec : {M : Type 1} → statement M
+first-marked-spec =
+    tie.close
+    (tie.spec
+    Inv-loop
+    μ-loop
+    (λ c. search needs)
+    (λ c κs. search needs)
+    (λ c.
+    let x = c .before .before .before .before .before .args in
+    let l = c .before .before .before .loop in
+    let g = guardedAt (x .protect) (now (x .page)) in
+    let m = marksOf (x .mark) g in
+    let n = length-marks (x .mark) g ∙ length-guards (x .protect) (now (x .page)) in
+    sym (l .inv .1 ∙ hit m (l .at) (x .end) (omega arith) (omega arith) (c .before .is-marked .ensures) (c .if1 .taken)))
+    (λ c. search needs)
+    (λ c. search needs)
+    (λ c.
+    let x = c .before .before .before .before .before .args in
+    let l = c .before .before .before .loop in
+    let g = guardedAt (x .protect) (now (x .page)) in
+    let m = marksOf (x .mark) g in
+    let n = length-marks (x .mark) g ∙ length-guards (x .protect) (now (x .page)) in
+    (omega arith, l .inv .1 ∙ miss m (l .at) (x .end) (omega arith) (omega arith) (c .before .is-marked .ensures) (c .if1 .left)))
+    (λ c. let e : c .before .loop .at ≡ c .before .before .before .args .end = omega arith in sym (c .before .loop .inv .1 ∙ rw (e, first-none))))

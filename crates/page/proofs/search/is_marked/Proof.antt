@@ -1,0 +1,27 @@
+-- `page::search::is_marked` meets its contract.
+use mathlib.Core.Path.{sym, ap, _∙_}
+use mathlib.Core.Bool.{not}
+use native.Mathlib.Omega.{arith}
+use borrow.Author.Needs.{needs}
+use denote.Ref.{now}
+use Rattle.rules.specs.Search.{guardedAt}
+use Rattle.rules.proofs.Marks.{open-at, length-guards}
+use Rattle.page.proofs.search.is_marked.Statement.{statement}
+use Rattle.page.proofs.search.is_marked.Tie as tie
+
+pub is-marked-spec : {M : Type 1} → statement M
+is-marked-spec =
+    tie.close
+    (tie.spec
+    (λ c. search needs)
+    (λ c κs. search needs)
+    (λ c. search needs)
+    (λ c κs. search needs)
+    (λ c. search needs)
+    (λ c κs. search needs)
+    (λ c.
+    let x = c .before .before .before .before .args in
+    let n = length-guards (x .protect) (now (x .page)) in
+    rw (c .before .enum-told .given .1) (ap not (c .is-guarded-at .ensures) ∙ sym (open-at (guardedAt (x .protect) (now (x .page))) (x .at) (omega (arith, c .before .before .before .before .pre)))))
+    (λ c. rw (c .before .enum-told2 .given .1) (c .is-guarded-at2 .ensures))
+    (λ c. rw (c .before .before .mark .given .1) (c .is-field-start .ensures)))

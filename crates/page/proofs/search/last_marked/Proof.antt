@@ -1,0 +1,43 @@
+-- `page::search::last_marked` meets its contract. The loop: the last mark below here is the last one.
+use mathlib.Core.Path.{_≡_, sym, _∙_}
+use Prim.Native.Nat.{_≤_}
+use native.Mathlib.Omega.{arith}
+use borrow.Author.Needs.{needs}
+use denote.Ref.{now}
+use Rattle.rules.specs.Search.{guardedAt, marksOf, lastIn}
+use Rattle.rules.proofs.Marks.{hit-last, miss-last, last-none, length-marks, length-guards}
+use Rattle.page.proofs.search.last_marked.Statement.{statement}
+use Rattle.page.proofs.search.last_marked.Tie as tie
+
+abbrev Inv-loop : tie.InvT-loop
+Inv-loop page protect mark first end none at₀ at =
+    (first ≤ at) × ((at ≤ end) × (lastIn none (marksOf mark (guardedAt protect page)) first end ≡ lastIn none (marksOf mark (guardedAt protect page)) first at))
+
+abbrev μ-loop : tie.MeasureT-loop
+μ-loop page protect mark first end none at₀ at = at
+
+pub last-marked-spec : {M : Type 1} → statement M
+last-marked-spec =
+    tie.close
+    (tie.spec
+    Inv-loop
+    μ-loop
+    (λ c. search needs)
+    (λ c. search needs)
+    (λ c κs. search needs)
+    (λ c.
+    let x = c .before .before .before .before .before .args in
+    let l = c .before .before .before .loop in
+    let g = guardedAt (x .protect) (now (x .page)) in
+    let m = marksOf (x .mark) g in
+    let n = length-marks (x .mark) g ∙ length-guards (x .protect) (now (x .page)) in
+    sym (l .inv .1 .1 ∙ hit-last (x .none) m (x .first) (l .at) (omega arith) (omega arith) (c .before .is-marked .ensures) (c .if1 .taken)))
+    (λ c. search needs)
+    (λ c.
+    let x = c .before .before .before .before .before .args in
+    let l = c .before .before .before .loop in
+    let g = guardedAt (x .protect) (now (x .page)) in
+    let m = marksOf (x .mark) g in
+    let n = length-marks (x .mark) g ∙ length-guards (x .protect) (now (x .page)) in
+    (omega arith, (omega arith, l .inv .1 .1 ∙ miss-last (x .none) m (x .first) (l .at) (omega arith) (omega arith) (c .before .is-marked .ensures) (c .if1 .left))))
+    (λ c. let e : c .before .loop .at ≡ c .before .before .before .args .first = omega arith in sym (c .before .loop .inv .1 .1 ∙ rw (e, last-none))))

@@ -1,0 +1,15 @@
+-- `page::text::cell_length` meets its contract.
+use mathlib.Core.Path.{sym, _∙_}
+use borrow.Author.Needs.{needs}
+use Rattle.rules.specs.Carry.{openCell}
+use Rattle.page.proofs.text.cell_length.Statement.{statement}
+use Rattle.page.proofs.text.cell_length.Tie as tie
+
+pub cell-length-spec : {M : Type 1} → statement M
+unfolding openCell
+cell-length-spec =
+    tie.close
+    (tie.spec
+    (λ c κs. search needs)
+    (λ c. rw (sym (c .before .is-guarded .ensures) ∙ c .if1 .taken))
+    (λ c. rw (sym (c .before .is-guarded .ensures) ∙ c .if1 .left)))

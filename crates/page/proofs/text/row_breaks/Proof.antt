@@ -1,0 +1,18 @@
+-- `page::text::row_breaks` meets its contract.
+use Prim.Native.Nat.{_-_}
+use native.Mathlib.Omega.{arith}
+use borrow.Author.Needs.{needs}
+use Rattle.page.proofs.Sends.{row-le}
+use Rattle.page.proofs.text.row_breaks.Statement.{statement}
+use Rattle.page.proofs.text.row_breaks.Tie as tie
+
+pub row-breaks-spec : {M : Type 1} → statement M
+row-breaks-spec =
+    tie.close
+    (tie.spec
+    (λ c. search needs)
+    (λ c. omega (arith, c .before .pre))
+    (λ c. omega (arith, c .before .pre))
+    (λ c. row-le (c .before .pre .0) (omega arith))
+    (λ c. search needs)
+    (λ c. let x = c .before .args in omega (arith, row-le (c .before .pre .0) {a = x .to - 1} {b = x .from} (omega arith))))

@@ -1,0 +1,75 @@
+// One cell's number: read by remainder and quotient, and made.
+ghost use mathlib.Core.Path.{_≡_};
+ghost use Prim.Native.Nat.{_≤_};
+ghost use Rattle.rules.specs.Cell.{code, protected, kind, cell, written, guarded, isOpen, sent};
+use rules::Contents;
+
+// The code, 0 to 127.
+pub fn code_of(v: u16) -> u8
+    ensures { λ r. ⌜ r ≡ code v ⌝ }
+{
+    (v % 128) as u8
+}
+
+// The 128s bit.
+pub fn is_protected(v: u16) -> bool
+    ensures { λ r. ⌜ r ≡ protected v ⌝ }
+{
+    v / 128 % 2 == 1
+}
+
+// 0 text, 1 attribute, anything else graphic.
+pub fn kind_of(v: u16) -> u8
+    ensures { λ r. ⌜ r ≡ kind v ⌝ }
+{
+    (v / 256) as u8
+}
+
+fn make(code: u8, protected: bool, kind: u16) -> u16
+    requires { ⌜ kind ≤ 2 ⌝ }
+    ensures { λ r. ⌜ r ≡ cell code protected kind ⌝ }
+{
+    if protected {
+        code as u16 + 128 + 256 * kind
+    } else {
+        code as u16 + 256 * kind
+    }
+}
+
+// The number of a written cell.
+pub fn written_cell(contents: Contents, protected: bool) -> u16
+    ensures { λ r. ⌜ r ≡ written contents protected ⌝ }
+{
+    match contents {
+        Contents::Text(code) => make(code, protected, 0),
+        Contents::Attribute(code) => make(code, protected, 1),
+        Contents::Graphic(code) => make(code, protected, 2),
+    }
+}
+
+// Protect mode is on and the cell is protected.
+pub fn is_guarded(protect: bool, v: u16) -> bool
+    ensures { λ r. ⌜ r ≡ guarded protect v ⌝ }
+{
+    if protect { is_protected(v) } else { false }
+}
+
+pub fn is_open(protect: bool, v: u16) -> bool
+    ensures { λ r. ⌜ r ≡ isOpen protect v ⌝ }
+{
+    !is_guarded(protect, v)
+}
+
+// What a send gives for a cell.
+pub fn sent_code(v: u16) -> u8
+    ensures { λ r. ⌜ r ≡ sent v ⌝ }
+{
+    if v / 256 == 0 {
+        if 32 <= v % 128 {
+            if v % 128 <= 126 {
+                return (v % 128) as u8;
+            }
+        }
+    }
+    32
+}

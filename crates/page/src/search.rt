@@ -1,0 +1,209 @@
+// Searches: one loop up and one down over the marks of the cells, and the same over the tab stops.
+ghost use mathlib.Core.Path.{_≡_};
+ghost use mathlib.Core.Bool.{false};
+ghost use Prim.Native.Nat.{_-_, _*_, _<_, _≤_};
+ghost use lib.Dec.{eqb};
+ghost use lib.ListN.{length, getD};
+ghost use Rattle.rules.specs.Cell.{either};
+ghost use Rattle.rules.specs.Row.{Width, rowEnd};
+ghost use Rattle.rules.specs.Search.{guardedAt, marksOf, firstIn, lastIn, around, aroundBack, settled, previousOpen, nextField, previousField, nextTab, previousTab, editEnd};
+use crate::cell::is_guarded;
+use rules::Mark;
+
+pub fn is_guarded_at(page: &[u16], protect: bool, at: usize) -> bool
+    requires { ⌜ at < length (now page) ⌝ }
+    ensures { λ r. ⌜ r ≡ getD (guardedAt protect (now (page .entry))) at false ⌝ }
+{
+    is_guarded(protect, page[at])
+}
+
+// Whether the cell is the first of the segment, or of the page, or follows a guarded cell.
+fn is_start(page: &[u16], protect: bool, first: usize, at: usize) -> bool
+    requires { ⌜ at < length (now page) ⌝ }
+    ensures { λ r. ⌜ r ≡ either (eqb at first) (either (eqb at 0) (getD (guardedAt protect (now (page .entry))) (at - 1) false)) ⌝ }
+{
+    if at == first {
+        return true;
+    }
+    if at == 0 {
+        return true;
+    }
+    is_guarded_at(page, protect, at - 1)
+}
+
+fn is_field_start(page: &[u16], protect: bool, first: usize, at: usize) -> bool
+    requires { ⌜ at < length (now page) ⌝ }
+    ensures { λ r. ⌜ r ≡ getD (marksOf (Mark.FieldStart first) (guardedAt protect (now (page .entry)))) at false ⌝ }
+{
+    if is_guarded_at(page, protect, at) {
+        false
+    } else {
+        is_start(page, protect, first, at)
+    }
+}
+
+// Whether the cell is what is looked for.
+fn is_marked(page: &[u16], protect: bool, mark: Mark, at: usize) -> bool
+    requires { ⌜ at < length (now page) ⌝ }
+    ensures { λ r. ⌜ r ≡ getD (marksOf mark (guardedAt protect (now (page .entry)))) at false ⌝ }
+{
+    match mark {
+        Mark::Open => !is_guarded_at(page, protect, at),
+        Mark::Guarded => is_guarded_at(page, protect, at),
+        Mark::FieldStart(first) => is_field_start(page, protect, first, at),
+    }
+}
+
+// The first marked cell from `from` up to `end`, or `end`.
+fn first_marked(page: &[u16], protect: bool, mark: Mark, from: usize, end: usize) -> usize
+    requires { ⌜ (from ≤ end) × (end ≤ length (now page)) ⌝ }
+    ensures { λ r. ⌜ r ≡ firstIn (marksOf mark (guardedAt protect (now (page .entry)))) from end ⌝ }
+{
+    let mut at = from;
+    while at < end {
+        if is_marked(page, protect, mark, at) {
+            return at;
+        }
+        at += 1;
+    }
+    at
+}
+
+// The last marked cell from `first` up to `end`, or `none`.
+fn last_marked(
+    page: &[u16],
+    protect: bool,
+    mark: Mark,
+    first: usize,
+    end: usize,
+    none: usize,
+) -> usize
+    requires { ⌜ (first ≤ end) × (end ≤ length (now page)) ⌝ }
+    ensures { λ r. ⌜ r ≡ lastIn none (marksOf mark (guardedAt protect (now (page .entry)))) first end ⌝ }
+{
+    let mut at = end;
+    while first < at {
+        at -= 1;
+        if is_marked(page, protect, mark, at) {
+            return at;
+        }
+    }
+    none
+}
+
+// The first marked cell at or after `from`, wrapping at `end` to `first`; `first` where there is none.
+fn marked_around(
+    page: &[u16],
+    protect: bool,
+    mark: Mark,
+    first: usize,
+    end: usize,
+    from: usize,
+) -> usize
+    requires { ⌜ (first ≤ end) × ((from ≤ end) × (end ≤ length (now page))) ⌝ }
+    ensures { λ r. ⌜ r ≡ around (marksOf mark (guardedAt protect (now (page .entry)))) first end from ⌝ }
+{
+    let after = first_marked(page, protect, mark, from, end);
+    if after < end {
+        return after;
+    }
+    let wrapped = first_marked(page, protect, mark, first, end);
+    if wrapped < end { wrapped } else { first }
+}
+
+// The last marked cell before `from`, wrapping at `first` to `end`; `first` where there is none.
+fn marked_back(
+    page: &[u16],
+    protect: bool,
+    mark: Mark,
+    first: usize,
+    end: usize,
+    from: usize,
+) -> usize
+    requires { ⌜ (first ≤ from) × ((from ≤ end) × (end ≤ length (now page))) ⌝ }
+    ensures { λ r. ⌜ r ≡ aroundBack (marksOf mark (guardedAt protect (now (page .entry)))) first end from ⌝ }
+{
+    let before = last_marked(page, protect, mark, first, from, end);
+    if before < end {
+        return before;
+    }
+    last_marked(page, protect, mark, first, end, first)
+}
+
+// Settle from a cell of the segment `first` up to `end`.
+pub fn settle(page: &[u16], protect: bool, first: usize, end: usize, from: usize) -> usize
+    requires { ⌜ (first ≤ end) × ((from ≤ end) × (end ≤ length (now page))) ⌝ }
+    ensures { λ r. ⌜ r ≡ settled (guardedAt protect (now (page .entry))) first end from ⌝ }
+{
+    marked_around(page, protect, Mark::Open, first, end, from)
+}
+
+// 08h: the previous open cell of the segment, or `at`.
+pub fn previous_open(page: &[u16], protect: bool, first: usize, at: usize) -> usize
+    requires { ⌜ (first ≤ at) × (at ≤ length (now page)) ⌝ }
+    ensures { λ r. ⌜ r ≡ previousOpen (guardedAt protect (now (page .entry))) first at ⌝ }
+{
+    last_marked(page, protect, Mark::Open, first, at, at)
+}
+
+// 09h with protect on: the next field start, wrapping.
+pub fn next_field(page: &[u16], protect: bool, first: usize, end: usize, at: usize) -> usize
+    requires { ⌜ (first ≤ at) × ((at < end) × (end ≤ length (now page))) ⌝ }
+    ensures { λ r. ⌜ r ≡ nextField (guardedAt protect (now (page .entry))) first end at ⌝ }
+{
+    marked_around(page, protect, Mark::FieldStart(first), first, end, at + 1)
+}
+
+// ESC I with protect on: the previous field start, wrapping.
+pub fn previous_field(page: &[u16], protect: bool, first: usize, end: usize, at: usize) -> usize
+    requires { ⌜ (first ≤ at) × ((at < end) × (end ≤ length (now page))) ⌝ }
+    ensures { λ r. ⌜ r ≡ previousField (guardedAt protect (now (page .entry))) first end at ⌝ }
+{
+    marked_back(page, protect, Mark::FieldStart(first), first, end, at)
+}
+
+// The end of a cell's row.
+pub fn row_end(width: usize, at: usize) -> usize
+    requires { ⌜ Width width × (at < 24 * width) ⌝ }
+    ensures { λ r. ⌜ r ≡ rowEnd width at ⌝ }
+{
+    at / width * width + width
+}
+
+// The end of the edit run: the next guarded cell, or the end of the row.
+pub fn edit_end(page: &[u16], width: usize, protect: bool, at: usize) -> usize
+    requires { ⌜ Width width × ((length (now page) ≡ 24 * width) × (at < 24 * width)) ⌝ }
+    ensures { λ r. ⌜ r ≡ editEnd width (guardedAt protect (now (page .entry))) at ⌝ }
+{
+    first_marked(page, protect, Mark::Guarded, at, row_end(width, at))
+}
+
+// 09h with protect off: the next tab stop to the right, or `column`.
+pub fn next_tab(tabs: [bool; 80], column: usize) -> usize
+    requires { ⌜ column < 80 ⌝ }
+    ensures { λ r. ⌜ r ≡ nextTab 80 tabs column ⌝ }
+{
+    let mut stop = column + 1;
+    while stop < 80 {
+        if tabs[stop] {
+            return stop;
+        }
+        stop += 1;
+    }
+    column
+}
+
+// ESC I with protect off: the previous tab stop, or column 1.
+pub fn previous_tab(tabs: [bool; 80], column: usize) -> usize
+    requires { ⌜ column ≤ 80 ⌝ }
+    ensures { λ r. ⌜ r ≡ previousTab tabs column ⌝ }
+{
+    let mut stop = column;
+    while 0 < stop {
+        stop -= 1;
+        if tabs[stop] {
+            return stop;
+        }
+    }
+    0
+}

@@ -1,0 +1,15 @@
+-- `at_top` meets its contract.
+use borrow.Author.Needs.{needs}
+use Rattle.rules.specs.Plan.{atTop}
+use Rattle.plan.proofs.moves.at_top.Statement.{statement}
+use Rattle.plan.proofs.moves.at_top.Tie as tie
+
+pub at-top-spec : {M : Type 1} → statement M
+unfolding atTop
+at-top-spec =
+    tie.close
+    (tie.spec
+    (λ c κs. search needs)
+    (λ c κs. search needs)
+    (λ c. search needs)
+    (λ c. rw (c .before .cursor-of .ensures, c .segment-start .ensures)))

@@ -1,0 +1,12 @@
+-- `scrolls` meets its contract.
+use Rattle.rules.specs.Plan.{scrolls}
+use Rattle.plan.proofs.moves.scrolls.Statement.{statement}
+use Rattle.plan.proofs.moves.scrolls.Tie as tie
+
+pub scrolls-spec : {M : Type 1} → statement M
+unfolding scrolls
+scrolls-spec =
+    tie.close
+    (tie.spec
+    (λ c. rw (c .before .if1 .taken))
+    (λ c. rw (c .if1 .left)))

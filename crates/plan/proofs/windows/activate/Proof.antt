@@ -1,0 +1,18 @@
+-- `activate` meets its contract.
+use mathlib.Core.Path.{_∙_}
+use borrow.Author.Needs.{needs}
+use Rattle.rules.specs.Plan.{activate}
+use Rattle.plan.proofs.windows.activate.Statement.{statement}
+use Rattle.plan.proofs.windows.activate.Tie as tie
+
+pub activate-spec : {M : Type 1} → statement M
+unfolding activate
+activate-spec =
+    tie.close
+    (tie.spec
+    (λ c κs. search needs)
+    (λ c κs. search needs)
+    (λ c κs. search needs)
+    (λ c κs. search needs)
+    (λ c κs. search needs)
+    (λ c. c .settling .ensures ∙ rw (c .before .before .with-screen .ensures, c .before .before .before .idle .ensures, c .before .cursor-of .ensures, c .before .before .before .before .activated .ensures)))

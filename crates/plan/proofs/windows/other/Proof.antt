@@ -1,0 +1,21 @@
+-- `other` meets its contract.
+use mathlib.Core.Path.{_∙_}
+use native.Mathlib.Omega.{arith}
+use borrow.Author.Needs.{needs}
+use borrow.Author.Tests.{eq-eqb, ne-eqb}
+use Rattle.rules.specs.Plan.{windowPlan}
+use Rattle.plan.proofs.Segments.{active-most}
+use Rattle.plan.proofs.windows.other.Statement.{statement}
+use Rattle.plan.proofs.windows.other.Tie as tie
+
+pub other-spec : {M : Type 1} → statement M
+unfolding windowPlan
+other-spec =
+    tie.close
+    (tie.spec
+    (λ c κs. search needs)
+    (λ c κs. search needs)
+    (λ c. c .plain .ensures ∙ rw (c .before .idle .ensures, eq-eqb _ _ (c .before .before .if1 .taken)))
+    (λ c. let s = c .before .before .before .before in omega (arith, active-most (s .args .core .screen) (s .pre)))
+    (λ c κs. search needs)
+    (λ c. c .activate .ensures ∙ rw (ne-eqb _ _ (c .before .before .if1 .left))))

@@ -1,0 +1,18 @@
+-- `second` meets its contract.
+use mathlib.Core.Path.{_∙_}
+use borrow.Author.Needs.{needs}
+use borrow.Author.Tests.{eq-eqb, ne-eqb}
+use Rattle.rules.specs.Plan.{windowPlan}
+use Rattle.plan.proofs.windows.second.Statement.{statement}
+use Rattle.plan.proofs.windows.second.Tie as tie
+
+pub second-spec : {M : Type 1} → statement M
+unfolding windowPlan
+second-spec =
+    tie.close
+    (tie.spec
+    (λ c κs. search needs)
+    (λ c κs. search needs)
+    (λ c. c .refusing .ensures ∙ rw (c .before .idle .ensures, eq-eqb _ _ (c .before .before .if1 .taken)))
+    (λ c κs. search needs)
+    (λ c. c .activate .ensures ∙ rw (ne-eqb _ _ (c .before .if1 .left))))

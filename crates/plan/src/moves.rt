@@ -1,0 +1,204 @@
+// Where the cursor may go.
+ghost use mathlib.Core.Path.{_≡_};
+ghost use mathlib.Core.Bool.{Bool, true, false};
+ghost use mathlib.Core.List.{List};
+ghost use Prim.Native.Nat.{ℕ, _+_, _-_, _*_, _<_, _≤_};
+ghost use lib.ListN.{length};
+ghost use Rattle.rules.specs.Cell.{among as amongOf};
+ghost use Rattle.rules.specs.Search.{guardedAt, previousOpen};
+ghost use Rattle.rules.specs.State.{Inside, segmentTop, segmentBottom, segmentStart, cursorOf};
+ghost use Rattle.rules.specs.Plan.{scroll as scrollOf, scrolls as scrollsOf, nextCell, atTop, upCell, reversePlan, downPlan, tabCell, backTabCell, addressPlan, movePlan};
+use super::forms::refusing;
+use super::forms::settling;
+use super::forms::writing;
+use page::search;
+use rules::Answer;
+use rules::Core;
+use rules::Land;
+use rules::Modes;
+use rules::Move;
+use rules::Plan;
+use rules::Screen;
+use rules::Write;
+use state::core::idle;
+use state::core::with_screen;
+use state::screen::cursor_of;
+use state::screen::segment_bottom;
+use state::screen::segment_end;
+use state::screen::segment_start;
+use state::screen::segment_top;
+
+// One of the n numbers from `first` on.
+pub fn among(first: u16, n: u16, v: u16) -> bool
+    requires { ⌜ first + n < 65536 ⌝ }
+    ensures { λ r. ⌜ r ≡ amongOf first n v ⌝ }
+{
+    if first <= v { v < first + n } else { false }
+}
+
+// The rows of the active segment move by one.
+pub fn scroll(x: Screen, down: bool) -> Write
+    ensures { λ r. ⌜ r ≡ scrollOf x down ⌝ }
+{
+    Write::Rows {
+        down: down,
+        top: segment_top(x),
+        bottom: segment_bottom(x),
+    }
+}
+
+pub fn scrolls(m: Modes) -> bool
+    ensures { λ r. ⌜ r ≡ scrollsOf m ⌝ }
+{
+    if m.autoscroll { !m.protect } else { false }
+}
+
+fn next_cell(x: Screen) -> u16
+    requires { ⌜ Inside x ⌝ }
+    ensures { λ r. ⌜ r ≡ nextCell x ⌝ }
+{
+    let at = cursor_of(x);
+    if at + 1 < segment_end(x) {
+        at + 1
+    } else {
+        segment_start(x)
+    }
+}
+
+fn at_top(x: Screen) -> bool
+    requires { ⌜ Inside x ⌝ }
+    ensures { λ r. ⌜ r ≡ atTop x ⌝ }
+{
+    cursor_of(x) < segment_start(x) + 80
+}
+
+fn up_cell(x: Screen) -> u16
+    requires { ⌜ Inside x ⌝ }
+    ensures { λ r. ⌜ r ≡ upCell x ⌝ }
+{
+    let at = cursor_of(x);
+    if at_top(x) {
+        segment_end(x) - 80 + at % 80
+    } else {
+        at - 80
+    }
+}
+
+fn reverse_plan(core: Core) -> Plan
+    requires { ⌜ Inside (core .screen) ⌝ }
+    ensures { λ r. ⌜ r ≡ reversePlan core ⌝ }
+{
+    let x = core.screen;
+    let at = cursor_of(x);
+    let next = idle(core);
+    if at_top(x) {
+        if core.modes.protect {
+            return settling(next, at);
+        }
+        return writing(next, scroll(x, true), Land::Settle(at));
+    }
+    settling(next, at - 80)
+}
+
+fn down_plan(core: Core, from: u16) -> Plan
+    requires { ⌜ Inside (core .screen) × (from < 1920) ⌝ }
+    ensures { λ r. ⌜ r ≡ downPlan core from ⌝ }
+{
+    let x = core.screen;
+    let m = core.modes;
+    let next = idle(core);
+    if from + 80 < segment_end(x) {
+        return settling(next, from + 80);
+    }
+    if scrolls(m) {
+        return writing(next, scroll(x, false), Land::Settle(from));
+    }
+    settling(next, segment_start(x) + from % 80)
+}
+
+// 08h: the previous open cell.
+fn back_cell(page: &[u16], on: bool, x: Screen) -> u16
+    requires { ⌜ (length (now page) ≡ 1920) × Inside x ⌝ }
+    ensures { λ r. ⌜ r ≡ previousOpen (guardedAt on (now (page .entry))) (segmentStart x) (cursorOf x) ⌝ }
+{
+    let start = segment_start(x);
+    let at = cursor_of(x);
+    search::previous_open(page, on, start as usize, at as usize) as u16
+}
+
+fn tab_cell(page: &[u16], tabs: &[bool; 80], core: Core) -> u16
+    requires { ⌜ (length (now page) ≡ 1920) × Inside (core .screen) ⌝ }
+    ensures { λ r. ⌜ r ≡ tabCell (guardedAt (core .modes .protect) (now (page .entry))) (now (tabs .entry)) core ⌝ }
+{
+    let x = core.screen;
+    let at = cursor_of(x);
+    if core.modes.protect {
+        let start = segment_start(x);
+        let end = segment_end(x);
+        return search::next_field(page, true, start as usize, end as usize, at as usize) as u16;
+    }
+    let stops = *tabs;
+    at - at % 80 + search::next_tab(stops, (at % 80) as usize) as u16
+}
+
+fn back_tab_cell(page: &[u16], tabs: &[bool; 80], core: Core) -> u16
+    requires { ⌜ (length (now page) ≡ 1920) × Inside (core .screen) ⌝ }
+    ensures { λ r. ⌜ r ≡ backTabCell (guardedAt (core .modes .protect) (now (page .entry))) (now (tabs .entry)) core ⌝ }
+{
+    let x = core.screen;
+    let at = cursor_of(x);
+    if core.modes.protect {
+        let start = segment_start(x);
+        let end = segment_end(x);
+        return search::previous_field(page, true, start as usize, end as usize, at as usize) as u16;
+    }
+    let stops = *tabs;
+    at - at % 80 + search::previous_tab(stops, (at % 80) as usize) as u16
+}
+
+// The cell at a row and a column, both counted from `base`, the row from the row `top` on.
+fn cell_at(top: u16, base: u16, row: u16, column: u16) -> u16
+    requires { ⌜ (base ≤ row) × ((top + (row - base) < 24) × ((base ≤ column) × (column - base < 80))) ⌝ }
+    ensures { λ r. ⌜ r ≡ (top + (row - base)) * 80 + (column - base) ⌝ }
+{
+    (top + (row - base)) * 80 + (column - base)
+}
+
+// A row and a column, counted from `base`, in the active segment of x.
+pub fn address_plan(core: Core, x: Screen, base: u16, row: u16, column: u16) -> Plan
+    requires { ⌜ (segmentTop x ≤ segmentBottom x) × ((segmentBottom x ≤ 24) × (base ≤ 32)) ⌝ }
+    ensures { λ r. ⌜ r ≡ addressPlan core x base row column ⌝ }
+{
+    let top = segment_top(x);
+    let rows = segment_bottom(x) - top;
+    let next = idle(core);
+    if among(base, rows, row) {
+        if among(base, 80, column) {
+            return settling(with_screen(next, x), cell_at(top, base, row, column));
+        }
+    }
+    refusing(next, Answer::BadArgument)
+}
+
+pub fn plan_move(page: &[u16], tabs: &[bool; 80], core: Core, m: Move) -> Plan
+    requires { ⌜ (length (now page) ≡ 1920) × Inside (core .screen) ⌝ }
+    ensures { λ r. ⌜ r ≡ movePlan (guardedAt (core .modes .protect) (now (page .entry))) (now (tabs .entry)) core m ⌝ }
+{
+    let x = core.screen;
+    let at = cursor_of(x);
+    let next = idle(core);
+    match m {
+        Move::Back => settling(next, back_cell(page, core.modes.protect, x)),
+        Move::Right => settling(next, next_cell(x)),
+        Move::Return => settling(next, at - at % 80),
+        Move::Home => settling(next, segment_start(x)),
+        Move::Up => settling(next, up_cell(x)),
+        Move::Reverse => reverse_plan(core),
+        Move::Down => down_plan(core, at),
+        Move::NextLine => down_plan(core, at - at % 80),
+        Move::Tab => settling(next, tab_cell(page, tabs, core)),
+        Move::BackTab => settling(next, back_tab_cell(page, tabs, core)),
+        Move::Address(r, k) => address_plan(core, x, 0x20, r as u16, k as u16),
+        Move::Decimal(r, k) => address_plan(core, x, 1, r as u16, k),
+    }
+}

@@ -1,0 +1,132 @@
+// Settings, replies, and the six commands that demand 3 leaves out.
+ghost use mathlib.Core.Path.{_≡_};
+ghost use mathlib.Core.Bool.{true};
+ghost use lib.ListN.{length};
+ghost use Rattle.rules.specs.Search.{guardedAt};
+ghost use Rattle.rules.specs.State.{Inside};
+ghost use Rattle.rules.specs.Possible.{screenOk};
+ghost use Rattle.rules.specs.Plan.{settingPlan, cursorRow, cursorColumn, sendPlan, clearAll as clearAllOf, protectOff as protectOffOf, excludedPlan};
+use super::forms::changing;
+use super::forms::plain;
+use super::forms::refusing;
+use super::forms::replying;
+use super::forms::writing;
+use super::writes::guarded_at;
+use rules::Answer;
+use rules::Core;
+use rules::Excluded;
+use rules::Land;
+use rules::Plan;
+use rules::Reply;
+use rules::Screen;
+use rules::Send;
+use rules::Setting;
+use rules::SetupChange;
+use rules::Write;
+use state::core::idle;
+use state::core::with_modes;
+use state::core::with_protect;
+use state::possible::feature_place;
+use state::screen::cursor_of;
+use state::screen::segment_end;
+use state::screen::segment_start;
+use state::screen::segment_top;
+
+pub fn plan_setting(core: Core, s: Setting) -> Plan
+    ensures { λ r. ⌜ r ≡ settingPlan core s ⌝ }
+{
+    let at = cursor_of(core.screen);
+    let next = idle(core);
+    match s {
+        Setting::Tab(b) => changing(next, SetupChange::Tab(at % 80, b)),
+        Setting::ClearTabs => changing(next, SetupChange::ClearTabs),
+        Setting::Attribute(n, a) => changing(next, SetupChange::Attribute(n, a)),
+        Setting::Feature(f) => changing(next, SetupChange::Feature(feature_place(f), f)),
+    }
+}
+
+// The text of the cells `from` up to `to`, guarded cells left out or not.
+fn text(all: bool, from: u16, to: u16) -> Reply
+    ensures { λ r. ⌜ r ≡ Reply.Text all from to ⌝ }
+{
+    Reply::Text {
+        all: all,
+        from: from,
+        to: to,
+    }
+}
+
+// The cursor's row from the segment's top, and its column, from 0.
+fn cursor_row(x: Screen) -> u8
+    requires { ⌜ Inside x ⌝ }
+    ensures { λ r. ⌜ r ≡ cursorRow x ⌝ }
+{
+    (cursor_of(x) / 80 - segment_top(x)) as u8
+}
+
+fn cursor_column(x: Screen) -> u8
+    ensures { λ r. ⌜ r ≡ cursorColumn x ⌝ }
+{
+    (cursor_of(x) % 80) as u8
+}
+
+pub fn plan_send(page: &[u16], core: Core, s: Send) -> Plan
+    requires { ⌜ (length (now page) ≡ 1920) × (screenOk (core .screen) ≡ true) ⌝ }
+    ensures { λ r. ⌜ r ≡ sendPlan (guardedAt (core .modes .protect) (now (page .entry))) core s ⌝ }
+{
+    let x = core.screen;
+    let at = cursor_of(x);
+    let row = cursor_row(x);
+    let column = cursor_column(x);
+    let next = idle(core);
+    match s {
+        Send::Acknowledge => replying(next, Reply::Acknowledge),
+        Send::Identity => replying(next, Reply::Identity),
+        Send::Cursor => replying(next, Reply::Address(0x20 + row, 0x20 + column)),
+        Send::SegmentCursor => replying(
+            next,
+            Reply::SegmentAddress(0x30 + x.active, 0x20 + row, 0x20 + column),
+        ),
+        Send::DecimalCursor => replying(next, Reply::Decimal(row + 1, column + 1)),
+        Send::Cell => {
+            if guarded_at(page, core.modes.protect, at) {
+                return refusing(next, Answer::Barred);
+            }
+            replying(next, Reply::Cell(at))
+        }
+        Send::OpenRow => replying(next, text(false, at - at % 80, at + 1)),
+        Send::OpenSegment => replying(next, text(false, segment_start(x), at + 1)),
+    }
+}
+
+// All cells of the segment become v, and the cursor goes home.
+fn clear_all(c: Core, v: u16) -> Plan
+    ensures { λ r. ⌜ r ≡ clearAllOf c v ⌝ }
+{
+    let x = c.screen;
+    let start = segment_start(x);
+    let all = Write::FillAll {
+        from: start,
+        to: segment_end(x),
+        value: v,
+    };
+    writing(c, all, Land::Settle(start))
+}
+
+pub fn plan_excluded(core: Core, e: Excluded) -> Plan
+    requires { ⌜ Inside (core .screen) ⌝ }
+    ensures { λ r. ⌜ r ≡ excludedPlan core e ⌝ }
+{
+    let x = core.screen;
+    let at = cursor_of(x);
+    let next = idle(core);
+    let off = with_modes(next, with_protect(next.modes, false));
+    match e {
+        Excluded::ProtectOff => plain(off),
+        Excluded::ClearNulls => clear_all(next, 0),
+        Excluded::ClearSpaces => clear_all(next, 32),
+        Excluded::ClearProtected => clear_all(off, 160),
+        Excluded::SendRow => replying(next, text(true, at - at % 80, at + 1)),
+        Excluded::SendSegment => replying(next, text(true, segment_start(x), at + 1)),
+    }
+}

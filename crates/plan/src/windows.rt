@@ -1,0 +1,117 @@
+// Splits and activation.
+ghost use mathlib.Core.Path.{_≡_};
+ghost use mathlib.Core.Bool.{true};
+ghost use Prim.Native.Nat.{_≤_};
+ghost use Rattle.rules.specs.Possible.{screenOk};
+ghost use Rattle.rules.specs.Plan.{unsplitScreen, splitScreen, activate as activateOf, isSegment, windowPlan};
+use super::forms::plain;
+use super::forms::refusing;
+use super::forms::settling;
+use super::moves::address_plan;
+use super::moves::among;
+use rules::Answer;
+use rules::Core;
+use rules::Plan;
+use rules::Screen;
+use rules::Window;
+use state::core::idle;
+use state::core::with_screen;
+use state::screen::activated;
+use state::screen::cursor_of;
+
+fn unsplit_screen() -> Screen
+    ensures { λ r. ⌜ r ≡ unsplitScreen ⌝ }
+{
+    Screen {
+        active: 0,
+        split: 0,
+        cursor0: 0,
+        cursor1: 0,
+    }
+}
+
+// Split at row s, which is 2 to 24.
+fn split_screen(s: u8) -> Screen
+    requires { ⌜ (1 ≤ s) × (s ≤ 24) ⌝ }
+    ensures { λ r. ⌜ r ≡ splitScreen s ⌝ }
+{
+    Screen {
+        active: 0,
+        split: s,
+        cursor0: 0,
+        cursor1: (s - 1) as u16 * 80,
+    }
+}
+
+fn activate(core: Core, n: u8) -> Plan
+    ensures { λ r. ⌜ r ≡ activateOf core n ⌝ }
+{
+    let x = activated(core.screen, n);
+    settling(with_screen(idle(core), x), cursor_of(x))
+}
+
+fn is_segment(x: Screen, n: u8) -> bool
+    ensures { λ r. ⌜ r ≡ isSegment x n ⌝ }
+{
+    if n == 0x30 {
+        return true;
+    }
+    if n == 0x31 { x.split != 0 } else { false }
+}
+
+// ESC - n r c: a place in segment n, which becomes active.
+fn place(core: Core, n: u8, r: u8, k: u8) -> Plan
+    requires { ⌜ screenOk (core .screen) ≡ true ⌝ }
+    ensures { λ p. ⌜ p ≡ windowPlan core (Window.Place n r k) ⌝ }
+{
+    let x = core.screen;
+    if is_segment(x, n) {
+        return address_plan(core, activated(x, n - 0x30), 0x20, r as u16, k as u16);
+    }
+    refusing(idle(core), Answer::BadArgument)
+}
+
+fn split(core: Core, r: u8) -> Plan
+    ensures { λ p. ⌜ p ≡ windowPlan core (Window.Split r) ⌝ }
+{
+    let next = idle(core);
+    if among(0x21, 23, r as u16) {
+        return settling(with_screen(next, split_screen(r - 0x1f)), 0);
+    }
+    refusing(next, Answer::BadArgument)
+}
+
+fn other(core: Core) -> Plan
+    requires { ⌜ screenOk (core .screen) ≡ true ⌝ }
+    ensures { λ p. ⌜ p ≡ windowPlan core Window.Other ⌝ }
+{
+    let x = core.screen;
+    if x.split == 0 {
+        return plain(idle(core));
+    }
+    activate(core, 1 - x.active)
+}
+
+fn second(core: Core) -> Plan
+    ensures { λ p. ⌜ p ≡ windowPlan core Window.Second ⌝ }
+{
+    let x = core.screen;
+    if x.split == 0 {
+        return refusing(idle(core), Answer::BadArgument);
+    }
+    activate(core, 1)
+}
+
+pub fn plan_window(core: Core, w: Window) -> Plan
+    requires { ⌜ screenOk (core .screen) ≡ true ⌝ }
+    ensures { λ p. ⌜ p ≡ windowPlan core w ⌝ }
+{
+    match w {
+        Window::Unsplit => settling(with_screen(idle(core), unsplit_screen()), 0),
+        Window::Split(r) => split(core, r),
+        Window::Other => other(core),
+        Window::First => activate(core, 0),
+        Window::Second => second(core),
+        Window::Place(n, r, k) => place(core, n, r, k),
+    }
+}

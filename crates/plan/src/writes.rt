@@ -1,0 +1,176 @@
+// Stores, edits and clears.
+ghost use mathlib.Core.Path.{_≡_};
+ghost use mathlib.Core.Bool.{false};
+ghost use Prim.Native.Nat.{_<_};
+ghost use lib.ListN.{length, getD};
+ghost use Rattle.rules.specs.Search.{guardedAt};
+ghost use Rattle.rules.specs.Cell.{written};
+ghost use Rattle.rules.specs.State.{Inside, cursorOf, idle as idleOf};
+ghost use Rattle.rules.specs.Plan.{unlessGuarded, writing as writingOf, storing as storingOf, advancing as advancingOf, storePlan, rowEditPlan, editPlan, clearPlan};
+use super::forms::refusing;
+use super::forms::writing;
+use super::forms::writing_two;
+use super::moves::scroll;
+use super::moves::scrolls;
+use page::cell::written_cell;
+use page::search::is_guarded_at;
+use page::search::row_end;
+use rules::Answer;
+use rules::Clear;
+use rules::Contents;
+use rules::Core;
+use rules::Edit;
+use rules::Land;
+use rules::Plan;
+use rules::Write;
+use state::core::idle;
+use state::screen::cursor_of;
+use state::screen::segment_bottom;
+use state::screen::segment_end;
+use state::screen::segment_start;
+use state::screen::segment_top;
+
+// Whether the cell is guarded.
+pub fn guarded_at(page: &[u16], on: bool, at: u16) -> bool
+    requires { ⌜ (length (now page) ≡ 1920) × (at < 1920) ⌝ }
+    ensures { λ r. ⌜ r ≡ getD (guardedAt on (now (page .entry))) at false ⌝ }
+{
+    is_guarded_at(page, on, at as usize)
+}
+
+fn storing(insert: bool, at: u16, v: u16) -> Write
+    requires { ⌜ at < 1920 ⌝ }
+    ensures { λ r. ⌜ r ≡ storingOf insert at v ⌝ }
+{
+    if insert {
+        return Write::Edit {
+            right: true,
+            at: at,
+            value: v,
+        };
+    }
+    Write::Fill {
+        from: at,
+        to: at + 1,
+        value: v,
+    }
+}
+
+// The write of a store, and where the cursor goes after it.
+fn advancing(core: Core, w: Write) -> Plan
+    requires { ⌜ Inside (core .screen) ⌝ }
+    ensures { λ r. ⌜ r ≡ advancingOf core w ⌝ }
+{
+    let x = core.screen;
+    let m = core.modes;
+    let at = cursor_of(x);
+    let end = segment_end(x);
+    let next = idle(core);
+    if at + 1 < end {
+        return writing(next, w, Land::Settle(at + 1));
+    }
+    if scrolls(m) {
+        return writing_two(next, w, scroll(x, false), Land::Settle(end - 80));
+    }
+    writing(next, w, Land::Settle(segment_start(x)))
+}
+
+pub fn plan_store(page: &[u16], core: Core, k: Contents) -> Plan
+    requires { ⌜ (length (now page) ≡ 1920) × Inside (core .screen) ⌝ }
+    ensures { λ r. ⌜ r ≡ storePlan (guardedAt (core .modes .protect) (now (page .entry))) core k ⌝ }
+{
+    let x = core.screen;
+    let at = cursor_of(x);
+    if guarded_at(page, core.modes.protect, at) {
+        return refusing(idle(core), Answer::Barred);
+    }
+    let v = written_cell(k, core.modes.mark);
+    advancing(core, storing(core.modes.insert, at, v))
+}
+
+// ESC Q and ESC W: the edit run moves by one cell and a space comes in.
+fn edit_cells(page: &[u16], core: Core, right: bool) -> Plan
+    requires { ⌜ (length (now page) ≡ 1920) × Inside (core .screen) ⌝ }
+    ensures { λ r. ⌜ r ≡ unlessGuarded (guardedAt (core .modes .protect) (now (page .entry))) core (writingOf (idleOf core) (Write.Edit right (cursorOf (core .screen)) 32) Land.Stay) ⌝ }
+{
+    let x = core.screen;
+    let at = cursor_of(x);
+    let next = idle(core);
+    if guarded_at(page, core.modes.protect, at) {
+        return refusing(next, Answer::Barred);
+    }
+    let w = Write::Edit {
+        right: right,
+        at: at,
+        value: 32,
+    };
+    writing(next, w, Land::Stay)
+}
+
+// ESC E and ESC R: the rows from the cursor's on move by one row.
+fn edit_rows(core: Core, down: bool) -> Plan
+    requires { ⌜ Inside (core .screen) ⌝ }
+    ensures { λ r. ⌜ r ≡ rowEditPlan core down ⌝ }
+{
+    let x = core.screen;
+    let at = cursor_of(x);
+    let next = idle(core);
+    if core.modes.protect {
+        return refusing(next, Answer::Barred);
+    }
+    let w = Write::Rows {
+        down: down,
+        top: at / 80,
+        bottom: segment_bottom(x),
+    };
+    writing(next, w, Land::Settle(at - at % 80))
+}
+
+pub fn plan_edit(page: &[u16], core: Core, e: Edit) -> Plan
+    requires { ⌜ (length (now page) ≡ 1920) × Inside (core .screen) ⌝ }
+    ensures { λ r. ⌜ r ≡ editPlan (guardedAt (core .modes .protect) (now (page .entry))) core e ⌝ }
+{
+    match e {
+        Edit::InsertCell => edit_cells(page, core, true),
+        Edit::DeleteCell => edit_cells(page, core, false),
+        Edit::InsertRow => edit_rows(core, true),
+        Edit::DeleteRow => edit_rows(core, false),
+    }
+}
+
+// The open cells from `from` up to `to` are cleared.
+fn fill(k: Contents, from: u16, to: u16) -> Write
+    ensures { λ r. ⌜ r ≡ Write.Fill from to (written k false) ⌝ }
+{
+    Write::Fill {
+        from: from,
+        to: to,
+        value: written_cell(k, false),
+    }
+}
+
+pub fn plan_clear(core: Core, x: Clear) -> Plan
+    requires { ⌜ Inside (core .screen) ⌝ }
+    ensures { λ r. ⌜ r ≡ clearPlan core x ⌝ }
+{
+    let s = core.screen;
+    let at = cursor_of(s);
+    let start = segment_start(s);
+    let end = segment_end(s);
+    let row = row_end(80, at as usize) as u16;
+    let next = idle(core);
+    match x {
+        Clear::Row(k) => writing(next, fill(k, at, row), Land::Stay),
+        Clear::Rest(k) => writing(next, fill(k, at, end), Land::Stay),
+        Clear::Segment(k) => writing(next, fill(k, start, end), Land::Settle(start)),
+        Clear::Column => {
+            let w = Write::Column {
+                top: segment_top(s),
+                bottom: segment_bottom(s),
+                column: at % 80,
+                value: 160,
+            };
+            writing(next, w, Land::Settle(at))
+        }
+    }
+}

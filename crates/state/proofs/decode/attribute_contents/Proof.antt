@@ -1,0 +1,14 @@
+-- `attribute_contents` meets its contract.
+-- Assumes nothing.
+use Rattle.state.proofs.Tests.{tests}
+use Rattle.rules.specs.Decode.{attributeContents}
+use Rattle.state.proofs.decode.attribute_contents.Statement.{statement}
+use Rattle.state.proofs.decode.attribute_contents.Tie as tie
+
+pub attribute-contents-spec : {M : Type 1} → statement M
+unfolding attributeContents
+attribute-contents-spec =
+    tie.close
+    (tie.spec
+    (λ c. search tests)
+    (λ c. search tests))

@@ -1,0 +1,30 @@
+-- `control` meets its contract: each arm is a row of the table, and the last one none of them.
+-- Assumes nothing.
+use mathlib.Core.Path.{sym, ap}
+use Rattle.rules.specs.declared.Command.the-variants as Command
+use Rattle.rules.specs.declared.Decoded.the-variants as Decoded
+use Rattle.rules.specs.Decode.{lookup, controls}
+use Rattle.state.proofs.Sequences.{none}
+use Rattle.state.proofs.decode.control.Statement.{statement}
+use Rattle.state.proofs.decode.control.Tie as tie
+
+pub control-spec : {M : Type 1} → statement M
+unfolding lookup
+control-spec =
+    tie.close
+    (tie.spec
+    (λ c. sym (ap (lookup controls (Decoded.Do Command.Nothing)) (c .match .keys1)))
+    (λ c. sym (ap (lookup controls (Decoded.Do Command.Nothing)) (c .match .keys2)))
+    (λ c. sym (ap (lookup controls (Decoded.Do Command.Nothing)) (c .match .keys3)))
+    (λ c. sym (ap (lookup controls (Decoded.Do Command.Nothing)) (c .match .keys4)))
+    (λ c. sym (ap (lookup controls (Decoded.Do Command.Nothing)) (c .match .keys5)))
+    (λ c. sym (ap (lookup controls (Decoded.Do Command.Nothing)) (c .match .keys6)))
+    (λ c. sym (ap (lookup controls (Decoded.Do Command.Nothing)) (c .match .keys7)))
+    (λ c. sym (ap (lookup controls (Decoded.Do Command.Nothing)) (c .match .keys8)))
+    (λ c. sym (ap (lookup controls (Decoded.Do Command.Nothing)) (c .match .keys9)))
+    (λ c. sym (ap (lookup controls (Decoded.Do Command.Nothing)) (c .match .keys10)))
+    (λ c. sym (ap (lookup controls (Decoded.Do Command.Nothing)) (c .match .keys11)))
+    (λ c. sym (ap (lookup controls (Decoded.Do Command.Nothing)) (c .match .keys12)))
+    (λ c. sym (ap (lookup controls (Decoded.Do Command.Nothing)) (c .match .keys13)))
+    (λ c. sym (ap (lookup controls (Decoded.Do Command.Nothing)) (c .match .keys14)))
+    (λ c. sym (none (Unit {0}) (c .before .args .b) controls (Decoded.Do Command.Nothing) (c .match .rest) .1)))

@@ -1,0 +1,24 @@
+-- `decimal_row` meets its contract: fewer than 2 digits make less than 10, so the sums fit.
+-- Assumes nothing.
+use native.Mathlib.Omega.{arith}
+use borrow.Author.Tests.{lt-ltb, le-ltb, le-leb, lt-leb}
+use Rattle.state.proofs.Sequences.{smaller}
+use Rattle.rules.specs.Decode.{digitRule, decimalRowRule}
+use borrow.Author.Needs.{needs}
+use Rattle.state.proofs.decode.decimal_row.Statement.{statement}
+use Rattle.state.proofs.decode.decimal_row.Tie as tie
+
+pub decimal-row-spec : {M : Type 1} → statement M
+unfolding digitRule decimalRowRule
+decimal-row-spec =
+    tie.close
+    (tie.spec
+    (λ c κs. search needs)
+    (λ c. rw (← c .before .and .ensures, c .if1 .taken))
+    (λ c. rw (← c .before .before .and .ensures, c .before .if1 .left, lt-leb 0x30 (c .before .before .before .args .b) (c .if2 .taken)))
+    (λ c. rw (← c .before .before .before .and .ensures, c .before .before .if1 .left, le-leb 0x30 (c .before .before .before .before .args .b) (c .before .if2 .left), le-ltb (c .before .before .before .before .args .b) 0x3a (c .if3 .taken)))
+    (λ c. rw (← c .before .before .before .before .and .ensures, c .before .before .before .if1 .left, le-leb 0x30 (c .before .before .before .before .before .args .b) (c .before .before .if2 .left), lt-ltb (c .before .before .before .before .before .args .b) 0x3a (c .before .if3 .left), le-ltb (c .before .before .before .before .before .args .n) 2 (c .if4 .taken)))
+    (λ c. omega (arith, smaller 1 (c .if4 .left) (c .before .before .before .before .before .pre)))
+    (λ c. omega (arith, smaller 1 (c .if4 .left) (c .before .before .before .before .before .pre)))
+    (λ c. omega (arith, smaller 1 (c .if4 .left) (c .before .before .before .before .before .pre)))
+    (λ c. rw (← c .before .before .before .before .and .ensures, c .before .before .before .if1 .left, le-leb 0x30 (c .before .before .before .before .before .args .b) (c .before .before .if2 .left), lt-ltb (c .before .before .before .before .before .args .b) 0x3a (c .before .if3 .left), lt-ltb (c .before .before .before .before .before .args .n) 2 (c .if4 .left))))

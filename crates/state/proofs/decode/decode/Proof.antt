@@ -1,0 +1,77 @@
+-- `decode` meets its contract: each arm is a clause of the definition; a possible sequence gives what its callees require.
+-- Assumes nothing.
+use mathlib.Core.Path.{_∙_}
+use Rattle.rules.specs.Decode.{decodeRule}
+use Rattle.state.proofs.Sequences.{row-digits, column-digits, text-key}
+use borrow.Author.Needs.{needs}
+use Rattle.state.proofs.decode.decode.Statement.{statement}
+use Rattle.state.proofs.decode.decode.Tie as tie
+
+pub decode-spec : {M : Type 1} → statement M
+unfolding decodeRule
+decode-spec =
+    tie.close
+    (tie.spec
+    (λ c. search needs)
+    (λ c κs. search needs)
+    (λ c. search needs)
+    (λ c κs. search needs)
+    (λ c. search needs)
+    (λ c. search needs)
+    (λ c. search needs)
+    (λ c. search needs)
+    (λ c. search needs)
+    (λ c. search needs)
+    (λ c κs. row-digits (c .before .before .before .pre .0) (c .before .before .before .pre .1) (c .before .p4 .given .1))
+    (λ c. search needs)
+    (λ c κs. column-digits (c .before .before .before .pre .0) (c .before .before .before .pre .1) (c .before .p5 .given .1))
+    (λ c. search needs)
+    (λ c κs. search needs)
+    (λ c. search needs)
+    (λ c. search needs)
+    (λ c κs. search needs)
+    (λ c κs. search needs)
+    (λ c κs. search needs)
+    (λ c. search needs)
+    (λ c κs. search needs)
+    (λ c κs. search needs)
+    (λ c. search needs)
+    (λ c κs. search needs)
+    (λ c κs. search needs)
+    (λ c κs. search needs)
+    (λ c. search needs)
+    (λ c κs. search needs)
+    (λ c κs. search needs)
+    (λ c κs. search needs)
+    (λ c. search needs)
+    (λ c κs. search needs)
+    (λ c. search needs)
+    (λ c. search needs)
+    (λ c κs. search needs)
+    (λ c. search needs)
+    (λ c κs. search needs)
+    (λ c. search needs)
+    (λ c κs. text-key (c .before .before .before .pre .0) (c .before .before .before .pre .1) (c .before .p7 .given .1))
+    (λ c. search needs)
+    (λ c κs. search needs)
+    (λ c. c .idle .ensures ∙ rw (c .before .enum-told .given .1))
+    (λ c. c .escape .ensures ∙ rw (c .before .enum-told2 .given .1))
+    (λ c. rw (c .enum-told3 .given .1))
+    (λ c. rw (c .before .p .given .1))
+    (λ c. rw (c .enum-told4 .given .1))
+    (λ c. rw (c .before .p2 .given .1))
+    (λ c. rw (c .before .p3 .given .1))
+    (λ c. c .decimal-row .ensures ∙ rw (c .before .before .p4 .given .1))
+    (λ c. c .decimal-column .ensures ∙ rw (c .before .before .p5 .given .1))
+    (λ c. c .split .ensures ∙ rw (c .before .enum-told5 .given .1))
+    (λ c. rw (c .enum-told6 .given .1))
+    (λ c. c .judged .ensures ∙ rw (c .before .attribute-contents .ensures, c .before .before .is-attribute .ensures, c .before .before .before .enum-told7 .given .1))
+    (λ c. c .judged2 .ensures ∙ rw (c .before .among .ensures, c .before .before .enum-told8 .given .1))
+    (λ c. c .judged3 .ensures ∙ rw (c .before .attribute-contents2 .ensures, c .before .before .is-attribute2 .ensures, c .before .before .before .enum-told9 .given .1))
+    (λ c. c .judged4 .ensures ∙ rw (c .before .or .ensures, c .before .before .among2 .ensures, c .before .before .before .enum-told10 .given .1))
+    (λ c. c .feature .ensures ∙ rw (c .before .enum-told11 .given .1))
+    (λ c. rw (c .enum-told12 .given .1))
+    (λ c. c .field .ensures ∙ rw (c .before .before .p6 .given .1))
+    (λ c. c .key-value .ensures ∙ rw (c .before .enum-told13 .given .1))
+    (λ c. c .key-text .ensures ∙ rw (c .before .before .p7 .given .1))
+    (λ c. c .key-over .ensures ∙ rw (c .before .before .p8 .given .1)))

@@ -1,0 +1,19 @@
+-- `feature` meets its contract.
+-- Assumes nothing.
+use mathlib.Core.Path.{_∙_}
+use borrow.Author.Tests.{ne-eqb}
+use Rattle.state.proofs.Tests.{tests}
+use Rattle.rules.specs.Decode.{featureRule}
+use borrow.Author.Needs.{needs}
+use Rattle.state.proofs.decode.feature.Statement.{statement}
+use Rattle.state.proofs.decode.feature.Tie as tie
+
+pub feature-spec : {M : Type 1} → statement M
+unfolding featureRule
+feature-spec =
+    tie.close
+    (tie.spec
+    (λ c. search tests)
+    (λ c κs. search needs)
+    (λ c κs. search needs)
+    (λ c. c .judged .ensures ∙ rw (c .before .feature-place .ensures, ne-eqb (c .before .before .before .args .f) 0x3a (c .before .before .if1 .left))))

@@ -1,0 +1,13 @@
+-- `judged` meets its contract.
+-- Assumes nothing.
+use Rattle.rules.specs.Decode.{judged}
+use Rattle.state.proofs.decode.judged.Statement.{statement}
+use Rattle.state.proofs.decode.judged.Tie as tie
+
+pub judged-spec : {M : Type 1} → statement M
+unfolding judged
+judged-spec =
+    tie.close
+    (tie.spec
+    (λ c. rw (c .if1 .taken))
+    (λ c. rw (c .if1 .left)))

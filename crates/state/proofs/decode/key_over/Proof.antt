@@ -1,0 +1,14 @@
+-- `key_over` meets its contract.
+-- Assumes nothing.
+use Rattle.state.proofs.Tests.{tests}
+use Rattle.rules.specs.Decode.{keyOverRule}
+use Rattle.state.proofs.decode.key_over.Statement.{statement}
+use Rattle.state.proofs.decode.key_over.Tie as tie
+
+pub key-over-spec : {M : Type 1} → statement M
+unfolding keyOverRule
+key-over-spec =
+    tie.close
+    (tie.spec
+    (λ c. search tests)
+    (λ c. search tests))

@@ -1,0 +1,18 @@
+-- `key_text` meets its contract.
+-- Assumes nothing.
+use Rattle.state.proofs.Tests.{tests}
+use borrow.Author.Tests.{eq-eqb}
+use Rattle.rules.specs.Decode.{keyTextRule}
+use borrow.Author.Needs.{needs}
+use Rattle.state.proofs.decode.key_text.Statement.{statement}
+use Rattle.state.proofs.decode.key_text.Tie as tie
+
+pub key-text-spec : {M : Type 1} → statement M
+unfolding keyTextRule
+key-text-spec =
+    tie.close
+    (tie.spec
+    (λ c κs. search needs)
+    (λ c. rw (c .key-place .ensures, eq-eqb (c .before .before .args .b) 0x7f (c .before .if1 .taken)))
+    (λ c. search tests)
+    (λ c. search tests))

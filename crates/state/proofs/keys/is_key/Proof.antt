@@ -1,0 +1,17 @@
+-- `is_key` meets its contract.
+-- Assumes nothing.
+use mathlib.Core.Path.{_∙_}
+use Rattle.rules.specs.Possible.{isKey}
+use borrow.Author.Needs.{needs}
+use Rattle.state.proofs.keys.is_key.Statement.{statement}
+use Rattle.state.proofs.keys.is_key.Tie as tie
+
+pub is-key-spec : {M : Type 1} → statement M
+unfolding isKey
+is-key-spec =
+    tie.close
+    (tie.spec
+    (λ c κs. search needs)
+    (λ c κs. search needs)
+    (λ c κs. search needs)
+    (λ c. c .or .ensures ∙ rw (c .before .among2 .ensures, c .before .before .among .ensures)))

@@ -1,0 +1,17 @@
+-- `key_at` meets its contract: the place of a key value is below 32.
+-- Assumes nothing.
+use native.Mathlib.Omega.{arith}
+use Rattle.state.proofs.KeyText.{value}
+use borrow.Author.Needs.{needs}
+use Rattle.state.proofs.keys.key_at.Statement.{statement}
+use Rattle.state.proofs.keys.key_at.Tie as tie
+
+pub key-at-spec : {M : Type 1} → statement M
+key-at-spec =
+    tie.close
+    (tie.spec
+    (λ c κs. search needs)
+    (λ c. search needs)
+    (λ c. search needs)
+    (λ c. let k = value (c .before .args .v) (c .before .pre) in omega (arith, c .key-place .ensures))
+    (λ c. rw (c .before .key-place .ensures)))

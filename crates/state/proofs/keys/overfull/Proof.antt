@@ -1,0 +1,16 @@
+-- `overfull` meets its contract.
+-- Assumes nothing.
+use Rattle.rules.specs.Step.{overfull}
+use borrow.Author.Needs.{needs}
+use Rattle.state.proofs.keys.overfull.Statement.{statement}
+use Rattle.state.proofs.keys.overfull.Tie as tie
+
+pub overfull-spec : {M : Type 1} → statement M
+unfolding overfull
+overfull-spec =
+    tie.close
+    (tie.spec
+    (λ c κs. search needs)
+    (λ c κs. search needs)
+    (λ c κs. search needs)
+    (λ c. rw (c .key-bytes .ensures, c .before .set-key .ensures, c .before .before .clean-key .ensures)))

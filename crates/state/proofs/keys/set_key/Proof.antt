@@ -1,0 +1,18 @@
+-- `set_key` meets its contract.
+-- Assumes nothing.
+use mathlib.Core.Path.{_≡_, sym}
+use native.Mathlib.Omega.{arith}
+use lib.ListN.{length}
+use lib.Seq.{set-out}
+use borrow.Author.Needs.{needs}
+use Rattle.state.proofs.keys.set_key.Statement.{statement}
+use Rattle.state.proofs.keys.set_key.Tie as tie
+
+pub set-key-spec : {M : Type 1} → statement M
+set-key-spec =
+    tie.close
+    (tie.spec
+    (λ c. search needs)
+    (λ c. search needs)
+    (λ c. search needs)
+    (λ c. let e : length (c .before .args .keys) ≡ 32 = search needs in sym (set-out (c .before .args .keys) (c .before .args .n) (c .before .args .k) (omega (arith, e, c .if1 .left)))))

@@ -1,0 +1,24 @@
+-- `feature_place` meets its contract.
+-- Assumes nothing.
+use Rattle.rules.specs.Possible.{featurePlace}
+use borrow.Author.Needs.{needs}
+use Rattle.state.proofs.possible.feature_place.Statement.{statement}
+use Rattle.state.proofs.possible.feature_place.Tie as tie
+
+pub feature-place-spec : {M : Type 1} → statement M
+unfolding featurePlace
+feature-place-spec =
+    tie.close
+    (tie.spec
+    (λ c κs. search needs)
+    (λ c. rw (← c .before .among .ensures, c .if1 .taken))
+    (λ c κs. search needs)
+    (λ c. rw (← c .before .before .before .among .ensures, c .before .before .if1 .left, ← c .before .among2 .ensures, c .if2 .taken))
+    (λ c κs. search needs)
+    (λ c κs. search needs)
+    (λ c. rw (← c .before .before .before .before .before .before .among .ensures, c .before .before .before .before .before .if1 .left, ← c .before .before .before .before .among2 .ensures, c .before .before .before .if2 .left, ← c .before .before .among3 .ensures, ← c .before .or .ensures, c .if3 .taken))
+    (λ c κs. search needs)
+    (λ c. rw (← c .before .before .before .before .before .before .before .before .among .ensures, c .before .before .before .before .before .before .before .if1 .left, ← c .before .before .before .before .before .before .among2 .ensures, c .before .before .before .before .before .if2 .left, ← c .before .before .before .before .among3 .ensures, ← c .before .before .before .or .ensures, c .before .before .if3 .left, ← c .before .among4 .ensures, c .if4 .taken))
+    (λ c κs. search needs)
+    (λ c. rw (← c .before .before .before .before .before .before .before .before .before .before .among .ensures, c .before .before .before .before .before .before .before .before .before .if1 .left, ← c .before .before .before .before .before .before .before .before .among2 .ensures, c .before .before .before .before .before .before .before .if2 .left, ← c .before .before .before .before .before .before .among3 .ensures, ← c .before .before .before .before .before .or .ensures, c .before .before .before .before .if3 .left, ← c .before .before .before .among4 .ensures, c .before .before .if4 .left, ← c .before .among5 .ensures, c .if5 .taken))
+    (λ c. rw (← c .before .before .before .before .before .before .before .before .before .before .among .ensures, c .before .before .before .before .before .before .before .before .before .if1 .left, ← c .before .before .before .before .before .before .before .before .among2 .ensures, c .before .before .before .before .before .before .before .if2 .left, ← c .before .before .before .before .before .before .among3 .ensures, ← c .before .before .before .before .before .or .ensures, c .before .before .before .before .if3 .left, ← c .before .before .before .among4 .ensures, c .before .before .if4 .left, ← c .before .among5 .ensures, c .if5 .left)))

@@ -1,0 +1,18 @@
+-- `is_attribute` meets its contract.
+-- Assumes nothing.
+use mathlib.Core.Path.{_∙_}
+use Rattle.rules.specs.Possible.{isAttribute}
+use borrow.Author.Needs.{needs}
+use Rattle.state.proofs.possible.is_attribute.Statement.{statement}
+use Rattle.state.proofs.possible.is_attribute.Tie as tie
+
+pub is-attribute-spec : {M : Type 1} → statement M
+unfolding isAttribute
+is-attribute-spec =
+    tie.close
+    (tie.spec
+    (λ c κs. search needs)
+    (λ c κs. search needs)
+    (λ c κs. search needs)
+    (λ c κs. search needs)
+    (λ c. c .or2 .ensures ∙ rw (c .before .or .ensures, c .before .before .among2 .ensures, c .before .before .before .among .ensures)))

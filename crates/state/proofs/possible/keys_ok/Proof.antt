@@ -1,0 +1,59 @@
+-- `keys_ok`: the keys from i on decide.
+-- Assumes nothing.
+use mathlib.Core.Path.{_≡_, sym, _∙_}
+use mathlib.Core.List.{[]}
+use Prim.Native.Nat.{_≤_, _<_, _-_}
+use native.Mathlib.Omega.{arith}
+use native.Mathlib.Numerals.{add-one}
+use borrow.Author.Needs.{needs}
+use borrow.Author.Tests.{not-true, not-false}
+use lib.ListN.{length, drop}
+use lib.Seq.{drop-cons, drop-length}
+use Rattle.rules.specs.Possible.{keysOk}
+use Rattle.state.proofs.possible.keys_ok.Statement.{statement}
+use Rattle.state.proofs.possible.keys_ok.Tie as tie
+
+abbrev Inv-loop : tie.InvT-loop
+Inv-loop keys i₀ i = (i ≤ 32) × (keysOk keys ≡ keysOk (drop i keys))
+
+abbrev μ-loop : tie.MeasureT-loop
+μ-loop keys i₀ i = 32 - i
+
+returns : tie.Need-returns Inv-loop μ-loop
+unfolding keysOk
+returns c =
+    let x = c .before .before .before .before .loop in
+    let keys = c .before .before .before .before .before .args .t1 in
+    let h : x .i < length keys = search needs in
+    sym (x .inv .1 ∙ rw (drop-cons keys (x .i) record { len = 0; bytes = [] } h, ← c .before .key-ok .ensures, not-true (c .before .key-ok .result) (c .if1 .taken)))
+
+loop-again : tie.Need-loop-again Inv-loop μ-loop
+unfolding keysOk
+loop-again c =
+    let x = c .before .before .before .before .loop in
+    let keys = c .before .before .before .before .before .args .t1 in
+    let h : x .i < length keys = search needs in
+    (omega arith, x .inv .1 ∙ rw (drop-cons keys (x .i) record { len = 0; bytes = [] } h, ← c .before .key-ok .ensures, not-false (c .before .key-ok .result) (c .if1 .left), add-one))
+
+returns-2 : tie.Need-returns-2 Inv-loop μ-loop
+unfolding keysOk
+returns-2 c =
+    let x = c .before .loop in
+    let i : length (c .before .before .args .t1) ≡ x .i = search needs in
+    sym (x .inv .1 ∙ rw (← i, drop-length))
+
+pub keys-ok-spec : {M : Type 1} → statement M
+keys-ok-spec =
+    tie.close
+    (tie.spec
+    Inv-loop
+    μ-loop
+    (λ c. search needs)
+    (λ c. search needs)
+    (λ c. search needs)
+    (λ c κs. search needs)
+    returns
+    (λ c. search needs)
+    (λ c. search needs)
+    loop-again
+    returns-2)

@@ -1,0 +1,25 @@
+-- `possible` meets its contract.
+-- Assumes nothing.
+use mathlib.Core.Path.{_∙_}
+use Rattle.rules.specs.Possible.{possible}
+use borrow.Author.Needs.{needs}
+use Rattle.state.proofs.possible.possible.Statement.{statement}
+use Rattle.state.proofs.possible.possible.Tie as tie
+
+pub possible-spec : {M : Type 1} → statement M
+unfolding possible
+possible-spec =
+    tie.close
+    (tie.spec
+    (λ c κs. search needs)
+    (λ c κs. search needs)
+    (λ c κs. search needs)
+    (λ c κs. search needs)
+    (λ c κs. search needs)
+    (λ c κs. search needs)
+    (λ c κs. search needs)
+    (λ c κs. search needs)
+    (λ c κs. search needs)
+    (λ c κs. search needs)
+    (λ c κs. search needs)
+    (λ c. c .and5 .ensures ∙ rw (c .before .and4 .ensures, c .before .before .before .before .and3 .ensures, c .before .before .before .before .before .and2 .ensures, c .before .before .before .before .before .before .before .before .and .ensures, c .before .before .before .screen-ok .ensures, c .before .before .keys-ok .ensures, c .before .before .before .before .before .before .before .attributes-ok .ensures, c .before .before .before .before .before .before .features-ok .ensures, c .before .before .before .before .before .before .before .before .before .before .bells-ok .ensures, c .before .before .before .before .before .before .before .before .before .pending-ok .ensures)))

@@ -1,0 +1,19 @@
+-- `screen_ok` meets its contract.
+-- Assumes nothing.
+use mathlib.Core.Path.{sym, _∙_}
+use borrow.Author.Tests.{eq-eqb, ne-eqb}
+use Rattle.state.proofs.Tests.{pick-true, pick-false}
+use Rattle.rules.specs.Possible.{screenOk}
+use borrow.Author.Needs.{needs}
+use Rattle.state.proofs.possible.screen_ok.Statement.{statement}
+use Rattle.state.proofs.possible.screen_ok.Tie as tie
+
+pub screen-ok-spec : {M : Type 1} → statement M
+unfolding screenOk
+screen-ok-spec =
+    tie.close
+    (tie.spec
+    (λ c κs. search needs)
+    (λ c κs. search needs)
+    (λ c. c .unsplit-ok .ensures ∙ sym (pick-true _ (eq-eqb _ _ (c .before .if1 .taken))))
+    (λ c. c .split-ok .ensures ∙ sym (pick-false _ (ne-eqb _ _ (c .before .if1 .left)))))

@@ -1,0 +1,22 @@
+-- `split_ok` meets its contract.
+-- Assumes nothing.
+use mathlib.Core.Path.{_∙_}
+use Rattle.rules.specs.Possible.{splitOk}
+use borrow.Author.Needs.{needs}
+use Rattle.state.proofs.possible.split_ok.Statement.{statement}
+use Rattle.state.proofs.possible.split_ok.Tie as tie
+
+pub split-ok-spec : {M : Type 1} → statement M
+unfolding splitOk
+split-ok-spec =
+    tie.close
+    (tie.spec
+    (λ c. search needs)
+    (λ c. search needs)
+    (λ c. search needs)
+    (λ c κs. search needs)
+    (λ c κs. search needs)
+    (λ c κs. search needs)
+    (λ c κs. search needs)
+    (λ c κs. search needs)
+    (λ c. c .and5 .ensures ∙ rw (c .before .and4 .ensures, c .before .before .and3 .ensures, c .before .before .before .before .before .before .and2 .ensures, c .before .before .before .before .before .before .before .and .ensures)))

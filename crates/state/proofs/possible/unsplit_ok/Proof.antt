@@ -1,0 +1,16 @@
+-- `unsplit_ok` meets its contract.
+-- Assumes nothing.
+use mathlib.Core.Path.{_∙_}
+use Rattle.rules.specs.Possible.{unsplitOk}
+use borrow.Author.Needs.{needs}
+use Rattle.state.proofs.possible.unsplit_ok.Statement.{statement}
+use Rattle.state.proofs.possible.unsplit_ok.Tie as tie
+
+pub unsplit-ok-spec : {M : Type 1} → statement M
+unfolding unsplitOk
+unsplit-ok-spec =
+    tie.close
+    (tie.spec
+    (λ c κs. search needs)
+    (λ c κs. search needs)
+    (λ c. c .and2 .ensures ∙ rw (c .before .and .ensures)))

@@ -1,0 +1,14 @@
+-- `power_on_state` meets its contract.
+-- Assumes nothing.
+use Rattle.rules.specs.Possible.{powerOn}
+use borrow.Author.Needs.{needs}
+use Rattle.state.proofs.power_on_state.Statement.{statement}
+use Rattle.state.proofs.power_on_state.Tie as tie
+
+pub power-on-state-spec : {M : Type 1} → statement M
+unfolding powerOn
+power-on-state-spec =
+    tie.close
+    (tie.spec
+    (λ c κs. search needs)
+    (λ c. rw (c .no-key .ensures)))

@@ -1,0 +1,14 @@
+-- `cursor_of` meets its contract.
+-- Assumes nothing.
+use Rattle.state.proofs.Tests.{tests}
+use Rattle.rules.specs.State.{cursorOf}
+use Rattle.state.proofs.screen.cursor_of.Statement.{statement}
+use Rattle.state.proofs.screen.cursor_of.Tie as tie
+
+pub cursor-of-spec : {M : Type 1} → statement M
+unfolding cursorOf
+cursor-of-spec =
+    tie.close
+    (tie.spec
+    (λ c. search tests)
+    (λ c. search tests))

@@ -1,0 +1,18 @@
+-- `segment_bottom` meets its contract.
+-- Assumes nothing.
+use Rattle.state.proofs.Tests.{tests}
+use Rattle.rules.specs.State.{segmentBottom}
+use borrow.Author.Needs.{needs}
+use Rattle.state.proofs.screen.segment_bottom.Statement.{statement}
+use Rattle.state.proofs.screen.segment_bottom.Tie as tie
+
+pub segment-bottom-spec : {M : Type 1} → statement M
+unfolding segmentBottom
+segment-bottom-spec =
+    tie.close
+    (tie.spec
+    (λ c. search tests)
+    (λ c. search needs)
+    (λ c. search needs)
+    (λ c. search tests)
+    (λ c. search tests))

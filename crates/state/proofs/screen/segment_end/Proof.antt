@@ -1,0 +1,15 @@
+-- `segment_end` meets its contract: the last row is at most the split row or 24, so the product fits.
+-- Assumes nothing.
+use native.Mathlib.Omega.{arith}
+use Rattle.state.proofs.Segments.{bottom-most}
+use borrow.Author.Needs.{needs}
+use Rattle.state.proofs.screen.segment_end.Statement.{statement}
+use Rattle.state.proofs.screen.segment_end.Tie as tie
+
+pub segment-end-spec : {M : Type 1} → statement M
+segment-end-spec =
+    tie.close
+    (tie.spec
+    (λ c κs. search needs)
+    (λ c. omega (arith, c .segment-bottom .ensures, bottom-most (c .before .args .x)))
+    (λ c. search needs))

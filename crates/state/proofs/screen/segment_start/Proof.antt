@@ -1,0 +1,15 @@
+-- `segment_start` meets its contract: the first row is at most the split row, so the product fits.
+-- Assumes nothing.
+use native.Mathlib.Omega.{arith}
+use Rattle.state.proofs.Segments.{top-most}
+use borrow.Author.Needs.{needs}
+use Rattle.state.proofs.screen.segment_start.Statement.{statement}
+use Rattle.state.proofs.screen.segment_start.Tie as tie
+
+pub segment-start-spec : {M : Type 1} → statement M
+segment-start-spec =
+    tie.close
+    (tie.spec
+    (λ c κs. search needs)
+    (λ c. omega (arith, c .segment-top .ensures, top-most (c .before .args .x)))
+    (λ c. search needs))

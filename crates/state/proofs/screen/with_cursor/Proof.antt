@@ -1,0 +1,14 @@
+-- `with_cursor` meets its contract.
+-- Assumes nothing.
+use Rattle.state.proofs.Tests.{tests}
+use Rattle.rules.specs.State.{withCursor}
+use Rattle.state.proofs.screen.with_cursor.Statement.{statement}
+use Rattle.state.proofs.screen.with_cursor.Tie as tie
+
+pub with-cursor-spec : {M : Type 1} → statement M
+unfolding withCursor
+with-cursor-spec =
+    tie.close
+    (tie.spec
+    (λ c. search tests)
+    (λ c. search tests))

@@ -1,0 +1,17 @@
+-- `set_tab` meets its contract.
+-- Assumes nothing.
+use mathlib.Core.Path.{_≡_, sym}
+use native.Mathlib.Omega.{arith}
+use lib.ListN.{length}
+use lib.Seq.{set-out}
+use borrow.Author.Needs.{needs}
+use Rattle.state.proofs.setup.set_tab.Statement.{statement}
+use Rattle.state.proofs.setup.set_tab.Tie as tie
+
+pub set-tab-spec : {M : Type 1} → statement M
+set-tab-spec =
+    tie.close
+    (tie.spec
+    (λ c. search needs)
+    (λ c. search needs)
+    (λ c. let e : length (c .before .args .tabs) ≡ 80 = search needs in sym (set-out (c .before .args .tabs) (c .before .args .n) (c .before .args .b) (omega (arith, e, c .if1 .left)))))

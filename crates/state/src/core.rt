@@ -1,0 +1,107 @@
+// Setters of the core.
+ghost use mathlib.Core.Path.{_≡_};
+ghost use Prim.Native.Nat.{_+_, _%_};
+ghost use Rattle.rules.specs.State.{withScreen, withModes, withBells, withGathered, awaiting, idle, withProtect, withMode};
+use rules::Core;
+use rules::Key;
+use rules::Mode;
+use rules::Modes;
+use rules::Pending;
+use rules::Screen;
+
+pub fn with_screen(c: Core, x: Screen) -> Core
+    ensures { λ r. ⌜ r ≡ withScreen c x ⌝ }
+{
+    let mut t = c;
+    t.screen = x;
+    t
+}
+
+pub fn with_modes(c: Core, m: Modes) -> Core
+    ensures { λ r. ⌜ r ≡ withModes c m ⌝ }
+{
+    let mut t = c;
+    t.modes = m;
+    t
+}
+
+pub fn with_bells(c: Core, n: u8) -> Core
+    ensures { λ r. ⌜ r ≡ withBells c n ⌝ }
+{
+    let mut t = c;
+    t.bells = n;
+    t
+}
+
+pub fn with_gathered(c: Core, k: Key) -> Core
+    ensures { λ r. ⌜ r ≡ withGathered c k ⌝ }
+{
+    let mut t = c;
+    t.gathered = k;
+    t
+}
+
+// Another sequence is under way; nothing is gathered.
+pub fn awaiting(c: Core, q: Pending) -> Core
+    ensures { λ r. ⌜ r ≡ awaiting c q ⌝ }
+{
+    let screen = c.screen;
+    let modes = c.modes;
+    let none = crate::keys::no_key();
+    Core {
+        screen: screen,
+        modes: modes,
+        bells: c.bells,
+        pending: q,
+        gathered: none,
+    }
+}
+
+pub fn idle(c: Core) -> Core
+    ensures { λ r. ⌜ r ≡ idle c ⌝ }
+{
+    awaiting(c, Pending::Idle)
+}
+
+// One bell more, modulo 256.
+pub fn next_bell(n: u8) -> u8
+    ensures { λ r. ⌜ r ≡ (n + 1) % 256 ⌝ }
+{
+    ((n as u16 + 1) % 256) as u8
+}
+
+pub fn with_protect(m: Modes, b: bool) -> Modes
+    ensures { λ r. ⌜ r ≡ withProtect m b ⌝ }
+{
+    let mut t = m;
+    t.protect = b;
+    t
+}
+
+pub fn with_mode(m: Modes, k: Mode, b: bool) -> Modes
+    ensures { λ r. ⌜ r ≡ withMode m k b ⌝ }
+{
+    let mut t = m;
+    match k {
+        Mode::WriteProtect => {
+            t.mark = b;
+            t
+        }
+        Mode::Insert => {
+            t.insert = b;
+            t
+        }
+        Mode::Autoscroll => {
+            t.autoscroll = b;
+            t
+        }
+        Mode::Lock => {
+            t.locked = b;
+            t
+        }
+        Mode::LocalEdit => {
+            t.local = b;
+            t
+        }
+    }
+}

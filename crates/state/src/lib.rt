@@ -1,0 +1,69 @@
+// The terminal's state as values: power-on, readers and setters, the keys, which states are possible, and what a byte comes to.
+pub mod logic; // tests on numbers, and how they are joined
+pub mod screen; // the active segment and its cursor
+pub mod core; // the other parts of the core
+pub mod keys; // function keys
+pub mod setup; // the set-up's changes
+pub mod possible; // which states are possible
+pub mod decode; // what a byte comes to after the sequence under way
+
+ghost use mathlib.Core.Path.{_≡_};
+ghost use Rattle.rules.specs.State.{number};
+ghost use Rattle.rules.specs.Possible.{powerOn};
+use rules::Answer;
+use rules::Core;
+use rules::Modes;
+use rules::Pending;
+use rules::Screen;
+use rules::Setup;
+use rules::State;
+
+// The number of document 01.
+pub fn answer_number(a: Answer) -> u8
+    ensures { λ r. ⌜ r ≡ number a ⌝ }
+{
+    match a {
+        Answer::Done => 0,
+        Answer::HighByte => 1,
+        Answer::Unknown => 2,
+        Answer::BadArgument => 3,
+        Answer::Barred => 4,
+        Answer::KeysFull => 5,
+        Answer::NoRoom => 6,
+        Answer::BadCall => 7,
+        Answer::Locked => 8,
+    }
+}
+
+pub fn power_on_state() -> State
+    ensures { λ r. ⌜ r ≡ powerOn ⌝ }
+{
+    let none = keys::no_key();
+    State {
+        core: Core {
+            screen: Screen {
+                active: 0,
+                split: 0,
+                cursor0: 0,
+                cursor1: 0,
+            },
+            modes: Modes {
+                protect: false,
+                mark: false,
+                insert: false,
+                autoscroll: true,
+                locked: false,
+                local: false,
+            },
+            bells: 0,
+            pending: Pending::Idle,
+            gathered: none,
+        },
+        setup: Setup {
+            tabs: [false; 80],
+            attributes: [0x30; 4],
+            features: [0x31, 0x35, 0x37, 0x39, 0x40],
+            keys: [none; 32],
+        },
+    }
+}

@@ -1,0 +1,24 @@
+// Tests on numbers, and how they are joined.
+ghost use mathlib.Core.Path.{_≡_};
+ghost use Prim.Native.Nat.{_+_, _<_};
+ghost use Rattle.rules.specs.Cell.{both, either, among};
+
+pub fn and(a: bool, b: bool) -> bool
+    ensures { λ r. ⌜ r ≡ both a b ⌝ }
+{
+    if a { b } else { false }
+}
+
+pub fn or(a: bool, b: bool) -> bool
+    ensures { λ r. ⌜ r ≡ either a b ⌝ }
+{
+    if a { true } else { b }
+}
+
+// One of the n numbers from `first` on.
+pub fn among(first: u8, n: u8, v: u8) -> bool
+    requires { ⌜ first + n < 256 ⌝ }
+    ensures { λ r. ⌜ r ≡ among first n v ⌝ }
+{
+    and(first <= v, v < first + n)
+}

@@ -1,0 +1,68 @@
+// The active segment and its cursor.
+ghost use mathlib.Core.Path.{_≡_};
+ghost use Rattle.rules.specs.State.{segmentTop, segmentBottom, segmentStart, segmentEnd, cursorOf, withCursor, activated};
+use rules::Screen;
+
+// The rows of the active segment: its first, and the one past its last.
+pub fn segment_top(x: Screen) -> u16
+    ensures { λ r. ⌜ r ≡ segmentTop x ⌝ }
+{
+    if x.active == 0 {
+        return 0;
+    }
+    if x.split == 0 {
+        return 0;
+    }
+    (x.split - 1) as u16
+}
+
+pub fn segment_bottom(x: Screen) -> u16
+    ensures { λ r. ⌜ r ≡ segmentBottom x ⌝ }
+{
+    if x.split == 0 {
+        return 24;
+    }
+    if x.active == 0 {
+        return (x.split - 1) as u16;
+    }
+    24
+}
+
+// Its first cell, and the one past its last.
+pub fn segment_start(x: Screen) -> u16
+    ensures { λ r. ⌜ r ≡ segmentStart x ⌝ }
+{
+    segment_top(x) * 80
+}
+
+pub fn segment_end(x: Screen) -> u16
+    ensures { λ r. ⌜ r ≡ segmentEnd x ⌝ }
+{
+    segment_bottom(x) * 80
+}
+
+pub fn cursor_of(x: Screen) -> u16
+    ensures { λ r. ⌜ r ≡ cursorOf x ⌝ }
+{
+    if x.active == 0 { x.cursor0 } else { x.cursor1 }
+}
+
+pub fn with_cursor(x: Screen, n: u16) -> Screen
+    ensures { λ r. ⌜ r ≡ withCursor x n ⌝ }
+{
+    let mut t = x;
+    if x.active == 0 {
+        t.cursor0 = n;
+        return t;
+    }
+    t.cursor1 = n;
+    t
+}
+
+pub fn activated(x: Screen, n: u8) -> Screen
+    ensures { λ r. ⌜ r ≡ activated x n ⌝ }
+{
+    let mut t = x;
+    t.active = n;
+    t
+}
