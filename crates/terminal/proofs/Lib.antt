@@ -1,0 +1,6 @@
+pub mod Gathered
+pub mod Judged
+pub mod Carrying
+pub mod Loop
+pub mod Calls
+pub mod Noninterference

@@ -1,0 +1,283 @@
+-- The loop over host bytes: what holds at its head, and what a turn does.
+--     step-made     the step of the rules, by the inner step
+--     begin, stop, go, finish     the loop's start, a byte that answers 6, any other byte, the end of the input
+-- Assumes nothing.
+use mathlib.Core.Path.{_≡_, refl, sym, ap, ap₂, subst, subst₂, _∙_}
+use mathlib.Core.Bool.{Bool, true, false, false≢true}
+use mathlib.Core.List.{List, [], _∷_, _++_, append-assoc, append-nil}
+use Prim.Native.Nat.{ℕ, suc, _+_, _-_, _<_, _≤_, zero-le}
+use native.Mathlib.Nat.{add-zero, sub-zero}
+use native.Mathlib.Numerals.{add-one}
+use native.Mathlib.Omega.{arith}
+use lib.Dec.{eqb}
+use lib.ListN.{length, getD, take, drop, length-append, length-drop, take-append-drop, drop-of-length-le}
+use lib.Seq.{take-all, drop-cons, take-at, drop-at, drop-drop, length-take-le}
+use borrow.Author.Tests.{eqb-true}
+use Rattle.rules.specs.declared.Answer.{Answer}
+use Rattle.rules.specs.declared.Answer.the-variants as Answer
+use Rattle.rules.specs.declared.Core.{Core}
+use Rattle.rules.specs.declared.CoreResult.{CoreResult}
+use Rattle.rules.specs.declared.Key.{Key}
+use Rattle.rules.specs.declared.Setup.{Setup}
+use Rattle.rules.specs.declared.State.{State}
+use Rattle.rules.specs.declared.SetupChange.{SetupChange}
+use Rattle.rules.specs.declared.SetupChange.the-variants as SetupChange
+use Rattle.rules.specs.Cell.{among}
+use Rattle.rules.specs.State.{number, changed}
+use Rattle.rules.specs.Possible.{good}
+use Rattle.rules.specs.Carry.{Effect}
+use Rattle.rules.specs.Step.{Outcome, outcomeOf, stepRule}
+use Rattle.rules.specs.Room.{over}
+use Rattle.rules.specs.Calls.{Ran, ended, refusal, repeated}
+use Rattle.rules.specs.Steps.{preceded}
+use Rattle.rules.proofs.Tests.{pick-if}
+use Rattle.rules.proofs.Kept.{good-parts, possible-parts, step-good}
+use Rattle.rules.proofs.Left.{step-left}
+use Rattle.rules.proofs.Run.{run-stop, run-go, run-done, preceded-none, preceded-joined}
+use Rattle.carry.specs.Carried.{Carried}
+use Rattle.terminal.specs.declared.bytes.Ended.{Ended}
+use Rattle.terminal.specs.Promise.{Completed}
+use Rattle.terminal.specs.Inner.{innerAlone, overfills, keysAnswer, keysSetup, judged}
+use Rattle.terminal.specs.Loop.{isNothing, stateOf, lastAnswer, Looped}
+use Rattle.terminal.proofs.Judged.{inner-judged, six-keys}
+use Rattle.terminal.proofs.Carrying.{over-none}
+
+-- ---- the step of the rules, by the effect of the inner step
+
+pub record Made (c : Core) (u : Setup) (e : Effect) (o : Outcome) : Type 0 where
+  pub answer : o .answer ≡ keysAnswer (u .keys) (c .gathered) (e .change) (e .answer)
+  pub core : o .state .core ≡ e .core
+  pub setup : o .state .setup ≡ keysSetup (e .change) (c .gathered) u
+  pub page : o .page ≡ e .page
+  pub reply : o .reply ≡ e .reply
+
+judged-made : (c : Core) (u : Setup) (e : Effect) → Made c u e (outcomeOf (stateOf c u) (judged (u .keys) (c .gathered) e))
+unfolding judged changed
+judged-made c u e = by (overfills (u .keys) (c .gathered) (e .change)) refl
+  where
+    by : (t : Bool) → overfills (u .keys) (c .gathered) (e .change) ≡ t → Made c u e (outcomeOf (stateOf c u) (judged (u .keys) (c .gathered) e))
+    by true t = rw t (record { answer = rw t; core = refl; setup = rw t; page = refl; reply = refl })
+    by false t = rw t (record { answer = rw t; core = refl; setup = rw t; page = refl; reply = refl })
+
+pub step-made : (p : List ℕ) (c : Core) (u : Setup) (b room : ℕ) → good p (stateOf c u) ≡ true
+    → Made c u (innerAlone p c (u .tabs) b room) (stepRule p (stateOf c u) b room)
+unfolding stepRule
+step-made p c u b room g =
+    let h = good-parts p (stateOf c u) g in
+    rw (g, inner-judged p c (h .0) (possible-parts (stateOf c u) (h .1) .core) u room b) (judged-made c u (innerAlone p c (u .tabs) b room))
+
+-- a change of nothing is made, and leaves the set-up
+pub nothing-made : (x : SetupChange) (k : Key) (u : Setup) (n : ℕ) → isNothing x ≡ true
+    → (n ≡ keysAnswer (u .keys) k x n) × (u ≡ keysSetup x k u)
+unfolding overfills changed
+nothing-made SetupChange.Nothing k u n e = (refl, refl)
+nothing-made (SetupChange.Tab i b) k u n e = absurd (false≢true e)
+nothing-made SetupChange.ClearTabs k u n e = absurd (false≢true e)
+nothing-made (SetupChange.Attribute i a) k u n e = absurd (false≢true e)
+nothing-made (SetupChange.Feature i f) k u n e = absurd (false≢true e)
+nothing-made (SetupChange.Key i) k u n e = absurd (false≢true e)
+
+pub refusal-one : (n : ℕ) → refusal n ≤ 1
+refusal-one n = pick-if (λ (k : ℕ). k ≤ 1) (among 1 5 n) (λ e. omega arith) (λ e. omega arith)
+
+-- the last answer after a byte that does not answer 6
+last-go : (b : ℕ) (bs p : List ℕ) (s : State) (room a : ℕ) → eqb ((stepRule p s b room) .answer) 6 ≡ false
+    → lastAnswer (b ∷ bs) p s room a
+    ≡ lastAnswer bs ((stepRule p s b room) .page) ((stepRule p s b room) .state) (room - length ((stepRule p s b room) .reply)) ((stepRule p s b room) .answer)
+unfolding lastAnswer
+last-go b bs p s room a e = rw e
+
+-- ---- the room
+
+-- `&mut room[n..]` as it is lent, and the room when it is back
+abbrev pub lentTail : ℕ → List ℕ → List ℕ
+lentTail n w = take (length w - n) (drop n w)
+
+abbrev pub backTail : ℕ → List ℕ → List ℕ → List ℕ
+backTail n w part = take n w ++ (part ++ drop (length w - n) (drop n w))
+
+tail-rest : (n : ℕ) (w : List ℕ) → length (drop n w) ≤ length w - n
+tail-rest n w = omega (arith, length-drop n w)
+
+pub tail-lent : (n : ℕ) (w : List ℕ) → lentTail n w ≡ drop n w
+tail-lent n w = take-all (length w - n) (drop n w) (tail-rest n w)
+
+pub tail-back : (n : ℕ) (w part : List ℕ) → backTail n w part ≡ take n w ++ part
+tail-back n w part =
+    ap (λ (l : List ℕ). take n w ++ (part ++ l)) (drop-of-length-le (drop n w) (tail-rest n w)) ∙ ap (λ (l : List ℕ). take n w ++ l) (append-nil part)
+
+pub tail-size : (n : ℕ) (w part : List ℕ) → n ≤ length w → length part ≡ length (lentTail n w) → length (backTail n w part) ≡ length w
+tail-size n w part h e =
+    ap length (tail-back n w part) ∙ length-append (take n w) part
+    ∙ omega (arith, length-take-le n w h, length-drop n w, e ∙ ap length (tail-lent n w))
+
+-- what a reply of n bytes that stands at the front of w makes of w₀, where the rest is untouched
+front : (n : ℕ) (w w₀ : List ℕ) → n ≤ length w → drop n w ≡ drop n w₀ → w ≡ over (take n w) w₀
+unfolding over
+front n w w₀ h e =
+    sym (ap (λ (k : ℕ). take n w ++ drop k w₀) (length-take-le n w h) ∙ ap (λ (l : List ℕ). take n w ++ l) (sym e) ∙ take-append-drop n w)
+
+-- ---- the loop
+
+pub looped-is : {p : List ℕ} {s : State} {l w p′ w′ : List ℕ} {r r′ : Ended} → r ≡ r′ → Looped p s l w r′ p′ w′ → Looped p s l w r p′ w′
+looped-is {p} {s} {l} {w} {p′} {w′} e h = subst (λ (x : Ended). Looped p s l w x p′ w′) (sym e) h
+
+-- s₀ and p₀ are the state and the page at the start, w₀ the room; i bytes are taken, n bytes replied, f bytes refused, and a is the last answer
+pub record Running (p₀ : List ℕ) (s₀ : State) (input w₀ p w : List ℕ) (c : Core) (u : Setup) (a : Answer) (i n f : ℕ) : Type 0 where
+  pub within : i ≤ length input
+  pub used : n ≤ length w₀
+  pub few : f ≤ i
+  pub fine : good p (stateOf c u) ≡ true
+  pub size : length w ≡ length w₀
+  pub untouched : drop n w ≡ drop n w₀
+  pub same : repeated input p₀ s₀ (length w₀) ≡ preceded i f (take n w) (repeated (drop i input) p (stateOf c u) (length w₀ - n))
+  pub last : lastAnswer input p₀ s₀ (length w₀) 0 ≡ lastAnswer (drop i input) p (stateOf c u) (length w₀ - n) (number a)
+
+pub begin : (p : List ℕ) (c : Core) (u : Setup) (input w : List ℕ) → good p (stateOf c u) ≡ true
+    → Running p (stateOf c u) input w p w c u Answer.Done 0 0 0
+begin p c u input w g = record {
+  within = zero-le;
+  used = zero-le;
+  few = zero-le;
+  fine = g;
+  size = refl;
+  untouched = refl;
+  same = rw sub-zero (preceded-none (repeated input p (stateOf c u) (length w)));
+  last = rw sub-zero;
+}
+
+module _ (p₀ : List ℕ) (s₀ : State) (input w₀ p w : List ℕ) (c : Core) (u : Setup) (a : Answer) (i n f : ℕ)
+    (R : Running p₀ s₀ input w₀ p w c u a i n f) where
+  abbrev s : State
+  s = stateOf c u
+
+  -- the loop ends here with the answer x
+  ending : (x : Answer) (rest : List ℕ) → drop i input ≡ rest → repeated rest p s (length w₀ - n) ≡ ended p s (number x) rest
+      → Completed (repeated input p₀ s₀ (length w₀)) (record { answer = x; taken = i; replied = n; refused = f; state = s }) input p w₀ w
+  ending x rest e h =
+      let used : n ≤ length w = omega (arith, R .used, R .size) in
+      let size : length (take n w) ≡ n = length-take-le n w used in
+      subst (λ (o : Ran). Completed o (record { answer = x; taken = i; replied = n; refused = f; state = s }) input p w₀ w)
+      (sym (R .same ∙ ap (λ (l : List ℕ). preceded i f (take n w) (repeated l p s (length w₀ - n))) e ∙ ap (preceded i f (take n w)) h))
+      (record {
+        answer = refl;
+        taken = sym (add-zero i);
+        replied = sym (ap length (append-nil (take n w)) ∙ size);
+        refused = sym (add-zero f);
+        rest = e;
+        state = refl;
+        page = refl;
+        room = front n w w₀ used (R .untouched) ∙ ap (λ (l : List ℕ). over l w₀) (sym (append-nil (take n w)));
+        fits = R .used;
+        within = R .within;
+      })
+
+  pub finish : length input ≤ i → Looped p₀ s₀ input w₀ (record { answer = Answer.Done; last = a; taken = i; replied = n; refused = f; core = c; setup = u }) p w
+  unfolding lastAnswer
+  finish h =
+      let e : drop i input ≡ [] = drop-of-length-le input h in
+      record {
+        run = ending Answer.Done [] e (run-done p s (length w₀ - n));
+        last = sym (R .last ∙ ap (λ (l : List ℕ). lastAnswer l p s (length w₀ - n) (number a)) e);
+      }
+
+  -- the next byte, on what is left of the room
+  module _ (h : i < length input) (r : CoreResult) (p′ part : List ℕ)
+      (lent : Carried (innerAlone p c (u .tabs) (getD input i 0) (length (lentTail n w))) r p′ (lentTail n w) part) where
+    abbrev w′ : List ℕ
+    w′ = backTail n w part
+
+    S : Carried (innerAlone p c (u .tabs) (getD input i 0) (length (drop n w))) r p′ (drop n w) part
+    S = subst (λ (l : List ℕ). Carried (innerAlone p c (u .tabs) (getD input i 0) (length l)) r p′ l part) (tail-lent n w) lent
+
+    back : w′ ≡ take n w ++ part
+    back = tail-back n w part
+
+    abbrev b : ℕ
+    b = getD input i 0
+
+    abbrev e : Effect
+    e = innerAlone p c (u .tabs) b (length (drop n w))
+
+    abbrev o : Outcome
+    o = stepRule p s b (length w₀ - n)
+
+    left : length (drop n w) ≡ length w₀ - n
+    left = length-drop n w ∙ ap (λ (k : ℕ). k - n) (R .size)
+
+    made : Made c u e o
+    made = rw (sym left) (step-made p c u b (length (drop n w)) (R .fine))
+
+    cons : drop i input ≡ b ∷ drop (suc i) input
+    cons = drop-cons input i 0 h
+
+    -- it answers 6: the loop stops before it
+    pub stop : eqb (number (r .answer)) 6 ≡ true
+        → Looped p₀ s₀ input w₀ (record { answer = Answer.NoRoom; last = r .answer; taken = i; replied = n; refused = f; core = c; setup = u }) p′ w′
+    unfolding lastAnswer
+    stop t =
+        let k = good-parts p s (R .fine) in
+        let six : e .answer ≡ 6 = sym (S .answer) ∙ eqb-true _ _ t in
+        let no : overfills (u .keys) (c .gathered) (e .change) ≡ false
+        = six-keys p c (k .0) (possible-parts s (k .1) .core) (u .keys) (c .gathered) (u .tabs) (length (drop n w)) b six in
+        let a6 : o .answer ≡ 6 = made .answer ∙ rw no six in
+        let l = step-left p s b (length w₀ - n) (λ z. absurd (omega (arith, z, a6))) in
+        let page : p′ ≡ p = S .page ∙ sym (made .page) ∙ l .page in
+        let room : w′ ≡ w = back ∙ ap (λ (x : List ℕ). take n w ++ x) (S .room ∙ ap (λ (x : List ℕ). over x (drop n w)) (sym (made .reply) ∙ l .reply) ∙ sym (over-none (drop n w))) ∙ take-append-drop n w in
+        rw (page, room) (record {
+          run = ending Answer.NoRoom (b ∷ drop (suc i) input) cons (run-stop b (drop (suc i) input) p s (length w₀ - n) a6);
+          last = eqb-true _ _ t ∙ sym (R .last ∙ rw (cons, a6));
+        })
+
+    -- the reply stands behind those of the bytes before
+    sum : length (take n w ++ o .reply) ≡ n + r .replied
+    sum = length-append (take n w) (o .reply) ∙ omega (arith, length-take-le n w (omega (arith, R .used, R .size)), S .replied, ap length (made .reply))
+
+    put : w′ ≡ (take n w ++ o .reply) ++ drop (length (o .reply)) (drop n w)
+    unfolding over
+    put =
+        back ∙ ap (λ (x : List ℕ). take n w ++ x) (S .room ∙ ap (λ (x : List ℕ). over x (drop n w)) (sym (made .reply)))
+        ∙ sym (append-assoc (take n w) (o .reply) (drop (length (o .reply)) (drop n w)))
+
+    -- any other answer: the loop goes on. x is the answer and v the set-up, once the keys have judged the change
+    module _ (x : Answer) (v : Setup) (g : ℕ) (t : eqb (number (r .answer)) 6 ≡ false)
+        (ex : number x ≡ keysAnswer (u .keys) (c .gathered) (r .change) (number (r .answer))) (ev : v ≡ keysSetup (r .change) (c .gathered) u)
+        (eg : g ≡ refusal (number x)) where
+      answered : o .answer ≡ number x
+      answered = made .answer ∙ rw (sym (S .change), sym (S .answer)) (sym ex)
+
+      not-six : eqb (o .answer) 6 ≡ false
+      not-six = rw (made .answer) (pick-if (λ (m : ℕ). eqb m 6 ≡ false) (overfills (u .keys) (c .gathered) (e .change)) (λ z. refl) (λ z. rw (sym (S .answer)) t))
+
+      reached : o .state ≡ stateOf (r .core) v
+      reached = ap₂ stateOf (made .core ∙ sym (S .core)) (made .setup ∙ rw (sym (S .change)) (sym ev))
+
+      turned : o .page ≡ p′
+      turned = made .page ∙ sym (S .page)
+
+      room-left : length w₀ - n - length (o .reply) ≡ length w₀ - (n + r .replied)
+      room-left = omega (arith, S .replied, ap length (made .reply))
+
+      reply : take (n + r .replied) w′ ≡ take n w ++ o .reply
+      reply = ap (take (n + r .replied)) put ∙ take-at (take n w ++ o .reply) _ (n + r .replied) sum
+
+      count : refusal (o .answer) ≡ g
+      count = ap refusal answered ∙ sym eg
+
+      pub go : Running p₀ s₀ input w₀ p′ w′ (r .core) v x (i + 1) (n + r .replied) (f + g)
+      go = record {
+        within = omega (arith, h);
+        used = omega (arith, S .fits, left, R .used);
+        few = omega (arith, R .few, refusal-one (number x), eg);
+        fine = subst₂ (λ (q : List ℕ) (z : State). good q z ≡ true) turned reached (step-good p s b (length w₀ - n) (R .fine));
+        size = ap length put ∙ length-append (take n w ++ o .reply) _
+            ∙ omega (arith, sum, length-drop (length (o .reply)) (drop n w), S .replied, ap length (made .reply), S .fits, left, R .used);
+        untouched = ap (drop (n + r .replied)) put ∙ drop-at (take n w ++ o .reply) _ (n + r .replied) sum
+            ∙ ap (drop (length (o .reply))) (R .untouched) ∙ drop-drop (length (o .reply)) n w₀
+            ∙ ap (λ (m : ℕ). drop (n + m) w₀) (ap length (made .reply) ∙ sym (S .replied));
+        same = R .same ∙ ap (λ (l : List ℕ). preceded i f (take n w) (repeated l p s (length w₀ - n))) cons
+            ∙ ap (preceded i f (take n w)) (run-go b (drop (suc i) input) p s (length w₀ - n) not-six)
+            ∙ preceded-joined i f (take n w) o _ ∙ cc (turned, reached, room-left, reply, count, add-one i);
+        last = R .last ∙ ap (λ (l : List ℕ). lastAnswer l p s (length w₀ - n) (number a)) cons
+            ∙ last-go b (drop (suc i) input) p s (length w₀ - n) (number a) not-six ∙ cc (turned, reached, room-left, answered, add-one i);
+      }

@@ -1,0 +1,9 @@
+use Rattle.terminal.proofs.Carrying.{quiet-carried}
+use Rattle.terminal.proofs.inner.quiet.Statement.{statement}
+use Rattle.terminal.proofs.inner.quiet.Tie as tie
+
+pub quiet-spec : {M : Type 1} → statement M
+quiet-spec =
+    tie.close
+    (tie.spec
+    (λ c. λ p w. quiet-carried _ _ _ p w))

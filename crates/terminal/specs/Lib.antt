@@ -1,0 +1,4 @@
+pub mod Promise
+pub mod Inner
+pub mod Loop
+pub mod Noninterference

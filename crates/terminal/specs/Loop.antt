@@ -1,0 +1,48 @@
+-- What the loop over host bytes promises on a good page and state.
+use mathlib.Core.Path.{_≡_}
+use mathlib.Core.Bool.{Bool, true, false}
+use mathlib.Core.List.{List, [], _∷_}
+use Prim.Native.Nat.{ℕ, _-_}
+use lib.Dec.{eqb}
+use lib.ListN.{length}
+use Rattle.rules.specs.declared.Core.{Core}
+use Rattle.rules.specs.declared.Setup.{Setup}
+use Rattle.rules.specs.declared.State.{State}
+use Rattle.rules.specs.declared.SetupChange.{SetupChange}
+use Rattle.rules.specs.declared.SetupChange.the-variants as SetupChange
+use Rattle.rules.specs.declared.RunResult.{RunResult}
+use Rattle.rules.specs.Cell.{pick}
+use Rattle.rules.specs.State.{number}
+use Rattle.rules.specs.Step.{stepRule}
+use Rattle.rules.specs.Calls.{repeated}
+use Rattle.terminal.specs.declared.bytes.Ended.{Ended}
+use Rattle.terminal.specs.Promise.{Completed}
+
+-- nothing changes in the set-up
+abbrev pub isNothing : SetupChange → Bool
+isNothing SetupChange.Nothing = true
+isNothing (SetupChange.Tab c b) = false
+isNothing SetupChange.ClearTabs = false
+isNothing (SetupChange.Attribute n a) = false
+isNothing (SetupChange.Feature n f) = false
+isNothing (SetupChange.Key n) = false
+
+abbrev pub stateOf : Core → Setup → State
+stateOf c u = record { core = c; setup = u }
+
+-- the answer of the last byte that a run looks at; `a` where there is none
+unfoldable pub lastAnswer : List ℕ → List ℕ → State → ℕ → ℕ → ℕ
+lastAnswer [] p s room a = a
+lastAnswer (b ∷ bs) p s room a =
+    let o = stepRule p s b room in
+    let r = lastAnswer bs (o .page) (o .state) (room - length (o .reply)) (o .answer) in
+    pick (eqb (o .answer) 6) 6 r
+
+-- the loop's result as a run's
+abbrev pub resultOf : Ended → RunResult
+resultOf r = record { answer = r .answer; taken = r .taken; replied = r .replied; refused = r .refused; state = stateOf (r .core) (r .setup) }
+
+-- p and w are the page and the room before the loop, p′ and w′ after it; l is the input
+pub record Looped (p : List ℕ) (s : State) (l w : List ℕ) (r : Ended) (p′ w′ : List ℕ) : Type 0 where
+  pub run : Completed (repeated l p s (length w)) (resultOf r) l p′ w w′
+  pub last : number (r .last) ≡ lastAnswer l p s (length w) 0

@@ -1,0 +1,171 @@
+// The loop over host bytes on a good page and state. The core and the set-up are two locals: a byte is handed the tab stops alone, and the
+// set-up is touched only where a byte changes it.
+ghost use mathlib.Core.Path.{_≡_};
+ghost use mathlib.Core.Bool.{true};
+ghost use lib.Dec.{eqb};
+ghost use Rattle.rules.specs.State.{number};
+ghost use Rattle.rules.specs.Possible.{good};
+ghost use Rattle.rules.specs.Calls.{refusal};
+ghost use Rattle.terminal.specs.Inner.{overfills, keysAnswer, keysSetup};
+ghost use Rattle.terminal.specs.Loop.{isNothing, stateOf, Looped};
+use crate::inner::inner;
+use rules::Answer;
+use rules::Core;
+use rules::Key;
+use rules::Setup;
+use rules::SetupChange;
+use state::keys::overfull;
+use state::setup::changed;
+
+// How a loop ended: its answer, the answer of the last byte that it looked at, its counts, and the state.
+pub struct Ended {
+    pub answer: Answer,
+    pub last: Answer,
+    pub taken: usize,
+    pub replied: usize,
+    pub refused: usize,
+    pub core: Core,
+    pub setup: Setup,
+}
+
+// A change of the set-up that the keys have judged.
+struct Judged {
+    answer: Answer,
+    setup: Setup,
+}
+
+fn is_no_room(a: Answer) -> bool
+    ensures { λ r. ⌜ r ≡ eqb (number a) 6 ⌝ }
+{
+    match a {
+        Answer::Done => false,
+        Answer::HighByte => false,
+        Answer::Unknown => false,
+        Answer::BadArgument => false,
+        Answer::Barred => false,
+        Answer::KeysFull => false,
+        Answer::NoRoom => true,
+        Answer::BadCall => false,
+        Answer::Locked => false,
+    }
+}
+
+// 1 for an answer from 1 to 5.
+fn refusals(a: Answer) -> usize
+    ensures { λ r. ⌜ r ≡ refusal (number a) ⌝ }
+{
+    match a {
+        Answer::Done => 0,
+        Answer::HighByte => 1,
+        Answer::Unknown => 1,
+        Answer::BadArgument => 1,
+        Answer::Barred => 1,
+        Answer::KeysFull => 1,
+        Answer::NoRoom => 0,
+        Answer::BadCall => 0,
+        Answer::Locked => 0,
+    }
+}
+
+fn is_nothing(x: SetupChange) -> bool
+    ensures { λ r. ⌜ r ≡ isNothing x ⌝ }
+{
+    match x {
+        SetupChange::Nothing => true,
+        SetupChange::Tab(_, _) => false,
+        SetupChange::ClearTabs => false,
+        SetupChange::Attribute(_, _) => false,
+        SetupChange::Feature(_, _) => false,
+        SetupChange::Key(_) => false,
+    }
+}
+
+fn overfills(keys: [Key; 32], k: Key, x: SetupChange) -> bool
+    ensures { λ r. ⌜ r ≡ overfills keys k x ⌝ }
+{
+    match x {
+        SetupChange::Nothing => false,
+        SetupChange::Tab(_, _) => false,
+        SetupChange::ClearTabs => false,
+        SetupChange::Attribute(_, _) => false,
+        SetupChange::Feature(_, _) => false,
+        SetupChange::Key(n) => overfull(keys, n, k),
+    }
+}
+
+// A key's text that would bring the key bytes over 256 answers 5; any other change is made.
+fn judge(a: Answer, x: SetupChange, k: Key, u: Setup) -> Judged
+    ensures { λ r. ⌜ (number (r .answer) ≡ keysAnswer (u .keys) k x (number a)) × (r .setup ≡ keysSetup x k u) ⌝ }
+{
+    let keys = u.keys;
+    if overfills(keys, k, x) {
+        return Judged {
+            answer: Answer::KeysFull,
+            setup: u,
+        };
+    }
+    let v = changed(x, k, u);
+    Judged {
+        answer: a,
+        setup: v,
+    }
+}
+
+fn finished(
+    answer: Answer,
+    last: Answer,
+    taken: usize,
+    replied: usize,
+    refused: usize,
+    core: Core,
+    setup: Setup,
+) -> Ended
+    ensures { λ r. ⌜ r ≡ record { answer = answer; last = last; taken = taken; replied = replied; refused = refused; core = core; setup = setup } ⌝ }
+{
+    Ended {
+        answer: answer,
+        last: last,
+        taken: taken,
+        replied: replied,
+        refused: refused,
+        core: core,
+        setup: setup,
+    }
+}
+
+// The single step repeated, each with the room that is left; it stops before the first byte that answers 6.
+pub fn repeat(page: &mut [u16], core: Core, setup: Setup, input: &[u8], room: &mut [u8]) -> Ended
+    requires { ⌜ good (now page) (stateOf core setup) ≡ true ⌝ }
+    ensures { λ r. ⌜ Looped (now (page .entry)) (stateOf core setup) (now (input .entry)) (now (room .entry)) r (now (page .exit)) (now (room .exit)) ⌝ }
+{
+    let mut c = core;
+    let mut u = setup;
+    let mut last = Answer::Done;
+    let mut taken = 0;
+    let mut replied = 0;
+    let mut refused = 0;
+    while taken < input.len() {
+        let k = c.gathered;
+        let t = inner(page, &u.tabs, c, input[taken], &mut room[replied..]);
+        let a = t.answer;
+        if is_no_room(a) {
+            return finished(Answer::NoRoom, a, taken, replied, refused, c, u);
+        }
+        let next = t.core;
+        c = next;
+        taken += 1;
+        replied += t.replied;
+        let x = t.change;
+        if is_nothing(x) {
+            last = a;
+            refused += refusals(a);
+            continue;
+        }
+        let v = judge(a, x, k, u);
+        let w = v.setup;
+        u = w;
+        last = v.answer;
+        refused += refusals(last);
+    }
+    finished(Answer::Done, last, taken, replied, refused, c, u)
+}

@@ -1,0 +1,72 @@
+// One byte on a good page and state. The set-up is not handed through: the inner step sees the tab stops and gives the change.
+ghost use mathlib.Core.Path.{_≡_};
+ghost use mathlib.Core.Bool.{true};
+ghost use mathlib.Core.List.{List, []};
+ghost use Prim.Native.Nat.{ℕ};
+ghost use lib.ListN.{length};
+ghost use Rattle.rules.specs.State.{number};
+ghost use Rattle.rules.specs.Search.{guardedAt};
+ghost use Rattle.rules.specs.Possible.{screenOk, pendingOk};
+ghost use Rattle.rules.specs.Plan.{planRule};
+ghost use Rattle.rules.specs.Carry.{effect, carried};
+ghost use Rattle.carry.specs.Carried.{Carried};
+ghost use Rattle.terminal.specs.Inner.{innerAlone};
+use carry::carry_out;
+use plan::plan_for;
+use rules::Answer;
+use rules::Command;
+use rules::Core;
+use rules::CoreResult;
+use rules::Decoded;
+use rules::SetupChange;
+use state::core::awaiting;
+use state::core::idle;
+use state::core::with_gathered;
+use state::decode::decode;
+use state::keys::grown;
+
+// A byte that writes nothing and replies nothing.
+fn quiet(answer: Answer, core: Core, change: SetupChange) -> CoreResult
+    ensures { λ r. ⌜ ((p w : List ℕ) → Carried (effect (number answer) core change p []) r p w w) ⌝ }
+{
+    CoreResult {
+        answer: answer,
+        replied: 0,
+        core: core,
+        change: change,
+    }
+}
+
+// A command: planned, and carried out.
+fn obey(page: &mut [u16], tabs: &[bool; 80], core: Core, d: Command, room: &mut [u8]) -> CoreResult
+    requires { ⌜ (length (now page) ≡ 1920) × (screenOk (core .screen) ≡ true) ⌝ }
+    ensures { λ r. ⌜ Carried (carried (now (page .entry)) core (planRule (guardedAt (core .modes .protect) (now (page .entry))) (now (tabs .entry)) core d) (length (now (room .entry)))) r (now (page .exit)) (now (room .entry)) (now (room .exit)) ⌝ }
+{
+    let plan = plan_for(page, tabs, core, d);
+    carry_out(page, core, plan, room)
+}
+
+pub fn inner(page: &mut [u16], tabs: &[bool; 80], core: Core, b: u8, room: &mut [u8]) -> CoreResult
+    requires { ⌜ (length (now page) ≡ 1920) × ((screenOk (core .screen) ≡ true) × (pendingOk (core .pending) (core .gathered) ≡ true)) ⌝ }
+    ensures { λ r. ⌜ Carried (innerAlone (now (page .entry)) core (now (tabs .entry)) b (length (now (room .entry)))) r (now (page .exit)) (now (room .entry)) (now (room .exit)) ⌝ }
+{
+    if 128 <= b {
+        return quiet(Answer::HighByte, core, SetupChange::Nothing);
+    }
+    let q = core.pending;
+    let k = core.gathered;
+    let d = decode(q, k.len, b);
+    match d {
+        Decoded::Wait(next) => quiet(Answer::Done, awaiting(core, next), SetupChange::Nothing),
+        Decoded::Gather(x) => {
+            quiet(
+                Answer::Done,
+                with_gathered(core, grown(k, x)),
+                SetupChange::Nothing,
+            )
+        }
+        Decoded::Program(n) => quiet(Answer::Done, idle(core), SetupChange::Key(n)),
+        Decoded::Reject(a) => quiet(a, idle(core), SetupChange::Nothing),
+        Decoded::Do(x) => obey(page, tabs, core, x, room),
+    }
+}

@@ -1,0 +1,150 @@
+// The terminal: power-on, the single step, the run over many bytes, the bytes that a run did not take, and the key press. No call asks
+// anything of its caller, and each promises all that it gives: the answer, every count, and every cell and byte that it was lent.
+mod bytes; // the loop over host bytes
+mod inner; // one byte
+mod key; // what a key sends
+
+ghost use mathlib.Core.Path.{_≡_};
+ghost use lib.ListN.{length, drop};
+ghost use Rattle.rules.specs.Possible.{good};
+ghost use Rattle.rules.specs.Step.{stepRule};
+ghost use Rattle.rules.specs.Calls.{powerOnRule, runRule, pressRule};
+ghost use Rattle.terminal.specs.Promise.{PoweredOn, Stepped, Completed, Sent};
+use bytes::repeat;
+use key::press_key;
+pub use page::cell::code_of;
+pub use page::cell::is_protected;
+pub use page::cell::kind_of;
+pub use page::cell::sent_code;
+use page::change::fill_cells;
+use rules::Answer;
+use rules::PowerOn;
+use rules::PressResult;
+use rules::RunResult;
+use rules::State;
+use rules::StepResult;
+pub use state::answer_number;
+use state::keys::is_key;
+use state::keys::key_at;
+use state::logic::and;
+use state::possible::possible;
+use state::power_on_state;
+
+// A page of the right length, and a possible state.
+fn is_good(page: &[u16], state: State) -> bool
+    ensures { λ r. ⌜ r ≡ good (now (page .entry)) state ⌝ }
+{
+    and(page.len() == 1920, possible(state))
+}
+
+// All cells 0, and the power-on state. Ruled out: one that clears a page of the wrong length, or leaves a cell of the right one.
+pub fn power_on(page: &mut [u16]) -> PowerOn
+    ensures { λ r. ⌜ PoweredOn (powerOnRule (now (page .entry))) r (now (page .exit)) ⌝ }
+{
+    let state = power_on_state();
+    if page.len() == 1920 {
+        fill_cells(page, false, 0, 1920, 0);
+        return PowerOn {
+            answer: Answer::Done,
+            state: state,
+        };
+    }
+    PowerOn {
+        answer: Answer::BadCall,
+        state: state,
+    }
+}
+
+// The single step. Ruled out: one that keeps the low seven bits of E9h, or moves the cursor before the second address byte.
+pub fn step(page: &mut [u16], state: State, byte: u8, reply: &mut [u8]) -> StepResult
+    ensures { λ r. ⌜ Stepped (stepRule (now (page .entry)) state byte (length (now (reply .entry)))) r (now (page .exit)) (now (reply .entry)) (now (reply .exit)) ⌝ }
+{
+    if !is_good(page, state) {
+        return StepResult {
+            answer: Answer::BadCall,
+            replied: 0,
+            state: state,
+        };
+    }
+    let core = state.core;
+    let setup = state.setup;
+    let one = [byte];
+    let t = repeat(page, core, setup, &one, reply);
+    let c = t.core;
+    let u = t.setup;
+    let last = t.last;
+    let next = State { core: c, setup: u };
+    StepResult {
+        answer: last,
+        replied: t.replied,
+        state: next,
+    }
+}
+
+// The run over many bytes. Ruled out: one that obeys the first byte and idles after it, or counts the byte that answered 6 as taken.
+pub fn run(page: &mut [u16], state: State, input: &[u8], reply: &mut [u8]) -> RunResult
+    ensures { λ r. ⌜ Completed (runRule (now (page .entry)) state (now (input .entry)) (length (now (reply .entry)))) r (now (input .entry)) (now (page .exit)) (now (reply .entry)) (now (reply .exit)) ⌝ }
+{
+    if !is_good(page, state) {
+        return RunResult {
+            answer: Answer::BadCall,
+            taken: 0,
+            replied: 0,
+            refused: 0,
+            state: state,
+        };
+    }
+    let core = state.core;
+    let setup = state.setup;
+    let t = repeat(page, core, setup, input, reply);
+    let c = t.core;
+    let u = t.setup;
+    let answer = t.answer;
+    let next = State { core: c, setup: u };
+    RunResult {
+        answer: answer,
+        taken: t.taken,
+        replied: t.replied,
+        refused: t.refused,
+        state: next,
+    }
+}
+
+// The bytes that a run did not take, as that part of the input; past its end there are none. Ruled out: one that hands back the bytes
+// taken, or drops the byte that answered 6.
+pub fn rest(input: &[u8], taken: usize) -> &[u8]
+    ensures { λ r. ⌜ now r ≡ drop taken (now (input .entry)) ⌝ }
+{
+    let n = input.len();
+    if n < taken {
+        return &input[n..];
+    }
+    &input[taken..]
+}
+
+// The key press. Ruled out: one that works while the keyboard is locked, or sends the bytes of the key beside.
+pub fn press(page: &[u16], state: State, key: u8, reply: &mut [u8]) -> PressResult
+    ensures { λ r. ⌜ Sent (pressRule (now (page .entry)) state key (length (now (reply .entry)))) r (now (reply .entry)) (now (reply .exit)) ⌝ }
+{
+    if !is_good(page, state) {
+        return PressResult {
+            answer: Answer::BadCall,
+            replied: 0,
+        };
+    }
+    if state.core.modes.locked {
+        return PressResult {
+            answer: Answer::Locked,
+            replied: 0,
+        };
+    }
+    if !is_key(key) {
+        return PressResult {
+            answer: Answer::BadArgument,
+            replied: 0,
+        };
+    }
+    let setup = state.setup;
+    let keys = setup.keys;
+    press_key(key_at(keys, key), key, reply)
+}
