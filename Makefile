@@ -1,4 +1,4 @@
-# make test: the gate. make demo: the gateway's main job, once its program is there.
+# make test: the gate. make demo: the gateway's main job on two host streams.
 
 .PHONY: test demo
 
@@ -6,4 +6,8 @@ test:
 	@tests/gate
 
 demo:
-	@echo "The rules of the terminal are written and proved (crates/rules); there is no program to show yet."
+	@mkdir -p target
+	@rt check alert >target/demo.log 2>&1 || { cat target/demo.log; exit 1; }
+	@target/bin/alert examples/roast-alert.host
+	@echo
+	@target/bin/alert examples/june-slip.host

@@ -1,0 +1,17 @@
+-- `alert::report::cursor_of` meets its contract.
+use borrow.Author.Needs.{needs}
+use borrow.Author.Tests.{eq-eqb, ne-eqb}
+use Rattle.rules.specs.State.{cursorOf}
+use Rattle.alert.proofs.report.cursor_of.Statement.{statement}
+use Rattle.alert.proofs.report.cursor_of.Tie as tie
+
+returns : tie.Need-returns
+unfolding cursorOf
+returns c = simp (eq-eqb _ _ (c .before .if1 .taken))
+
+returns-2 : tie.Need-returns-2
+unfolding cursorOf
+returns-2 c = simp (ne-eqb _ _ (c .before .if1 .left))
+
+pub cursor-of-spec : {M : Type 1} → statement M
+cursor-of-spec = tie.close (tie.spec (λ c. search needs) returns (λ c. search needs) returns-2)

@@ -1,0 +1,75 @@
+// Plays a host stream to the terminal and shows what came of it: the page, what was refused, the open text that members would be sent, and
+// the replies. The stream is standard input, or the file that the first argument names.
+mod cells;
+mod fields;
+mod out;
+mod picture;
+mod report;
+mod stream;
+
+ghost use mathlib.Core.Path.{_≡_};
+ghost use lib.ListN.{length};
+use libc::STDERR_FILENO;
+use libc::STDIN_FILENO;
+use stream::Played;
+
+// What stopped the reading, with the system's reason.
+fn unreadable(name: &[u8]) {
+    io::write_all(STDERR_FILENO, b"alert: cannot read ");
+    os::fail(name);
+}
+
+fn show(name: &[u8], page: &[u16], drawn: &[u16], p: Played, log: &[u8])
+    requires { ⌜ (length (now page) ≡ 1920) × (length (now drawn) ≡ 1920) ⌝ }
+{
+    let state = p.state;
+    let core = state.core;
+    let screen = core.screen;
+    let modes = core.modes;
+    let protect = modes.protect;
+    let pending = core.pending;
+    let refusals = p.refusals;
+    report::heading(name, p.bytes);
+    picture::show(page, protect, report::cursor_of(screen));
+    report::place(page, protect, screen);
+    report::modes(modes);
+    report::sequence(pending);
+    report::guarded(page, drawn, protect);
+    report::refused(refusals, p.bytes, p.clean);
+    fields::show(page, protect);
+    report::replies(p, log);
+}
+
+fn play(fd: i32, name: &[u8]) {
+    let mut page = [0u16; 1920];
+    let mut before = [0u16; 1920];
+    let mut drawn = [0u16; 1920];
+    let mut room = [0u8; 1944];
+    let mut log = io::buffer();
+    let p = stream::play(fd, &mut page, &mut before, &mut drawn, &mut room, &mut log);
+    if p.failed {
+        unreadable(name);
+        return;
+    }
+    show(name, &page, &drawn, p, &log);
+}
+
+fn main() {
+    if os::arg_count() < 2 {
+        play(STDIN_FILENO, b"standard input");
+        return;
+    }
+    let mut path = io::buffer();
+    let n = os::arg(1, &mut path);
+    if os::errno() != 0 {
+        unreadable(b"the file of the first argument");
+        return;
+    }
+    let fd = os::open_read(&path[..n]);
+    if fd < 0 {
+        unreadable(&path[..n]);
+        return;
+    }
+    play(fd, &path[..n]);
+    libc::close(fd);
+}

@@ -1,0 +1,268 @@
+// The bytes of the host, one by one to the terminal, and what came of them.
+ghost use mathlib.Core.Path.{_≡_};
+ghost use lib.ListN.{length};
+use crate::cells::copy;
+use crate::cells::same;
+use rules::Answer;
+use rules::State;
+use std::num::wrapping_add_u64;
+
+// The bytes refused, by answer: 1 to 5 in this order, and the rest.
+pub struct Refusals {
+    pub high: u64,
+    pub unknown: u64,
+    pub argument: u64,
+    pub barred: u64,
+    pub keys: u64,
+    pub other: u64,
+}
+
+pub struct Played {
+    pub state: State,
+    pub refusals: Refusals,
+    pub bytes: u64,
+    // reply bytes in all, and those of them that the log holds
+    pub replied: u64,
+    pub kept: usize,
+    // no byte above 7Fh has changed the page
+    pub clean: bool,
+    // the stream may go on; reading it failed
+    pub going: bool,
+    pub failed: bool,
+}
+
+// Power-on.
+fn start(page: &mut [u16]) -> Played {
+    let on = terminal::power_on(page);
+    let state = on.state;
+    let none = Refusals {
+        high: 0,
+        unknown: 0,
+        argument: 0,
+        barred: 0,
+        keys: 0,
+        other: 0,
+    };
+    Played {
+        state: state,
+        refusals: none,
+        bytes: 0,
+        replied: 0,
+        kept: 0,
+        clean: true,
+        going: true,
+        failed: false,
+    }
+}
+
+fn counted(r: Refusals, a: Answer) -> Refusals {
+    let mut t = r;
+    match a {
+        Answer::Done => {}
+        Answer::HighByte => t.high = wrapping_add_u64(r.high, 1),
+        Answer::Unknown => t.unknown = wrapping_add_u64(r.unknown, 1),
+        Answer::BadArgument => t.argument = wrapping_add_u64(r.argument, 1),
+        Answer::Barred => t.barred = wrapping_add_u64(r.barred, 1),
+        Answer::KeysFull => t.keys = wrapping_add_u64(r.keys, 1),
+        Answer::NoRoom => t.other = wrapping_add_u64(r.other, 1),
+        Answer::BadCall => t.other = wrapping_add_u64(r.other, 1),
+        Answer::Locked => t.other = wrapping_add_u64(r.other, 1),
+    }
+    t
+}
+
+// One byte more in the log, if it has room; answers how many it holds then.
+fn keep_byte(log: &mut [u8], at: usize, b: u8) -> usize {
+    if at < log.len() {
+        log[at] = b;
+        return at + 1;
+    }
+    at
+}
+
+fn keep(log: &mut [u8], at: usize, bytes: &[u8]) -> usize {
+    let mut n = at;
+    let mut i = 0;
+    while i < bytes.len() {
+        n = keep_byte(log, n, bytes[i]);
+        i += 1;
+    }
+    n
+}
+
+// One byte to the terminal.
+fn step(page: &mut [u16], p: Played, byte: u8, room: &mut [u8], log: &mut [u8]) -> Played {
+    let state = p.state;
+    let r = terminal::step(page, state, byte, room);
+    let next = r.state;
+    let n = r.replied;
+    let answer = r.answer;
+    let old = p.refusals;
+    let refusals = counted(old, answer);
+    Played {
+        state: next,
+        refusals: refusals,
+        bytes: wrapping_add_u64(p.bytes, 1),
+        replied: wrapping_add_u64(p.replied, n as u64),
+        kept: keep(log, p.kept, &room[..n]),
+        clean: p.clean,
+        going: true,
+        failed: false,
+    }
+}
+
+// A byte above 7Fh: the page is compared with what it was before.
+fn step_high(
+    page: &mut [u16],
+    before: &mut [u16],
+    p: Played,
+    byte: u8,
+    room: &mut [u8],
+    log: &mut [u8],
+) -> Played
+    requires { ⌜ length (now page) ≡ length (now before) ⌝ }
+{
+    copy(page, before);
+    let mut t = step(page, p, byte, room, log);
+    if !same(page, before) {
+        t.clean = false;
+    }
+    t
+}
+
+fn take(
+    page: &mut [u16],
+    before: &mut [u16],
+    p: Played,
+    byte: u8,
+    room: &mut [u8],
+    log: &mut [u8],
+) -> Played
+    requires { ⌜ length (now page) ≡ length (now before) ⌝ }
+{
+    if byte < 0x80 {
+        return step(page, p, byte, room, log);
+    }
+    step_high(page, before, p, byte, room, log)
+}
+
+fn protects(p: Played) -> bool {
+    p.state.core.modes.protect
+}
+
+// Where protect mode has just gone on, the page is kept as the host drew it.
+fn remember(page: &[u16], drawn: &mut [u16], was: bool, is: bool)
+    requires { ⌜ length (now page) ≡ length (now drawn) ⌝ }
+{
+    if !was {
+        if is {
+            copy(page, drawn);
+        }
+    }
+}
+
+fn obey(
+    page: &mut [u16],
+    before: &mut [u16],
+    drawn: &mut [u16],
+    p: Played,
+    byte: u8,
+    room: &mut [u8],
+    log: &mut [u8],
+) -> Played
+    requires { ⌜ (length (now page) ≡ length (now before)) × (length (now page) ≡ length (now drawn)) ⌝ }
+{
+    let t = take(page, before, p, byte, room, log);
+    remember(page, drawn, protects(p), protects(t));
+    t
+}
+
+fn feed(
+    page: &mut [u16],
+    before: &mut [u16],
+    drawn: &mut [u16],
+    p: Played,
+    input: &[u8],
+    room: &mut [u8],
+    log: &mut [u8],
+) -> Played
+    requires { ⌜ (length (now page) ≡ length (now before)) × (length (now page) ≡ length (now drawn)) ⌝ }
+{
+    let mut t = p;
+    let mut i = 0;
+    while i < input.len() {
+        let u = obey(page, before, drawn, t, input[i], room, log);
+        t = u;
+        i += 1;
+    }
+    t
+}
+
+fn ended(p: Played, failed: bool) -> Played {
+    let mut t = p;
+    t.going = false;
+    t.failed = failed;
+    t
+}
+
+// One piece of the stream, of any size.
+fn piece(
+    fd: i32,
+    page: &mut [u16],
+    before: &mut [u16],
+    drawn: &mut [u16],
+    p: Played,
+    room: &mut [u8],
+    log: &mut [u8],
+) -> Played
+    requires { ⌜ (length (now page) ≡ length (now before)) × (length (now page) ≡ length (now drawn)) ⌝ }
+{
+    let mut input = io::buffer();
+    let got = libc::read(fd, &mut input);
+    if got <= 0 {
+        return ended(p, got < 0);
+    }
+    let n = io::count(got, &input);
+    feed(page, before, drawn, p, &input[..n], room, log)
+}
+
+// All pieces. A proved loop has to end, and nothing says that a stream does: the count falls from a number that no stream uses up.
+fn pieces(
+    fd: i32,
+    page: &mut [u16],
+    before: &mut [u16],
+    drawn: &mut [u16],
+    start: Played,
+    room: &mut [u8],
+    log: &mut [u8],
+) -> Played
+    requires { ⌜ (length (now page) ≡ length (now before)) × (length (now page) ≡ length (now drawn)) ⌝ }
+{
+    let mut p = start;
+    let mut left = u64::MAX;
+    while 0 < left {
+        let t = piece(fd, page, before, drawn, p, room, log);
+        p = t;
+        if !p.going {
+            break;
+        }
+        left -= 1;
+    }
+    p
+}
+
+// The whole stream, from power-on. `before` is for the comparison of pages, and `drawn` comes back as the page was when protect mode last
+// went on; the log comes back with the first bytes of the replies.
+pub fn play(
+    fd: i32,
+    page: &mut [u16],
+    before: &mut [u16],
+    drawn: &mut [u16],
+    room: &mut [u8],
+    log: &mut [u8],
+) -> Played
+    requires { ⌜ (length (now page) ≡ length (now before)) × (length (now page) ≡ length (now drawn)) ⌝ }
+{
+    let p = start(page);
+    pieces(fd, page, before, drawn, p, room, log)
+}
