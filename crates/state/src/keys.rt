@@ -1,21 +1,15 @@
 // Function keys.
 ghost use mathlib.Core.Path.{_≡_};
 ghost use mathlib.Core.Bool.{true};
-ghost use mathlib.Core.List.{List, [], _∷_, _++_};
-ghost use Prim.Native.Nat.{ℕ, _<_, _≤_};
+ghost use mathlib.Core.List.{[], _++_};
+ghost use Prim.Native.Nat.{_<_, _≤_};
 ghost use lib.ListN.{getD, set, take, replicate};
-ghost use Rattle.rules.specs.State.{number, keyText, keyOf, noKey, keyPlace, keyBytes};
+ghost use Rattle.rules.specs.State.{keyText, keyOf, noKey, keyPlace, keyBytes};
 ghost use Rattle.rules.specs.Possible.{isKey};
-ghost use Rattle.rules.specs.Carry.{effect};
-ghost use Rattle.rules.specs.Step.{grown, overfull, programmed};
-use crate::core::idle;
+ghost use Rattle.rules.specs.Step.{grown, overfull};
 use crate::logic::among;
 use crate::logic::or;
-use rules::Answer;
-use rules::Core;
-use rules::CoreResult;
 use rules::Key;
-use rules::SetupChange;
 
 pub fn no_key() -> Key
     ensures { λ r. ⌜ r ≡ noKey ⌝ }
@@ -125,25 +119,4 @@ pub fn overfull(keys: [Key; 32], n: u8, k: Key) -> bool
 {
     let t = set_key(keys, n, clean_key(k));
     256 < key_bytes(t)
-}
-
-// The key's text is complete: the key takes it, or 5.
-pub fn programmed(c: Core, keys: [Key; 32], n: u8) -> CoreResult
-    ensures { λ r. ⌜ (r .replied ≡ 0) × ((p : List ℕ) → effect (number (r .answer)) (r .core) (r .change) p [] ≡ programmed p c keys n) ⌝ }
-{
-    let gathered = c.gathered;
-    if overfull(keys, n, gathered) {
-        return CoreResult {
-            answer: Answer::KeysFull,
-            replied: 0,
-            core: idle(c),
-            change: SetupChange::Nothing,
-        };
-    }
-    CoreResult {
-        answer: Answer::Done,
-        replied: 0,
-        core: idle(c),
-        change: SetupChange::Key(n),
-    }
 }

@@ -1,8 +1,8 @@
 -- What a byte gives: its promise, by the effect.
---     carried-is, quiet-carried     the effect is another's; it writes and replies nothing
---     below, above                  the effect of a byte, by what it comes to
+--     quiet-carried     a byte that writes and replies nothing
+--     below, above      the effect of a byte, by what it comes to
 -- Assumes nothing.
-use mathlib.Core.Path.{_≡_, refl, sym, ap, subst, _∙_}
+use mathlib.Core.Path.{_≡_, refl, sym, ap, _∙_}
 use mathlib.Core.Bool.{Bool}
 use mathlib.Core.List.{List, []}
 use Prim.Native.Nat.{ℕ, _<_, _≤_}
@@ -10,18 +10,14 @@ use native.Mathlib.Omega.{arith}
 use borrow.Author.Tests.{lt-ltb, le-ltb}
 use Rattle.rules.specs.declared.Answer.{Answer}
 use Rattle.rules.specs.declared.Core.{Core}
-use Rattle.rules.specs.declared.CoreResult.{CoreResult}
 use Rattle.rules.specs.declared.Decoded.{Decoded}
 use Rattle.rules.specs.declared.SetupChange.{SetupChange}
 use Rattle.rules.specs.State.{number}
 use Rattle.rules.specs.Decode.{decodeRule}
-use Rattle.rules.specs.Carry.{Effect, effect, quiet}
+use Rattle.rules.specs.Carry.{effect, quiet}
 use Rattle.rules.specs.Room.{over}
 use Rattle.carry.specs.Carried.{Carried}
 use Rattle.terminal.specs.Inner.{obeyedAlone, innerAlone}
-
-pub carried-is : {e e′ : Effect} {r : CoreResult} {p w w′ : List ℕ} → e ≡ e′ → Carried e′ r p w w′ → Carried e r p w w′
-carried-is {e} {e′} {r} {p} {w} {w′} i h = subst (λ (x : Effect). Carried x r p w w′) (sym i) h
 
 pub over-none : (w : List ℕ) → w ≡ over [] w
 unfolding over

@@ -9,7 +9,8 @@ use Rattle.rules.specs.declared.SetupChange.the-variants as SetupChange
 use Rattle.rules.specs.State.{number, withGathered}
 use Rattle.rules.specs.Carry.{effect}
 use Rattle.terminal.specs.Inner.{obeyedAlone}
-use Rattle.terminal.proofs.Carrying.{carried-is, below, above}
+use Rattle.carry.proofs.Carrying.{carried-is}
+use Rattle.terminal.proofs.Carrying.{below, above}
 use Rattle.terminal.proofs.Gathered.{gathered-short}
 use borrow.Author.Needs.{needs}
 use Rattle.terminal.proofs.inner.inner.Statement.{statement}

@@ -7,7 +7,7 @@ use Rattle.rules.specs.Good.{GoodPlan}
 use Rattle.rules.specs.Carry.{carried}
 use Rattle.rules.proofs.Marks.{length-guards}
 use Rattle.rules.proofs.Good.{good-plan}
-use Rattle.terminal.proofs.Carrying.{carried-is}
+use Rattle.carry.proofs.Carrying.{carried-is}
 use borrow.Author.Needs.{needs}
 use Rattle.terminal.proofs.inner.obey.Statement.{statement}
 use Rattle.terminal.proofs.inner.obey.Tie as tie
