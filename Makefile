@@ -1,6 +1,9 @@
-# make test: the gate. make demo: the gateway's main job on two host streams.
+# make test: the gate. make demo: the gateway's main job on two host streams. make fuzz: the differential test for longer.
 
-.PHONY: test demo
+.PHONY: test demo fuzz
+
+SECONDS ?= 60
+SEED ?= 1
 
 test:
 	@tests/gate
@@ -11,3 +14,8 @@ demo:
 	@target/bin/alert examples/roast-alert.host
 	@echo
 	@target/bin/alert examples/june-slip.host
+
+# The differential test for SECONDS seconds, after make test or rt check has built replay.
+fuzz:
+	@test -x target/bin/replay || rt check replay
+	@$$(tests/build-independent) compare target/bin/replay $(SEED) --seconds $(SECONDS)

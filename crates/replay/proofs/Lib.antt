@@ -1,0 +1,5 @@
+pub mod Words
+pub mod Numbers
+pub mod Hex
+pub mod Rooms
+pub mod Fnv

@@ -1,0 +1,27 @@
+-- `call::untouched` is right. The invariant: all is EEh before i.
+use Prim.Native.Nat.{_-_}
+use Rattle.replay.proofs.Rooms.{Looking, look-start, look-other, look-on, look-end}
+use lib.ListN.{length}
+use native.Mathlib.Omega.{arith}
+use Rattle.replay.proofs.call.untouched.Statement.{statement}
+use Rattle.replay.proofs.call.untouched.Tie as tie
+
+abbrev Inv-loop : tie.InvT-loop
+Inv-loop room i₀ i = Looking room i
+
+abbrev μ-loop : tie.MeasureT-loop
+μ-loop room i₀ i = length room - i
+
+pub untouched-spec : {M : Type 1} → statement M
+untouched-spec =
+    tie.close
+    (tie.spec
+    Inv-loop
+    μ-loop
+    (λ c. look-start _)
+    (λ c. omega arith)
+    (λ c. look-other (c .before .before .before .loop .inv) (c .before .before .loop-test .taken) (c .if1 .taken))
+    (λ c. omega arith)
+    (λ c. omega arith)
+    (λ c. look-on (c .before .before .before .loop .inv) (c .before .before .loop-test .taken) (c .if1 .left))
+    (λ c. look-end (c .before .loop .inv) (c .loop-test .left)))

@@ -1,0 +1,31 @@
+-- `change::noise` is safe and ends.
+use Prim.Native.Nat.{_-_, _≤_}
+use lib.ListN.{length, length-set}
+use mathlib.Core.Path.{_≡_}
+use native.Mathlib.Omega.{arith}
+use Rattle.replay.proofs.change.noise.Statement.{statement}
+use Rattle.replay.proofs.change.noise.Tie as tie
+
+abbrev Inv-loop : tie.InvT-loop
+Inv-loop page₀ seed mask share x₀ i₀ page x i = (i ≤ length page₀) × (length page ≡ length page₀)
+
+abbrev μ-loop : tie.MeasureT-loop
+μ-loop page₀ seed mask share x₀ i₀ page x i = length page₀ - i
+
+pub noise-spec : {M : Type 1} → statement M
+noise-spec =
+    tie.close
+    (tie.spec
+    Inv-loop
+    μ-loop
+    (λ c. omega arith)
+    (λ c κs. tt)
+    (λ c κs. tt)
+    (λ c κs. tt)
+    (λ c. omega arith)
+    (λ c. omega arith)
+    (λ c. omega arith)
+    (λ c. omega arith)
+    (λ c. simp length-set (omega arith))
+    (λ c. omega arith)
+    (λ c. tt))

@@ -1,0 +1,28 @@
+-- `digest::of` is right. The invariant: the digest is h after i cells.
+use Prim.Native.Nat.{_-_}
+use Rattle.replay.proofs.Fnv.{Digesting, digest-start, digest-on, digest-end}
+use lib.ListN.{length}
+use native.Mathlib.Omega.{arith}
+use Rattle.replay.proofs.digest.of.Statement.{statement}
+use Rattle.replay.proofs.digest.of.Tie as tie
+
+abbrev Inv-loop : tie.InvT-loop
+Inv-loop page h₀ i₀ h i = Digesting page h i
+
+abbrev μ-loop : tie.MeasureT-loop
+μ-loop page h₀ i₀ h i = length page - i
+
+pub of-spec : {M : Type 1} → statement M
+of-spec =
+    tie.close
+    (tie.spec
+    Inv-loop
+    μ-loop
+    (λ c. digest-start _)
+    (λ c. omega arith)
+    (λ c. omega arith)
+    (λ c κs. tt)
+    (λ c. omega arith)
+    (λ c. omega arith)
+    (λ c. digest-on (c .before .before .before .loop .inv) (c .before .before .loop-test .taken) (c .with-cell .ensures))
+    (λ c. digest-end (c .before .loop .inv) (c .loop-test .left)))

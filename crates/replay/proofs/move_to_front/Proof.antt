@@ -1,0 +1,29 @@
+-- `move_to_front` is safe and ends.
+use Prim.Native.Nat.{_-_, _≤_}
+use lib.ListN.{length, length-set}
+use mathlib.Core.Path.{_≡_}
+use native.Mathlib.Omega.{arith}
+use Rattle.replay.proofs.move_to_front.Statement.{statement}
+use Rattle.replay.proofs.move_to_front.Tie as tie
+
+abbrev Inv-loop : tie.InvT-loop
+Inv-loop input₀ from to i₀ j₀ input i j = (length input ≡ length input₀) × (i ≤ j)
+
+abbrev μ-loop : tie.MeasureT-loop
+μ-loop input₀ from to i₀ j₀ input i j = to - j
+
+pub move-to-front-spec : {M : Type 1} → statement M
+move-to-front-spec =
+    tie.close
+    (tie.spec
+    Inv-loop
+    μ-loop
+    (λ c. omega arith)
+    (λ c. omega arith)
+    (λ c. omega arith)
+    (λ c. omega arith)
+    (λ c. omega arith)
+    (λ c. omega arith)
+    (λ c. simp length-set (omega arith))
+    (λ c. omega arith)
+    (λ c. tt))

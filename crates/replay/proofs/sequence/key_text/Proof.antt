@@ -1,0 +1,29 @@
+-- `sequence::key_text` is safe and ends.
+use Prim.Native.Nat.{_-_, _≤_}
+use native.Mathlib.Omega.{arith}
+use Rattle.replay.proofs.sequence.key_text.Statement.{statement}
+use Rattle.replay.proofs.sequence.key_text.Tie as tie
+
+abbrev Inv-loop : tie.InvT-loop
+Inv-loop v g text bytes₀ i₀ bytes i = i ≤ 8
+
+abbrev μ-loop : tie.MeasureT-loop
+μ-loop v g text bytes₀ i₀ bytes i = 8 - i
+
+pub key-text-spec : {M : Type 1} → statement M
+key-text-spec =
+    tie.close
+    (tie.spec
+    Inv-loop
+    μ-loop
+    (λ c κs. omega arith)
+    (λ c. omega arith)
+    (λ c. omega arith)
+    (λ c. omega arith)
+    (λ c. omega arith)
+    (λ c. omega arith)
+    (λ c. omega arith)
+    (λ c. omega arith)
+    (λ c κs. omega arith)
+    (λ c. omega arith)
+    (λ c. tt))

@@ -1,0 +1,17 @@
+-- `text::byte_string` is right.
+use Rattle.replay.proofs.Hex.{string-empty, string-dash, string-other}
+use borrow.Author.Needs.{needs}
+use Rattle.replay.proofs.text.byte_string.Statement.{statement}
+use Rattle.replay.proofs.text.byte_string.Tie as tie
+
+pub byte-string-spec : {M : Type 1} → statement M
+byte-string-spec =
+    tie.close
+    (tie.spec
+    (λ c. string-empty _ (c .if1 .taken))
+    (λ c. search needs)
+    (λ c κs. search needs)
+    (λ c. string-dash _ (c .before .same .ensures .0 (c .if2 .taken)))
+    (λ c κs. search needs)
+    (λ c. search needs)
+    (λ c. string-other _ (c .before .before .before .before .before .before .before .if1 .left) (c .before .before .before .before .before .same .ensures .1) (c .before .before .before .before .if2 .left) (c .before .before .hex-bytes .ensures)))

@@ -1,0 +1,14 @@
+-- `text::decimal_digit` is right.
+use Rattle.replay.proofs.Numbers.{digit-is, digit-below, digit-above}
+use borrow.Author.Needs.{needs}
+use Rattle.replay.proofs.text.decimal_digit.Statement.{statement}
+use Rattle.replay.proofs.text.decimal_digit.Tie as tie
+
+pub decimal-digit-spec : {M : Type 1} → statement M
+decimal-digit-spec =
+    tie.close
+    (tie.spec
+    (λ c. digit-below _ (c .if1 .taken))
+    (λ c. digit-above _ (c .if2 .taken))
+    (λ c. search needs)
+    (λ c. digit-is _ (c .before .if1 .left) (c .if2 .left)))

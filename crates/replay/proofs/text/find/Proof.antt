@@ -1,0 +1,27 @@
+-- `text::find` is right. The invariant: b does not stand before i.
+use Prim.Native.Nat.{_-_}
+use Rattle.replay.proofs.Words.{Searching, search-start, search-here, search-on, search-end}
+use lib.ListN.{length}
+use native.Mathlib.Omega.{arith}
+use Rattle.replay.proofs.text.find.Statement.{statement}
+use Rattle.replay.proofs.text.find.Tie as tie
+
+abbrev Inv-loop : tie.InvT-loop
+Inv-loop s b i₀ i = Searching b s i
+
+abbrev μ-loop : tie.MeasureT-loop
+μ-loop s b i₀ i = length s - i
+
+pub find-spec : {M : Type 1} → statement M
+find-spec =
+    tie.close
+    (tie.spec
+    Inv-loop
+    μ-loop
+    (λ c. search-start _ _)
+    (λ c. omega arith)
+    (λ c. search-here (c .before .before .before .loop .inv) (c .before .before .loop-test .taken) (c .if1 .taken))
+    (λ c. omega arith)
+    (λ c. omega arith)
+    (λ c. search-on (c .before .before .before .loop .inv) (c .before .before .loop-test .taken) (c .if1 .left))
+    (λ c. search-end (c .before .loop .inv) (c .loop-test .left)))

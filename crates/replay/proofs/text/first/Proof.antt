@@ -1,0 +1,16 @@
+-- `text::first` is right.
+use Prim.Native.Nat.{ℕ}
+use lib.ListN.{take, length-take}
+use mathlib.Core.Path.{ap}
+use borrow.Author.Needs.{needs}
+use native.Mathlib.Omega.{arith}
+use Rattle.replay.proofs.text.first.Statement.{statement}
+use Rattle.replay.proofs.text.first.Tie as tie
+
+pub first-spec : {M : Type 1} → statement M
+first-spec =
+    tie.close
+    (tie.spec
+    (λ c κs. search needs)
+    (λ c. simp length-take (omega arith))
+    (λ c. ap (λ (k : ℕ). take k (c .before .before .before .args .line .now)) (c .before .find .ensures .first)))

@@ -1,0 +1,38 @@
+-- `text::hex_bytes` is right. The invariant: the first n bytes of the room are right.
+use Prim.Native.Nat.{_-_, _/_}
+use Rattle.replay.proofs.Hex.{put-odd, put-small, Putting, put-start, put-bad, put-on, put-end}
+use lib.ListN.{length}
+use native.Mathlib.Omega.{arith}
+use Rattle.replay.proofs.text.hex_bytes.Statement.{statement}
+use Rattle.replay.proofs.text.hex_bytes.Tie as tie
+
+abbrev Inv-loop : tie.InvT-loop
+Inv-loop digits room₀ most n₀ room n = Putting digits room₀ room n
+
+abbrev μ-loop : tie.MeasureT-loop
+μ-loop digits room₀ most n₀ room n = length digits / 2 - n
+
+pub hex-bytes-spec : {M : Type 1} → statement M
+hex-bytes-spec =
+    tie.close
+    (tie.spec
+    Inv-loop
+    μ-loop
+    (λ c. put-odd _ _ (c .if1 .taken))
+    (λ c. put-small _ _ (c .if2 .taken))
+    (λ c. put-start _ _)
+    (λ c. omega arith)
+    (λ c. omega arith)
+    (λ c. omega arith)
+    (λ c. omega arith)
+    (λ c. omega arith)
+    (λ c κs. tt)
+    (λ c. omega arith)
+    (λ c. put-bad (c .before .before .before .before .before .loop .inv) (c .before .before .before .before .loop-test .taken) (c .before .hex-byte .ensures) (c .if3 .taken))
+    (λ c. omega arith)
+    (λ c. omega arith)
+    (λ c. omega arith)
+    (λ c. omega arith)
+    (λ c. put-on (c .before .before .before .before .before .loop .inv) (c .before .before .before .before .loop-test .taken) (c .before .hex-byte .ensures) (c .if3 .left) (c .before .before .before .before .before .before .if2 .left))
+    (λ c. omega arith)
+    (λ c. put-end (c .before .loop .inv) (c .before .before .before .if1 .left) (c .before .before .if2 .left) (c .loop-test .left)))

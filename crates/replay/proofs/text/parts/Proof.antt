@@ -1,0 +1,12 @@
+-- `text::parts` is right.
+use borrow.Author.Tests.{eq-eqb, ne-eqb}
+use native.Mathlib.Omega.{arith}
+use Rattle.replay.proofs.text.parts.Statement.{statement}
+use Rattle.replay.proofs.text.parts.Tie as tie
+
+pub parts-spec : {M : Type 1} → statement M
+parts-spec =
+    tie.close
+    (tie.spec
+    (λ c. (rw (eq-eqb (c .before .args .c) 0x20 (c .if1 .taken)), omega arith))
+    (λ c. (rw (ne-eqb (c .before .args .c) 0x20 (c .if1 .left)), omega arith)))

@@ -1,0 +1,142 @@
+// Lines that set something: the page's cells, and the parts of a state.
+use crate::script::Setting;
+use rules::Key;
+use rules::Modes;
+use rules::Screen;
+use rules::Setup;
+use rules::State;
+
+// The next number of the sequence that `noise` draws from.
+fn next(x: usize) -> usize {
+    (x % 4294967296 * 1664525 + 1013904223) % 4294967296
+}
+
+// A cell of noise: the drawn bits that the mask keeps, bit 7 only where the cell is protected.
+fn noise_cell(drawn: usize, mask: usize, protected: bool) -> u16 {
+    let bits = drawn / 65536 & mask;
+    let v = bits / 256 % 256 * 256 + bits % 128;
+    if protected {
+        (v + 128) as u16
+    } else {
+        v as u16
+    }
+}
+
+pub fn noise(page: &mut [u16], seed: usize, mask: usize, share: usize) {
+    let mut x = seed;
+    let mut i = 0;
+    while i < page.len() {
+        let drawn = next(x);
+        x = next(drawn);
+        page[i] = noise_cell(drawn, mask, x / 16777216 < share);
+        i += 1;
+    }
+}
+
+pub fn fill(cells: &mut [u16], v: u16) {
+    let mut i = 0;
+    while i < cells.len() {
+        cells[i] = v;
+        i += 1;
+    }
+}
+
+fn with_mode(m: Modes, i: usize, b: bool) -> Modes {
+    let mut t = m;
+    match i {
+        0 => t.protect = b,
+        1 => t.mark = b,
+        2 => t.insert = b,
+        3 => t.autoscroll = b,
+        4 => t.locked = b,
+        _ => t.local = b,
+    }
+    t
+}
+
+fn with_cursor(s: Screen, second: bool, i: u16) -> Screen {
+    let mut t = s;
+    if second {
+        t.cursor1 = i;
+        t
+    } else {
+        t.cursor0 = i;
+        t
+    }
+}
+
+fn with_tab(u: Setup, c: usize, b: bool) -> Setup {
+    let mut t = u;
+    if c < 80 {
+        t.tabs[c] = b;
+    }
+    t
+}
+
+fn with_attribute(u: Setup, n: usize, v: u8) -> Setup {
+    let mut t = u;
+    if n < 4 {
+        t.attributes[n] = v;
+    }
+    t
+}
+
+fn with_feature(u: Setup, n: usize, v: u8) -> Setup {
+    let mut t = u;
+    if n < 5 {
+        t.features[n] = v;
+    }
+    t
+}
+
+pub fn with_key(u: Setup, n: usize, k: Key) -> Setup {
+    let mut t = u;
+    if n < 32 {
+        t.keys[n] = k;
+    }
+    t
+}
+
+// The key of the first n bytes: its length is n, and it keeps the first 8.
+pub fn key_of(n: u8, bytes: &[u8]) -> Key {
+    let mut kept = [0u8; 8];
+    let mut i = 0;
+    while i < 8 {
+        kept[i] = byte_or_zero(bytes, i, n);
+        i += 1;
+    }
+    Key {
+        len: n,
+        bytes: kept,
+    }
+}
+
+fn byte_or_zero(bytes: &[u8], i: usize, n: u8) -> u8 {
+    if i < n as usize {
+        if i < bytes.len() {
+            return bytes[i];
+        }
+    }
+    0
+}
+
+pub fn set(s: State, x: Setting) -> State {
+    let mut core = s.core;
+    let mut setup = s.setup;
+    let screen = core.screen;
+    let modes = core.modes;
+    match x {
+        Setting::Active(n) => core.screen.active = n,
+        Setting::Cursor(second, i) => core.screen = with_cursor(screen, second, i),
+        Setting::Split(n) => core.screen.split = n,
+        Setting::Mode(i, b) => core.modes = with_mode(modes, i, b),
+        Setting::Tab(c, b) => setup = with_tab(setup, c, b),
+        Setting::Attribute(n, v) => setup = with_attribute(setup, n, v),
+        Setting::Feature(n, v) => setup = with_feature(setup, n, v),
+        Setting::Bells(n) => core.bells = n,
+    }
+    State {
+        core: core,
+        setup: setup,
+    }
+}

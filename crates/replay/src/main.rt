@@ -1,0 +1,154 @@
+// Runs a script of calls against the terminal and writes its trace: the script on standard input, the trace on standard output.
+mod bounds;
+mod call;
+mod change;
+mod digest;
+mod script;
+mod sequence;
+mod session;
+mod state_text;
+mod text;
+mod trace;
+
+ghost use Prim.Native.Nat.{_≤_, _<_};
+ghost use lib.ListN.{length};
+use bounds::least;
+use bounds::within;
+use libc::STDERR_FILENO;
+use libc::STDIN_FILENO;
+use session::Session;
+use session::obey;
+use session::stopped;
+
+// Reads once, and answers how many bytes came; 0 at the end.
+fn read(input: &mut [u8]) -> usize
+    ensures { λ r. ⌜ r ≤ length (now (input .exit)) ⌝ }
+{
+    let got = libc::read(STDIN_FILENO, input);
+    if got < 0 {
+        os::fail(b"replay: standard input");
+    }
+    io::count(got, input)
+}
+
+// Obeys the whole lines of the input; the session then holds what follows the last of them.
+fn obey_lines(
+    s: Session,
+    input: &[u8],
+    page: &mut [u16],
+    bytes: &mut [u8],
+    out: &mut [u8],
+) -> Session {
+    let mut t = s;
+    let mut rest = input;
+    while 0 < rest.len() {
+        let end = text::find(rest, b'\n');
+        if end == rest.len() {
+            break;
+        }
+        let u = obey(t, &rest[..end], page, bytes, out);
+        t = u;
+        if !t.going {
+            break;
+        }
+        rest = &rest[end + 1..];
+    }
+    t.held = rest.len();
+    t
+}
+
+// Moves the bytes from `from` up to `to` to the front.
+fn move_to_front(input: &mut [u8], from: usize, to: usize)
+    requires { ⌜ to ≤ length (now input) ⌝ }
+{
+    let mut i = 0;
+    let mut j = from;
+    while j < to {
+        input[i] = input[j];
+        i += 1;
+        j += 1;
+    }
+}
+
+// One piece of the input. What is held of an unfinished line stands at the front of the buffer.
+fn piece(
+    s: Session,
+    input: &mut [u8],
+    page: &mut [u16],
+    bytes: &mut [u8],
+    out: &mut [u8],
+) -> Session {
+    let held = within(s.held, input);
+    let n = read(&mut input[held..]);
+    if n == 0 {
+        return end(s, &input[..held], page, bytes, out);
+    }
+    filled(s, held + n, input, page, bytes, out)
+}
+
+// Obeys the whole lines of the n bytes that the buffer holds, and moves the rest to its front.
+fn filled(
+    s: Session,
+    n: usize,
+    input: &mut [u8],
+    page: &mut [u16],
+    bytes: &mut [u8],
+    out: &mut [u8],
+) -> Session {
+    let size = within(n, input);
+    let t = obey_lines(s, &input[..size], page, bytes, out);
+    let left = least(t.held, size);
+    if left == input.len() {
+        return too_long(t);
+    }
+    move_to_front(input, size - left, size);
+    t
+}
+
+// The last line may have no line end.
+fn end(s: Session, line: &[u8], page: &mut [u16], bytes: &mut [u8], out: &mut [u8]) -> Session {
+    let t = obey(s, line, page, bytes, out);
+    stopped(t)
+}
+
+// A line has to fit into the buffer with its line end.
+fn too_long(s: Session) -> Session {
+    if !s.going {
+        return s;
+    }
+    io::write_all(STDERR_FILENO, b"replay: line ");
+    io::print_decimal(
+        STDERR_FILENO,
+        std::num::wrapping_add_usize(s.line, 1) as u64,
+    );
+    io::write_all(STDERR_FILENO, b" is longer than 65535 bytes\n");
+    stopped(s)
+}
+
+// How many pieces may follow.
+fn left(pieces: u64, going: bool) -> u64
+    requires { ⌜ 0 < pieces ⌝ }
+    ensures { λ r. ⌜ r < pieces ⌝ }
+{
+    if going { pieces - 1 } else { 0 }
+}
+
+// A proved loop has to end, and nothing says that the input does: the count of pieces falls from a number that no script uses up.
+fn replay(input: &mut [u8], page: &mut [u16], bytes: &mut [u8], out: &mut [u8]) {
+    let mut s = session::start();
+    let mut pieces = u64::MAX;
+    while 0 < pieces {
+        let t = piece(s, input, page, bytes, out);
+        s = t;
+        pieces = left(pieces, s.going);
+    }
+    trace::flush(out, s.at);
+}
+
+fn main() {
+    let mut input = io::large_buffer();
+    let mut out = io::large_buffer();
+    let mut page = [0u16; 4000];
+    let mut bytes = [0u8; 32768];
+    replay(&mut input, &mut page, &mut bytes, &mut out);
+}

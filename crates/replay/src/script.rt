@@ -1,0 +1,215 @@
+// A line of a script as a command of numbers. Its byte strings are read where it is carried out.
+use crate::text::NONE;
+use crate::text::byte;
+use crate::text::first;
+use crate::text::later;
+use crate::text::number;
+use crate::text::word_count;
+use check::same;
+
+// Lines that change the page.
+pub enum PageLine {
+    Length(usize),
+    Noise(usize, usize, usize),
+    // first cell, how many, value
+    Fill(usize, usize, u16),
+}
+
+// Lines that change the state by numbers alone. A mode counts from 0 in the order of `Modes`.
+pub enum Setting {
+    Active(u8),
+    Cursor(bool, u16),
+    Split(u8),
+    Mode(usize, bool),
+    Tab(usize, bool),
+    Attribute(usize, u8),
+    Feature(usize, u8),
+    Bells(u8),
+}
+
+// Lines that call, or show.
+pub enum Call {
+    On,
+    Step(u8),
+    Run,
+    Press(u8),
+    Show,
+}
+
+// Key has its key, counted from 0; a call the length of its reply room.
+pub enum Command {
+    Bad,
+    Skip,
+    Page(PageLine),
+    Set(Setting),
+    Key(usize),
+    Pending,
+    Call(Call, usize),
+}
+
+// What a line says.
+pub fn read(line: &[u8]) -> Command {
+    if line.len() == 0 {
+        return Command::Skip;
+    }
+    if line[0] == b'#' {
+        return Command::Skip;
+    }
+    let n = word_count(line);
+    match n {
+        1 => one_word(line),
+        2 => two_words(line),
+        3 => three_words(line),
+        4 => four_words(line),
+        _ => Command::Bad,
+    }
+}
+
+fn one_word(line: &[u8]) -> Command {
+    if same(line, b"on") {
+        return Command::Call(Call::On, 0);
+    }
+    if same(line, b"show") {
+        return Command::Call(Call::Show, 0);
+    }
+    Command::Bad
+}
+
+// A command whose numbers have to lie in their ranges.
+fn given(fits: bool, c: Command) -> Command {
+    if fits { c } else { Command::Bad }
+}
+
+fn two_words(line: &[u8]) -> Command {
+    let word = first(line);
+    if same(word, b"pending") {
+        return Command::Pending;
+    }
+    let n = number(later(line));
+    if same(word, b"length") {
+        return given(n <= 4000, Command::Page(PageLine::Length(n)));
+    }
+    if 255 < n {
+        return Command::Bad;
+    }
+    let v = n as u8;
+    if same(word, b"active") {
+        return Command::Set(Setting::Active(v));
+    }
+    if same(word, b"split") {
+        return Command::Set(Setting::Split(v));
+    }
+    if same(word, b"bells") {
+        return Command::Set(Setting::Bells(v));
+    }
+    Command::Bad
+}
+
+fn three_words(line: &[u8]) -> Command {
+    let word = first(line);
+    let words = later(line);
+    let n = number(later(words));
+    if same(word, b"step") {
+        return byte_call(true, byte(first(words)), n);
+    }
+    if same(word, b"run") {
+        return given(n <= 4000, Command::Call(Call::Run, n));
+    }
+    if same(word, b"press") {
+        return byte_call(false, byte(first(words)), n);
+    }
+    let i = number(first(words));
+    if same(word, b"key") {
+        return given(i < 32, Command::Key(i));
+    }
+    pair(word, i, n)
+}
+
+// `step` or `press`: a byte, and the length of the room.
+fn byte_call(is_step: bool, byte: usize, room: usize) -> Command {
+    if 255 < byte {
+        return Command::Bad;
+    }
+    let b = byte as u8;
+    let call = if is_step {
+        Call::Step(b)
+    } else {
+        Call::Press(b)
+    };
+    given(room <= 4000, Command::Call(call, room))
+}
+
+// A word with two numbers that sets something.
+fn pair(word: &[u8], i: usize, n: usize) -> Command {
+    if 65535 < n {
+        return Command::Bad;
+    }
+    let v = n as u16;
+    if same(word, b"cell") {
+        return Command::Page(PageLine::Fill(i, 1, v));
+    }
+    if same(word, b"cursor") {
+        return given(i < 2, Command::Set(Setting::Cursor(i == 1, v)));
+    }
+    if 255 < n {
+        return Command::Bad;
+    }
+    let b = n as u8;
+    if same(word, b"attribute") {
+        return given(i < 4, Command::Set(Setting::Attribute(i, b)));
+    }
+    if same(word, b"feature") {
+        return given(i < 5, Command::Set(Setting::Feature(i, b)));
+    }
+    switch(word, i, n)
+}
+
+// A word with a number and a flag.
+fn switch(word: &[u8], i: usize, n: usize) -> Command {
+    if 1 < n {
+        return Command::Bad;
+    }
+    if same(word, b"mode") {
+        return given(i < 6, Command::Set(Setting::Mode(i, n == 1)));
+    }
+    if same(word, b"tab") {
+        return given(i < 80, Command::Set(Setting::Tab(i, n == 1)));
+    }
+    Command::Bad
+}
+
+fn four_words(line: &[u8]) -> Command {
+    let word = first(line);
+    let words = later(line);
+    let a = number(first(words));
+    let b = number(first(later(words)));
+    let c = number(later(later(words)));
+    if same(word, b"fill") {
+        return fill(a, b, c);
+    }
+    if same(word, b"noise") {
+        return noise(a, b, c);
+    }
+    Command::Bad
+}
+
+fn fill(i: usize, n: usize, v: usize) -> Command {
+    if 65535 < v {
+        return Command::Bad;
+    }
+    Command::Page(PageLine::Fill(i, n, v as u16))
+}
+
+// `noise` takes numbers of any size.
+fn noise(x: usize, mask: usize, share: usize) -> Command {
+    if x == NONE {
+        return Command::Bad;
+    }
+    if mask == NONE {
+        return Command::Bad;
+    }
+    given(
+        share != NONE,
+        Command::Page(PageLine::Noise(x, mask, share)),
+    )
+}

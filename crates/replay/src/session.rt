@@ -1,0 +1,218 @@
+// What is kept from line to line, and what a line does.
+use crate::bounds::within;
+use crate::bounds::within_cells;
+use crate::call;
+use crate::change;
+use crate::script::Call;
+use crate::script::Command;
+use crate::script::PageLine;
+use crate::script::read;
+use crate::sequence;
+use crate::text;
+use libc::STDERR_FILENO;
+use rules::State;
+use std::num::wrapping_add_usize;
+
+pub struct Session {
+    pub state: State,
+    // the page's length
+    pub cells: usize,
+    // how many lines were written, and read
+    pub written: usize,
+    pub line: usize,
+    // how many bytes the output buffer holds, and the input buffer of a line whose end has not come
+    pub at: usize,
+    pub held: usize,
+    pub going: bool,
+}
+
+// As at power-on, with a page of 1,920 cells.
+pub fn start() -> Session {
+    let mut page = [0u16; 1920];
+    let on = terminal::power_on(&mut page);
+    let state = on.state;
+    Session {
+        state: state,
+        cells: 1920,
+        written: 0,
+        line: 0,
+        at: 0,
+        held: 0,
+        going: true,
+    }
+}
+
+// The run ends here.
+pub fn stopped(s: Session) -> Session {
+    let mut t = s;
+    t.going = false;
+    t
+}
+
+// A line that fits none of the forms is named on standard error, and the run ends there. (A Rattle program has no exit status to set.)
+fn complain(number: usize, line: &[u8]) {
+    io::write_all(STDERR_FILENO, b"replay: line ");
+    io::print_decimal(STDERR_FILENO, number as u64);
+    io::write_all(STDERR_FILENO, b" fits none of the forms: ");
+    let n = within(200, line);
+    io::write_all(STDERR_FILENO, &line[..n]);
+    io::write_all(STDERR_FILENO, b"\n");
+}
+
+// One line. `bytes` takes the bytes that it spells.
+pub fn obey(
+    s: Session,
+    line: &[u8],
+    page: &mut [u16],
+    bytes: &mut [u8],
+    out: &mut [u8],
+) -> Session {
+    let mut t = s;
+    t.line = wrapping_add_usize(s.line, 1);
+    let u = carry_out(t, line, page, bytes, out);
+    if !u.going {
+        complain(u.line, line);
+    }
+    u
+}
+
+fn carry_out(
+    s: Session,
+    line: &[u8],
+    page: &mut [u16],
+    bytes: &mut [u8],
+    out: &mut [u8],
+) -> Session {
+    let c = read(line);
+    match c {
+        Command::Bad => stopped(s),
+        Command::Skip => s,
+        Command::Page(x) => change_page(s, x, page),
+        Command::Set(x) => {
+            let mut t = s;
+            let state = s.state;
+            let next = change::set(state, x);
+            t.state = next;
+            t
+        }
+        Command::Key(k) => set_key(s, k, line, bytes),
+        Command::Pending => set_pending(s, line, bytes),
+        Command::Call(x, n) => obey_call(s, x, n, line, page, bytes, out),
+    }
+}
+
+fn change_page(s: Session, x: PageLine, page: &mut [u16]) -> Session {
+    let cells = within_cells(s.cells, page);
+    match x {
+        PageLine::Length(n) => set_length(s, n, page),
+        PageLine::Noise(seed, mask, share) => {
+            change::noise(&mut page[..cells], seed, mask, share);
+            s
+        }
+        PageLine::Fill(i, n, v) => fill(s, i, n, v, &mut page[..cells]),
+    }
+}
+
+fn set_length(s: Session, n: usize, page: &mut [u16]) -> Session {
+    let cells = within_cells(n, page);
+    change::fill(&mut page[..cells], 0);
+    let mut t = s;
+    t.cells = cells;
+    t
+}
+
+fn fill(s: Session, i: usize, n: usize, v: u16, page: &mut [u16]) -> Session {
+    if page.len() < i {
+        return stopped(s);
+    }
+    if page.len() - i < n {
+        return stopped(s);
+    }
+    change::fill(&mut page[i..i + n], v);
+    s
+}
+
+fn set_key(s: Session, k: usize, line: &[u8], bytes: &mut [u8]) -> Session {
+    let n = text::byte_string(text::later(text::later(line)), bytes);
+    if 255 < n {
+        return stopped(s);
+    }
+    let mut t = s;
+    let mut state = s.state;
+    let setup = state.setup;
+    let key = change::key_of(n as u8, bytes);
+    let next = change::with_key(setup, k, key);
+    state.setup = next;
+    t.state = state;
+    t
+}
+
+fn set_pending(s: Session, line: &[u8], bytes: &mut [u8]) -> Session {
+    let mut t = s;
+    let mut state = s.state;
+    let core = state.core;
+    let g = sequence::read(core, text::later(line), bytes);
+    let next = g.core;
+    state.core = next;
+    t.state = state;
+    t.going = g.good;
+    t
+}
+
+// The bytes of a run go to the front of `bytes`, and this is how many there are; the other calls have none.
+fn input_length(x: Call, line: &[u8], bytes: &mut [u8]) -> usize {
+    if let Call::Run = x {
+        text::byte_string(text::first(text::later(line)), bytes)
+    } else {
+        0
+    }
+}
+
+fn obey_call(
+    s: Session,
+    x: Call,
+    n: usize,
+    line: &[u8],
+    page: &mut [u16],
+    bytes: &mut [u8],
+    out: &mut [u8],
+) -> Session {
+    let k = input_length(x, line, bytes);
+    if bytes.len() < k {
+        return stopped(s);
+    }
+    let input = within(k, bytes);
+    make_call(s, x, n, &bytes[..input], page, out)
+}
+
+// The room is all EEh before the call.
+fn make_call(
+    s: Session,
+    x: Call,
+    n: usize,
+    input: &[u8],
+    page: &mut [u16],
+    out: &mut [u8],
+) -> Session {
+    let mut room = [0xeeu8; 4000];
+    let size = within(n, &room);
+    let cells = within_cells(s.cells, page);
+    let state = s.state;
+    let count = wrapping_add_usize(s.written, 1);
+    let r = call::call(
+        x,
+        count,
+        state,
+        input,
+        &mut page[..cells],
+        &mut room[..size],
+        out,
+        s.at,
+    );
+    let next = r.state;
+    let mut t = s;
+    t.state = next;
+    t.written = count;
+    t.at = r.at;
+    t
+}

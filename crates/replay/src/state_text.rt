@@ -1,0 +1,155 @@
+// The STATE of an output line.
+ghost use Prim.Native.Nat.{_≤_};
+use crate::bounds::within;
+use crate::sequence::spelled;
+use crate::trace::byte_string;
+use crate::trace::comma;
+use crate::trace::decimal;
+use crate::trace::flag;
+use crate::trace::hex_bytes;
+use crate::trace::hex_digit;
+use crate::trace::named;
+use crate::trace::put;
+use crate::trace::text;
+use rules::Key;
+use rules::Modes;
+use rules::Pending;
+use rules::Screen;
+use rules::Setup;
+use rules::State;
+
+pub fn state(out: &mut [u8], at: usize, s: State) -> usize {
+    let core = s.core;
+    let setup = s.setup;
+    let x = core.screen;
+    let m = core.modes;
+    let p = core.pending;
+    let g = core.gathered;
+    let n = screen(out, at, x);
+    let n1 = modes(out, n, m);
+    let n2 = set_up(out, n1, setup);
+    let n3 = named(out, n2, b" bells=", core.bells as usize);
+    pending(out, n3, p, g)
+}
+
+fn screen(out: &mut [u8], at: usize, s: Screen) -> usize {
+    let n = named(out, at, b" active=", s.active as usize);
+    let n1 = named(out, n, b" cursors=", s.cursor0 as usize);
+    let n2 = named(out, n1, b",", s.cursor1 as usize);
+    named(out, n2, b" split=", s.split as usize)
+}
+
+fn modes(out: &mut [u8], at: usize, m: Modes) -> usize {
+    let n = text(out, at, b" modes=");
+    let n1 = flag(out, n, m.protect);
+    let n2 = flag(out, n1, m.mark);
+    let n3 = flag(out, n2, m.insert);
+    let n4 = flag(out, n3, m.autoscroll);
+    let n5 = flag(out, n4, m.locked);
+    flag(out, n5, m.local)
+}
+
+fn set_up(out: &mut [u8], at: usize, u: Setup) -> usize {
+    let stops = u.tabs;
+    let attributes = u.attributes;
+    let features = u.features;
+    let all = u.keys;
+    let n = text(out, at, b" tabs=");
+    let n1 = tabs(out, n, stops);
+    let n2 = text(out, n1, b" attributes=");
+    let n3 = attribute_bytes(out, n2, attributes);
+    let n4 = text(out, n3, b" features=");
+    let n5 = feature_bytes(out, n4, features);
+    let n6 = text(out, n5, b" keys=");
+    keys(out, n6, all)
+}
+
+fn attribute_bytes(out: &mut [u8], at: usize, bytes: [u8; 4]) -> usize {
+    hex_bytes(out, at, &bytes)
+}
+
+fn feature_bytes(out: &mut [u8], at: usize, bytes: [u8; 5]) -> usize {
+    hex_bytes(out, at, &bytes)
+}
+
+// Four columns to a digit, column 1 first.
+fn tabs(out: &mut [u8], at: usize, stops: [bool; 80]) -> usize {
+    let mut n = at;
+    let mut i = 0;
+    while i < 80 {
+        let high = bit(stops[i]) * 2 + bit(stops[i + 1]);
+        let low = bit(stops[i + 2]) * 2 + bit(stops[i + 3]);
+        n = hex_digit(out, n, high * 4 + low);
+        i += 4;
+    }
+    n
+}
+
+fn bit(b: bool) -> u8
+    ensures { λ r. ⌜ r ≤ 1 ⌝ }
+{
+    if b { 1 } else { 0 }
+}
+
+// The programmed keys, or `-`.
+fn keys(out: &mut [u8], at: usize, all: [Key; 32]) -> usize {
+    let mut n = at;
+    let mut found = 0;
+    let mut i = 0;
+    while i < 32 {
+        let k = all[i];
+        n = key(out, n, i, k, 0 < found);
+        found += programmed(k);
+        i += 1;
+    }
+    if found == 0 {
+        return put(out, n, b'-');
+    }
+    n
+}
+
+fn programmed(k: Key) -> usize
+    ensures { λ r. ⌜ r ≤ 1 ⌝ }
+{
+    if k.len == 0 { 0 } else { 1 }
+}
+
+// A programmed key: a comma unless it is the first, its number, its first 8 bytes, and `+` where there are more.
+fn key(out: &mut [u8], at: usize, i: usize, k: Key, is_next: bool) -> usize {
+    if k.len == 0 {
+        return at;
+    }
+    let bytes = k.bytes;
+    let n = comma(out, at, is_next);
+    let n1 = decimal(out, n, i);
+    let n2 = put(out, n1, b':');
+    let n3 = key_bytes(out, n2, bytes, k.len as usize);
+    plus(out, n3, 8 < k.len)
+}
+
+fn key_bytes(out: &mut [u8], at: usize, bytes: [u8; 8], n: usize) -> usize {
+    let k = within(n, &bytes);
+    hex_bytes(out, at, &bytes[..k])
+}
+
+// `+`, where bytes are left out.
+fn plus(out: &mut [u8], at: usize, is_over: bool) -> usize {
+    if is_over {
+        return put(out, at, b'+');
+    }
+    at
+}
+
+fn pending(out: &mut [u8], at: usize, p: Pending, g: Key) -> usize {
+    let s = spelled(p, g);
+    let bytes = s.bytes;
+    let len = s.len;
+    let n = text(out, at, b" pending=");
+    let n1 = sequence_bytes(out, n, bytes, len);
+    plus(out, n1, s.over)
+}
+
+fn sequence_bytes(out: &mut [u8], at: usize, bytes: [u8; 12], n: usize) -> usize {
+    let k = within(n, &bytes);
+    byte_string(out, at, &bytes[..k])
+}
