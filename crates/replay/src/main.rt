@@ -3,9 +3,9 @@ mod bounds;
 mod call;
 mod change;
 mod digest;
+mod progress;
 mod script;
 mod sequence;
-mod session;
 mod state_text;
 mod text;
 mod trace;
@@ -16,9 +16,9 @@ use bounds::least;
 use bounds::within;
 use libc::STDERR_FILENO;
 use libc::STDIN_FILENO;
-use session::Session;
-use session::obey;
-use session::stopped;
+use progress::Progress;
+use progress::obey;
+use progress::stopped;
 
 // Reads once, and answers how many bytes came; 0 at the end.
 fn read(input: &mut [u8]) -> usize
@@ -31,14 +31,14 @@ fn read(input: &mut [u8]) -> usize
     io::count(got, input)
 }
 
-// Obeys the whole lines of the input; the session then holds what follows the last of them.
+// Obeys the whole lines of the input; what follows the last of them is held.
 fn obey_lines(
-    s: Session,
+    s: Progress,
     input: &[u8],
     page: &mut [u16],
     bytes: &mut [u8],
     out: &mut [u8],
-) -> Session {
+) -> Progress {
     let mut t = s;
     let mut rest = input;
     while 0 < rest.len() {
@@ -72,12 +72,12 @@ fn move_to_front(input: &mut [u8], from: usize, to: usize)
 
 // One piece of the input. What is held of an unfinished line stands at the front of the buffer.
 fn piece(
-    s: Session,
+    s: Progress,
     input: &mut [u8],
     page: &mut [u16],
     bytes: &mut [u8],
     out: &mut [u8],
-) -> Session {
+) -> Progress {
     let held = within(s.held, input);
     let n = read(&mut input[held..]);
     if n == 0 {
@@ -88,13 +88,13 @@ fn piece(
 
 // Obeys the whole lines of the n bytes that the buffer holds, and moves the rest to its front.
 fn filled(
-    s: Session,
+    s: Progress,
     n: usize,
     input: &mut [u8],
     page: &mut [u16],
     bytes: &mut [u8],
     out: &mut [u8],
-) -> Session {
+) -> Progress {
     let size = within(n, input);
     let t = obey_lines(s, &input[..size], page, bytes, out);
     let left = least(t.held, size);
@@ -106,13 +106,13 @@ fn filled(
 }
 
 // The last line may have no line end.
-fn end(s: Session, line: &[u8], page: &mut [u16], bytes: &mut [u8], out: &mut [u8]) -> Session {
+fn end(s: Progress, line: &[u8], page: &mut [u16], bytes: &mut [u8], out: &mut [u8]) -> Progress {
     let t = obey(s, line, page, bytes, out);
     stopped(t)
 }
 
 // A line has to fit into the buffer with its line end.
-fn too_long(s: Session) -> Session {
+fn too_long(s: Progress) -> Progress {
     if !s.going {
         return s;
     }
@@ -135,7 +135,7 @@ fn left(pieces: u64, going: bool) -> u64
 
 // A proved loop has to end, and nothing says that the input does: the count of pieces falls from a number that no script uses up.
 fn replay(input: &mut [u8], page: &mut [u16], bytes: &mut [u8], out: &mut [u8]) {
-    let mut s = session::start();
+    let mut s = progress::start();
     let mut pieces = u64::MAX;
     while 0 < pieces {
         let t = piece(s, input, page, bytes, out);

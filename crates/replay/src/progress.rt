@@ -13,7 +13,7 @@ use libc::STDERR_FILENO;
 use rules::State;
 use std::num::wrapping_add_usize;
 
-pub struct Session {
+pub struct Progress {
     pub state: State,
     // the page's length
     pub cells: usize,
@@ -27,11 +27,11 @@ pub struct Session {
 }
 
 // As at power-on, with a page of 1,920 cells.
-pub fn start() -> Session {
+pub fn start() -> Progress {
     let mut page = [0u16; 1920];
     let on = terminal::power_on(&mut page);
     let state = on.state;
-    Session {
+    Progress {
         state: state,
         cells: 1920,
         written: 0,
@@ -43,7 +43,7 @@ pub fn start() -> Session {
 }
 
 // The run ends here.
-pub fn stopped(s: Session) -> Session {
+pub fn stopped(s: Progress) -> Progress {
     let mut t = s;
     t.going = false;
     t
@@ -61,12 +61,12 @@ fn complain(number: usize, line: &[u8]) {
 
 // One line. `bytes` takes the bytes that it spells.
 pub fn obey(
-    s: Session,
+    s: Progress,
     line: &[u8],
     page: &mut [u16],
     bytes: &mut [u8],
     out: &mut [u8],
-) -> Session {
+) -> Progress {
     let mut t = s;
     t.line = wrapping_add_usize(s.line, 1);
     let u = carry_out(t, line, page, bytes, out);
@@ -77,12 +77,12 @@ pub fn obey(
 }
 
 fn carry_out(
-    s: Session,
+    s: Progress,
     line: &[u8],
     page: &mut [u16],
     bytes: &mut [u8],
     out: &mut [u8],
-) -> Session {
+) -> Progress {
     let c = read(line);
     match c {
         Command::Bad => stopped(s),
@@ -101,7 +101,7 @@ fn carry_out(
     }
 }
 
-fn change_page(s: Session, x: PageLine, page: &mut [u16]) -> Session {
+fn change_page(s: Progress, x: PageLine, page: &mut [u16]) -> Progress {
     let cells = within_cells(s.cells, page);
     match x {
         PageLine::Length(n) => set_length(s, n, page),
@@ -113,7 +113,7 @@ fn change_page(s: Session, x: PageLine, page: &mut [u16]) -> Session {
     }
 }
 
-fn set_length(s: Session, n: usize, page: &mut [u16]) -> Session {
+fn set_length(s: Progress, n: usize, page: &mut [u16]) -> Progress {
     let cells = within_cells(n, page);
     change::fill(&mut page[..cells], 0);
     let mut t = s;
@@ -121,7 +121,7 @@ fn set_length(s: Session, n: usize, page: &mut [u16]) -> Session {
     t
 }
 
-fn fill(s: Session, i: usize, n: usize, v: u16, page: &mut [u16]) -> Session {
+fn fill(s: Progress, i: usize, n: usize, v: u16, page: &mut [u16]) -> Progress {
     if page.len() < i {
         return stopped(s);
     }
@@ -132,7 +132,7 @@ fn fill(s: Session, i: usize, n: usize, v: u16, page: &mut [u16]) -> Session {
     s
 }
 
-fn set_key(s: Session, k: usize, line: &[u8], bytes: &mut [u8]) -> Session {
+fn set_key(s: Progress, k: usize, line: &[u8], bytes: &mut [u8]) -> Progress {
     let n = text::byte_string(text::later(text::later(line)), bytes);
     if 255 < n {
         return stopped(s);
@@ -147,7 +147,7 @@ fn set_key(s: Session, k: usize, line: &[u8], bytes: &mut [u8]) -> Session {
     t
 }
 
-fn set_pending(s: Session, line: &[u8], bytes: &mut [u8]) -> Session {
+fn set_pending(s: Progress, line: &[u8], bytes: &mut [u8]) -> Progress {
     let mut t = s;
     let mut state = s.state;
     let core = state.core;
@@ -169,14 +169,14 @@ fn input_length(x: Call, line: &[u8], bytes: &mut [u8]) -> usize {
 }
 
 fn obey_call(
-    s: Session,
+    s: Progress,
     x: Call,
     n: usize,
     line: &[u8],
     page: &mut [u16],
     bytes: &mut [u8],
     out: &mut [u8],
-) -> Session {
+) -> Progress {
     let k = input_length(x, line, bytes);
     if bytes.len() < k {
         return stopped(s);
@@ -187,13 +187,13 @@ fn obey_call(
 
 // The room is all EEh before the call.
 fn make_call(
-    s: Session,
+    s: Progress,
     x: Call,
     n: usize,
     input: &[u8],
     page: &mut [u16],
     out: &mut [u8],
-) -> Session {
+) -> Progress {
     let mut room = [0xeeu8; 4000];
     let size = within(n, &room);
     let cells = within_cells(s.cells, page);
