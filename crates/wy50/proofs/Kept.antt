@@ -1,0 +1,67 @@
+-- The calls over numbers: a bad call gives back what it was handed, and a good page and state stay good.
+-- Assumes nothing.
+use mathlib.Core.Path.{_≡_, refl, ap, _∙_}
+use mathlib.Core.Bool.{Bool, true, false}
+use mathlib.Core.List.{List, []}
+use Prim.Native.Nat.{ℕ, _<_}
+use lib.ListN.{length}
+use Rattle.rules.specs.declared.State.{State}
+use Rattle.rules.specs.Cell.{pick, both}
+use Rattle.rules.specs.Row.{pageLength}
+use Rattle.rules.specs.Possible.{possible, good}
+use Rattle.rules.specs.Step.{Outcome, stepRule}
+use Rattle.rules.specs.Calls.{Pressed, pressed, ended, powerOnRule, runRule, pressRule}
+use Rattle.rules.proofs.Kept.{possible-parts, good-parts, step-good, run-good, powerOn-good}
+use Rattle.state.proofs.Tests.{both-left, both-right}
+use Rattle.wy50.specs.declared.raw.RawState.{RawState}
+use Rattle.wy50.specs.Raw.{packed, unpacked, named}
+use Rattle.wy50.specs.Promise.{RawOutcome, RawRan, raw, rawRan, rawGood, badStep, badRun, rawStep, rawRun, rawPress}
+use Rattle.wy50.proofs.RoundTrip.{packed-named, unpacked-packed, packed-unpacked}
+
+-- a bad call
+module _ (p : List ℕ) (x : RawState) (bad : rawGood p x ≡ false) where
+  -- a rule over numbers that is bad where the terminal's is
+  bad-call : {A : Type 0} (good-one bad-one : A) → (named x ≡ true → good p (unpacked x) ≡ false → good-one ≡ bad-one) → pick (named x) good-one bad-one ≡ bad-one
+  unfolding rawGood
+  bad-call u v h = by (named x) refl where
+    by : (t : Bool) → named x ≡ t → pick t u v ≡ v
+    by true e = h e (rw e at bad)
+    by false e = refl
+
+  pub bad-step : (b room : ℕ) → rawStep p x b room ≡ badStep p x
+  unfolding rawStep stepRule
+  bad-step b room = bad-call _ _ (λ on off. rw (off, packed-unpacked x on))
+
+  pub bad-run : (l : List ℕ) (room : ℕ) → rawRun p x l room ≡ badRun p x l
+  unfolding rawRun runRule
+  bad-run l room = bad-call _ _ (λ on off. rw (off, packed-unpacked x on))
+
+  pub bad-press : (v room : ℕ) → rawPress p x v room ≡ pressed 7 []
+  unfolding rawPress pressRule
+  bad-press v room = bad-call _ _ (λ on off. rw off)
+
+-- the numbers of a good state are good
+packed-good : (p : List ℕ) (s : State) → good p s ≡ true → rawGood p (packed s) ≡ true
+unfolding rawGood
+packed-good p s h =
+    rw (packed-named s (possible-parts s (good-parts p s h .1) .core .bells), unpacked-packed s) h
+
+pub power-on-good : (p : List ℕ) → length p ≡ pageLength → rawGood (powerOnRule p .page) (raw (powerOnRule p) .state) ≡ true
+power-on-good p h = packed-good (powerOnRule p .page) (powerOnRule p .state) (powerOn-good p h)
+
+module _ (p : List ℕ) (x : RawState) (fine : rawGood p x ≡ true) where
+  is-named : named x ≡ true
+  unfolding rawGood
+  is-named = both-left (named x) (good p (unpacked x)) fine
+
+  is-good : good p (unpacked x) ≡ true
+  unfolding rawGood
+  is-good = both-right (named x) (good p (unpacked x)) fine
+
+  pub step-kept : (b room : ℕ) → rawGood (rawStep p x b room .page) (rawStep p x b room .state) ≡ true
+  unfolding rawStep
+  step-kept b room = rw is-named (packed-good (stepRule p (unpacked x) b room .page) (stepRule p (unpacked x) b room .state) (step-good p (unpacked x) b room is-good))
+
+  pub run-kept : (l : List ℕ) (room : ℕ) → rawGood (rawRun p x l room .page) (rawRun p x l room .state) ≡ true
+  unfolding rawRun
+  run-kept l room = rw is-named (packed-good (runRule p (unpacked x) l room .page) (runRule p (unpacked x) l room .state) (run-good p (unpacked x) l room is-good))

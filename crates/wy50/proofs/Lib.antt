@@ -1,0 +1,4 @@
+mod Loops
+mod Calls
+pub mod RoundTrip
+pub mod Kept

@@ -1,0 +1,49 @@
+-- Laws of the loops that translate an array, and of the table of sequences.
+-- Assumes nothing.
+use mathlib.Core.Path.{_≡_, refl, sym, _∙_}
+use mathlib.Core.List.{List, [], _∷_, _++_, map}
+use Prim.Native.Nat.{ℕ, suc, _+_, _≤_, _<_}
+use native.Mathlib.Omega.{arith}
+use native.Mathlib.Numerals.{add-one}
+use lib.ListN.{length, take, getD, set, length-set, length-map, List·getD-map}
+use lib.Seq.{take-all, take-suc, take-suc-set}
+use borrow.Author.Tests.{ne-eqb}
+use Rattle.rules.specs.declared.Pending.{Pending}
+use Rattle.rules.specs.declared.Pending.the-variants as Pending
+use Rattle.wy50.specs.Raw.{find}
+
+-- an array t that is written element by element: its first i are those of the map
+pub record Translated {A B : Type 0} (f : A → B) (l : List A) (t : List B) (i : ℕ) : Type 0 where
+  pub within : i ≤ length l
+  pub size : length t ≡ length l
+  pub front : take i t ≡ take i (map f l)
+
+module _ {A B : Type 0} (f : A → B) (l : List A) (t : List B) where
+  pub begin : length t ≡ length l → Translated f l t 0
+  begin e = record { within = omega arith; size = e; front = refl }
+
+  pub go : (i : ℕ) (d : A) {v : B} → Translated f l t i → i < length l → v ≡ f (getD l i d) → Translated f l (set t i v) (i + 1)
+  go i d {v} x h e =
+      let m : i < length (map f l) = omega (arith, length-map l f) in
+      let h′ : i < length t = omega (arith, x .size) in
+      record {
+        within = omega arith;
+        size = length-set t i v ∙ x .size;
+        front = rw (add-one, take-suc-set t i v h′, x .front, take-suc (map f l) i (f d) m, List·getD-map f l i d, e);
+      }
+
+  pub finish : (i : ℕ) → Translated f l t i → length l ≤ i → t ≡ map f l
+  finish i x h =
+      sym (take-all i t (omega (arith, x .size))) ∙ x .front ∙ take-all i (map f l) (omega (arith, length-map l f))
+
+-- what the last arm of a match on a number knows: the number is none of the keys, the last key outermost
+abbrev pub NoneOf : Type 0 → ℕ → List (ℕ × Pending) → Type 0
+NoneOf acc k [] = acc
+NoneOf acc k (r ∷ t) = NoneOf (acc × (k ≡ r .0 → ⊥)) k t
+
+pub not-found : (acc : Type 0) (k : ℕ) (t : List (ℕ × Pending)) → NoneOf acc k t → acc × (find t k ≡ Pending.Idle)
+unfolding find
+not-found acc k [] h = (h, refl)
+not-found acc k (r ∷ t) h =
+    let p = not-found (acc × (k ≡ r .0 → ⊥)) k t h in
+    (p .0 .0, rw (ne-eqb k (r .0) (p .0 .1), p .1))

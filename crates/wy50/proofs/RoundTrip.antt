@@ -1,0 +1,184 @@
+-- There and back: a state's numbers name that state, and the state that numbers name has those numbers.
+-- Assumes nothing.
+use mathlib.Core.Path.{_≡_, refl, ap, ap₂, _∙_}
+use mathlib.Core.Bool.{Bool, true, false}
+use mathlib.Core.List.{List, [], _∷_, map}
+use Prim.Native.Nat.{ℕ, _<_}
+use native.Mathlib.Omega.{arith}
+use borrow.Author.Tests.{lt-ltb, ltb-true, eq-eqb, eqb-true, eqb-false}
+use lib.Dec.{ltb, eqb}
+use Rattle.rules.specs.declared.Pending.{Pending}
+use Rattle.rules.specs.declared.Pending.the-variants as Pending
+use Rattle.rules.specs.declared.Modes.{Modes}
+use Rattle.rules.specs.declared.State.{State}
+use Rattle.rules.specs.Cell.{pick, both}
+use Rattle.rules.specs.Possible.{allBelow}
+use Rattle.state.proofs.Tests.{both-left, both-right}
+use Rattle.wy50.specs.declared.raw.RawModes.{RawModes}
+use Rattle.wy50.specs.declared.raw.RawSequence.{RawSequence}
+use Rattle.wy50.specs.declared.raw.RawState.{RawState}
+use Rattle.wy50.specs.Raw.{flag, isOn, sequenceOf, find, pendingOf, sameSequence, isSequence, rawModes, modesOf, areFlags, rawKey, keyOf, packed, unpacked, named}
+
+-- a flag
+isOn-flag : (b : Bool) → isOn (flag b) ≡ b
+isOn-flag true = refl
+isOn-flag false = refl
+
+flag-below : (b : Bool) → ltb (flag b) 2 ≡ true
+flag-below true = refl
+flag-below false = refl
+
+flag-isOn : (v : ℕ) → ltb v 2 ≡ true → flag (isOn v) ≡ v
+flag-isOn v h = by (isOn v) refl where
+  by : (t : Bool) → isOn v ≡ t → flag t ≡ v
+  by true e = omega (arith, eqb-true v 1 e)
+  by false e = omega (arith, ltb-true v 2 h, eqb-false v 1 e)
+
+-- a list of them, or of keys
+map-back : {A B : Type 0} (f : A → B) (g : B → A) → ((a : A) → g (f a) ≡ a) → (l : List A) → map g (map f l) ≡ l
+map-back f g h [] = refl
+map-back f g h (a ∷ l) = ap₂ _∷_ (h a) (map-back f g h l)
+
+tabs-below : (l : List Bool) → allBelow 2 (map flag l) ≡ true
+unfolding allBelow
+tabs-below [] = refl
+tabs-below (b ∷ l) = rw (flag-below b, tabs-below l)
+
+tabs-back : (l : List ℕ) → allBelow 2 l ≡ true → map flag (map isOn l) ≡ l
+unfolding allBelow
+tabs-back [] h = refl
+tabs-back (v ∷ l) h = ap₂ _∷_ (flag-isOn v (both-left (ltb v 2) (allBelow 2 l) h)) (tabs-back l (both-right (ltb v 2) (allBelow 2 l) h))
+
+-- the sequence under way
+pending-back : (p : Pending) → pendingOf (sequenceOf p) ≡ p
+unfolding find
+pending-back Pending.Idle = refl
+pending-back Pending.Escape = refl
+pending-back Pending.Address = refl
+pending-back (Pending.AddressRow r) = refl
+pending-back Pending.Segment = refl
+pending-back (Pending.SegmentNumber n) = refl
+pending-back (Pending.SegmentRow n r) = refl
+pending-back (Pending.DecimalRow n row) = refl
+pending-back (Pending.DecimalColumn row n column) = refl
+pending-back Pending.Split = refl
+pending-back Pending.SplitRow = refl
+pending-back Pending.Attribute = refl
+pending-back Pending.Graphic = refl
+pending-back Pending.FillAttribute = refl
+pending-back Pending.FillCode = refl
+pending-back Pending.Feature = refl
+pending-back Pending.FieldAttribute = refl
+pending-back (Pending.FieldNumber n) = refl
+pending-back Pending.KeyValue = refl
+pending-back (Pending.KeyText v) = refl
+pending-back (Pending.KeyOver v) = refl
+
+same-self : (q : RawSequence) → sameSequence q q ≡ true
+same-self q = rw (eq-eqb (q .kind) (q .kind) refl, eq-eqb (q .first) (q .first) refl, eq-eqb (q .second) (q .second) refl, eq-eqb (q .third) (q .third) refl)
+
+same-equal : (a b : RawSequence) → sameSequence a b ≡ true → a ≡ b
+same-equal a b h =
+    let s = eqb (a .second) (b .second) in
+    let t = eqb (a .third) (b .third) in
+    let f = eqb (a .first) (b .first) in
+    let k = eqb (a .kind) (b .kind) in
+    let r = both-right k (both f (both s t)) h in
+    let u = both-right f (both s t) r in
+    let kind = eqb-true (a .kind) (b .kind) (both-left k (both f (both s t)) h) in
+    let first = eqb-true (a .first) (b .first) (both-left f (both s t) r) in
+    let second = eqb-true (a .second) (b .second) (both-left s t u) in
+    let third = eqb-true (a .third) (b .third) (both-right s t u) in
+    λ i. record { kind = kind i; first = first i; second = second i; third = third i }
+
+sequence-named : (p : Pending) → isSequence (sequenceOf p) ≡ true
+unfolding isSequence
+sequence-named p = ap (λ (q : Pending). sameSequence (sequenceOf q) (sequenceOf p)) (pending-back p) ∙ same-self (sequenceOf p)
+
+sequence-back : (q : RawSequence) → isSequence q ≡ true → sequenceOf (pendingOf q) ≡ q
+unfolding isSequence
+sequence-back q h = same-equal (sequenceOf (pendingOf q)) q h
+
+-- the modes
+modes-back : (m : Modes) → modesOf (rawModes m) ≡ m
+modes-back m = λ i. record {
+  protect = isOn-flag (m .protect) i;
+  mark = isOn-flag (m .mark) i;
+  insert = isOn-flag (m .insert) i;
+  autoscroll = isOn-flag (m .autoscroll) i;
+  locked = isOn-flag (m .locked) i;
+  local = isOn-flag (m .local) i;
+}
+
+modes-named : (m : Modes) → areFlags (rawModes m) ≡ true
+modes-named m = rw (flag-below (m .protect), flag-below (m .mark), flag-below (m .insert), flag-below (m .autoscroll), flag-below (m .locked), flag-below (m .local))
+
+-- six tests, and each of them
+six : (a b c d e f : Bool) → both (both a (both b c)) (both d (both e f)) ≡ true → (a ≡ true) × (b ≡ true) × (c ≡ true) × (d ≡ true) × (e ≡ true) × (f ≡ true)
+six a b c d e f h =
+    let l = both-left (both a (both b c)) (both d (both e f)) h in
+    let r = both-right (both a (both b c)) (both d (both e f)) h in
+    let bc = both-right a (both b c) l in
+    let ef = both-right d (both e f) r in
+    (both-left a (both b c) l, both-left b c bc, both-right b c bc, both-left d (both e f) r, both-left e f ef, both-right e f ef)
+
+raw-modes-back : (m : RawModes) → areFlags m ≡ true → rawModes (modesOf m) ≡ m
+raw-modes-back m h =
+    let t = six (ltb (m .protect) 2) (ltb (m .mark) 2) (ltb (m .insert) 2) (ltb (m .autoscroll) 2) (ltb (m .locked) 2) (ltb (m .local) 2) h in
+    λ i. record {
+      protect = flag-isOn (m .protect) (t .0) i;
+      mark = flag-isOn (m .mark) (t .1) i;
+      insert = flag-isOn (m .insert) (t .2) i;
+      autoscroll = flag-isOn (m .autoscroll) (t .3) i;
+      locked = flag-isOn (m .locked) (t .4) i;
+      local = flag-isOn (m .local) (t .5) i;
+    }
+
+-- a state's numbers name a state; the bell count of a state is below 256
+pub packed-named : (s : State) → s .core .bells < 256 → named (packed s) ≡ true
+unfolding packed named
+packed-named s h = rw (modes-named (s .core .modes), lt-ltb (s .core .bells) 256 h, sequence-named (s .core .pending), tabs-below (s .setup .tabs))
+
+-- and it is that state
+pub unpacked-packed : (s : State) → unpacked (packed s) ≡ s
+unfolding packed unpacked
+unpacked-packed s = λ i. record {
+  core = record {
+    screen = s .core .screen;
+    modes = modes-back (s .core .modes) i;
+    bells = s .core .bells;
+    pending = pending-back (s .core .pending) i;
+    gathered = s .core .gathered;
+  };
+  setup = record {
+    tabs = map-back flag isOn isOn-flag (s .setup .tabs) i;
+    attributes = s .setup .attributes;
+    features = s .setup .features;
+    keys = map-back rawKey keyOf (λ k. refl) (s .setup .keys) i;
+  };
+}
+
+-- numbers that name a state are that state's
+pub packed-unpacked : (x : RawState) → named x ≡ true → packed (unpacked x) ≡ x
+unfolding packed unpacked named
+packed-unpacked x h =
+    let a = areFlags (x .modes) in
+    let b = ltb (x .bells) 256 in
+    let q = isSequence (x .sequence) in
+    let t = allBelow 2 (x .tabs) in
+    let r = both-right b (both q t) (both-right a (both b (both q t)) h) in
+    let modes = raw-modes-back (x .modes) (both-left a (both b (both q t)) h) in
+    let sequence = sequence-back (x .sequence) (both-left q t r) in
+    let tabs = tabs-back (x .tabs) (both-right q t r) in
+    let keys = map-back keyOf rawKey (λ k. refl) (x .keys) in
+    λ i. record {
+      screen = x .screen;
+      modes = modes i;
+      bells = x .bells;
+      sequence = sequence i;
+      gathered = x .gathered;
+      tabs = tabs i;
+      attributes = x .attributes;
+      features = x .features;
+      keys = keys i;
+    }

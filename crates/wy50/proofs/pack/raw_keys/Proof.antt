@@ -1,0 +1,39 @@
+-- `raw_keys`: the first i keys are translated.
+-- Assumes nothing.
+use mathlib.Core.List.{[]}
+use Prim.Native.Nat.{_-_}
+use native.Mathlib.Omega.{arith}
+use lib.ListN.{length}
+use borrow.Author.Needs.{needs}
+use Rattle.wy50.specs.Raw.{rawKey}
+use Rattle.wy50.proofs.Loops.{Translated, begin, go, finish}
+use Rattle.wy50.proofs.pack.raw_keys.Statement.{statement}
+use Rattle.wy50.proofs.pack.raw_keys.Tie as tie
+
+abbrev Inv-loop : tie.InvT-loop
+Inv-loop keys t₀ i₀ t i = Translated rawKey keys t i
+
+abbrev μ-loop : tie.MeasureT-loop
+μ-loop keys t₀ i₀ t i = 32 - i
+
+loop-again : tie.Need-loop-again Inv-loop μ-loop
+loop-again c =
+    let x = c .before .before .before .loop in
+    go rawKey _ (x .t) (x .i) record { len = 0; bytes = [] } (x .inv) (search needs) (c .raw-key .ensures)
+
+pub raw-keys-spec : {M : Type 1} → statement M
+raw-keys-spec =
+    tie.close
+    (tie.spec
+    Inv-loop
+    μ-loop
+    (λ c. begin rawKey _ _ (search needs))
+    (λ c. search needs)
+    (λ c. search needs)
+    (λ c κs. search needs)
+    (λ c. search needs)
+    (λ c. search needs)
+    (λ c. search needs)
+    (λ c. search needs)
+    loop-again
+    (λ c. finish rawKey _ _ (c .before .loop .i) (c .before .loop .inv) (search needs)))

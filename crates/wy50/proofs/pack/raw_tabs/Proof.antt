@@ -1,0 +1,37 @@
+-- `raw_tabs`: the first i tab stops are translated.
+-- Assumes nothing.
+use mathlib.Core.Bool.{false}
+use Prim.Native.Nat.{_-_}
+use native.Mathlib.Omega.{arith}
+use lib.ListN.{length}
+use borrow.Author.Needs.{needs}
+use Rattle.wy50.specs.Raw.{flag}
+use Rattle.wy50.proofs.Loops.{Translated, begin, go, finish}
+use Rattle.wy50.proofs.pack.raw_tabs.Statement.{statement}
+use Rattle.wy50.proofs.pack.raw_tabs.Tie as tie
+
+abbrev Inv-loop : tie.InvT-loop
+Inv-loop tabs t₀ i₀ t i = Translated flag tabs t i
+
+abbrev μ-loop : tie.MeasureT-loop
+μ-loop tabs t₀ i₀ t i = 80 - i
+
+loop-again : tie.Need-loop-again Inv-loop μ-loop
+loop-again c =
+    let x = c .before .before .loop in
+    go flag _ (x .t) (x .i) false (x .inv) (search needs) (c .flag .ensures)
+
+pub raw-tabs-spec : {M : Type 1} → statement M
+raw-tabs-spec =
+    tie.close
+    (tie.spec
+    Inv-loop
+    μ-loop
+    (λ c. begin flag _ _ (search needs))
+    (λ c. search needs)
+    (λ c κs. search needs)
+    (λ c. search needs)
+    (λ c. search needs)
+    (λ c. search needs)
+    loop-again
+    (λ c. finish flag _ _ (c .before .loop .i) (c .before .loop .inv) (search needs)))

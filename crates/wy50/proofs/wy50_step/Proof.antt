@@ -1,0 +1,22 @@
+-- `wy50_step` meets its contract.
+-- Assumes nothing.
+use mathlib.Core.Path.{sym, _∙_}
+use borrow.Author.Tests.{not-true, not-false}
+use Rattle.wy50.proofs.Calls.{stepped, step-refused}
+use borrow.Author.Needs.{needs}
+use Rattle.wy50.proofs.wy50_step.Statement.{statement}
+use Rattle.wy50.proofs.wy50_step.Tie as tie
+
+pub wy50-step-spec : {M : Type 1} → statement M
+wy50-step-spec =
+    tie.close
+    (tie.spec
+    (λ c κs. search needs)
+    (λ c. step-refused _ _ (sym (c .before .is-named .ensures) ∙ not-true _ (c .if1 .taken)) _ _)
+    (λ c κs. sym (c .before .before .is-named .ensures) ∙ not-false _ (c .before .if1 .left))
+    (λ c κs. search needs)
+    (λ c κs. search needs)
+    (λ c κs. search needs)
+    (λ c. search needs)
+    (λ c. search needs)
+    (λ c. stepped _ _ _ _ (sym (c .before .before .before .before .before .before .before .before .before .before .before .before .is-named .ensures) ∙ not-false _ (c .before .before .before .before .before .before .before .before .before .before .before .if1 .left)) (c .before .before .before .before .before .before .before .before .before .unpack .ensures) (c .before .before .before .before .before .before .before .step .ensures) (c .before .answer-number .ensures) (c .pack .ensures)))

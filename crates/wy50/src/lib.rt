@@ -1,0 +1,148 @@
+// The terminal for C and Rust. A state crosses as numbers, by value both ways. Numbers that name no state are an impossible state: the call
+// answers 7, replies nothing, changes nothing and gives the numbers back. A slice crosses as a pointer and a count.
+pub mod raw; // the structs that cross
+mod pack; // the numbers of a state
+mod unpack; // the state that numbers name
+
+ghost use mathlib.Core.Path.{_≡_};
+ghost use lib.ListN.{length};
+ghost use Rattle.rules.specs.Cell.{code, protected, kind, sent};
+ghost use Rattle.rules.specs.Calls.{powerOnRule};
+ghost use Rattle.wy50.specs.Raw.{flag};
+ghost use Rattle.wy50.specs.Promise.{raw, rawStep, rawRun, rawPress, PoweredOn, Stepped, Completed, Sent};
+use pack::flag;
+use pack::pack;
+use raw::RawPowerOn;
+use raw::RawPress;
+use raw::RawRun;
+use raw::RawState;
+use raw::RawStep;
+use terminal::answer_number;
+use terminal::code_of;
+use terminal::is_protected;
+use terminal::kind_of;
+use terminal::power_on;
+use terminal::press;
+use terminal::run;
+use terminal::sent_code;
+use terminal::step;
+use unpack::is_named;
+use unpack::unpack;
+
+#[no_mangle]
+pub extern "C" fn wy50_power_on(page: &mut [u16]) -> RawPowerOn
+    ensures { λ r. ⌜ PoweredOn (raw (powerOnRule (now (page .entry)))) r (now (page .exit)) ⌝ }
+{
+    let t = power_on(page);
+    let s = t.state;
+    let a = t.answer;
+    RawPowerOn {
+        answer: answer_number(a),
+        state: pack(s),
+    }
+}
+
+#[no_mangle]
+pub extern "C" fn wy50_step(
+    page: &mut [u16],
+    state: RawState,
+    byte: u8,
+    reply: &mut [u8],
+) -> RawStep
+    ensures { λ r. ⌜ Stepped (rawStep (now (page .entry)) state byte (length (now (reply .entry)))) r (now (page .exit)) (now (reply .entry)) (now (reply .exit)) ⌝ }
+{
+    if !is_named(state) {
+        return RawStep {
+            answer: 7,
+            replied: 0,
+            state: state,
+        };
+    }
+    let t = step(page, unpack(state), byte, reply);
+    let s = t.state;
+    let a = t.answer;
+    RawStep {
+        answer: answer_number(a),
+        replied: t.replied,
+        state: pack(s),
+    }
+}
+
+// The bytes not taken start at `taken` of the input.
+#[no_mangle]
+pub extern "C" fn wy50_run(
+    page: &mut [u16],
+    state: RawState,
+    input: &[u8],
+    reply: &mut [u8],
+) -> RawRun
+    ensures { λ r. ⌜ Completed (rawRun (now (page .entry)) state (now (input .entry)) (length (now (reply .entry)))) r (now (input .entry)) (now (page .exit)) (now (reply .entry)) (now (reply .exit)) ⌝ }
+{
+    if !is_named(state) {
+        return RawRun {
+            answer: 7,
+            taken: 0,
+            replied: 0,
+            refused: 0,
+            state: state,
+        };
+    }
+    let t = run(page, unpack(state), input, reply);
+    let s = t.state;
+    let a = t.answer;
+    RawRun {
+        answer: answer_number(a),
+        taken: t.taken,
+        replied: t.replied,
+        refused: t.refused,
+        state: pack(s),
+    }
+}
+
+#[no_mangle]
+pub extern "C" fn wy50_press(page: &[u16], state: RawState, key: u8, reply: &mut [u8]) -> RawPress
+    ensures { λ r. ⌜ Sent (rawPress (now (page .entry)) state key (length (now (reply .entry)))) r (now (reply .entry)) (now (reply .exit)) ⌝ }
+{
+    if !is_named(state) {
+        return RawPress {
+            answer: 7,
+            replied: 0,
+        };
+    }
+    let t = press(page, unpack(state), key, reply);
+    let a = t.answer;
+    RawPress {
+        answer: answer_number(a),
+        replied: t.replied,
+    }
+}
+
+// Readers of a cell's number: its code, whether it is protected (0 or 1), its kind, and what a send gives for it.
+
+#[no_mangle]
+pub extern "C" fn wy50_cell_code(cell: u16) -> u8
+    ensures { λ r. ⌜ r ≡ code cell ⌝ }
+{
+    code_of(cell)
+}
+
+#[no_mangle]
+pub extern "C" fn wy50_cell_protected(cell: u16) -> u8
+    ensures { λ r. ⌜ r ≡ flag (protected cell) ⌝ }
+{
+    flag(is_protected(cell))
+}
+
+#[no_mangle]
+pub extern "C" fn wy50_cell_kind(cell: u16) -> u8
+    ensures { λ r. ⌜ r ≡ kind cell ⌝ }
+{
+    kind_of(cell)
+}
+
+#[no_mangle]
+pub extern "C" fn wy50_cell_sent(cell: u16) -> u8
+    ensures { λ r. ⌜ r ≡ sent cell ⌝ }
+{
+    sent_code(cell)
+}

@@ -1,0 +1,78 @@
+// The state as C holds it: numbers alone, so that whatever a caller fills in is a value. No struct has padding but the results.
+
+// A function key, or the key text under way: the first `len` of `bytes`.
+#[repr(C)]
+pub struct RawKey {
+    pub len: u8,
+    pub bytes: [u8; 8],
+}
+
+#[repr(C)]
+pub struct RawScreen {
+    pub active: u8,
+    pub split: u8,
+    pub cursor0: u16,
+    pub cursor1: u16,
+}
+
+// Each 0 or 1. `mark` is write-protect mode, `local` local edit.
+#[repr(C)]
+pub struct RawModes {
+    pub protect: u8,
+    pub mark: u8,
+    pub insert: u8,
+    pub autoscroll: u8,
+    pub locked: u8,
+    pub local: u8,
+}
+
+// The sequence under way: which one it is, and its numbers in their order, 0 where it has fewer than three.
+#[repr(C)]
+pub struct RawSequence {
+    pub kind: u16,
+    pub first: u8,
+    pub second: u8,
+    pub third: u16,
+}
+
+// A tab stop is 0 or 1.
+#[repr(C)]
+pub struct RawState {
+    pub screen: RawScreen,
+    pub modes: RawModes,
+    pub bells: u16,
+    pub sequence: RawSequence,
+    pub gathered: RawKey,
+    pub tabs: [u8; 80],
+    pub attributes: [u8; 4],
+    pub features: [u8; 5],
+    pub keys: [RawKey; 32],
+}
+
+#[repr(C)]
+pub struct RawPowerOn {
+    pub answer: u8,
+    pub state: RawState,
+}
+
+#[repr(C)]
+pub struct RawStep {
+    pub answer: u8,
+    pub replied: usize,
+    pub state: RawState,
+}
+
+#[repr(C)]
+pub struct RawRun {
+    pub answer: u8,
+    pub taken: usize,
+    pub replied: usize,
+    pub refused: usize,
+    pub state: RawState,
+}
+
+#[repr(C)]
+pub struct RawPress {
+    pub answer: u8,
+    pub replied: usize,
+}

@@ -1,0 +1,180 @@
+// The state that the numbers name, and whether they name one.
+ghost use mathlib.Core.Path.{_≡_};
+ghost use mathlib.Core.Bool.{true};
+ghost use mathlib.Core.List.{map};
+ghost use Rattle.rules.specs.Possible.{allBelow};
+ghost use Rattle.wy50.specs.Raw.{isOn, pendingOf, sameSequence, isSequence, areFlags, modesOf, keyOf, named, unpacked};
+use crate::pack::sequence_of;
+use crate::raw::RawKey;
+use crate::raw::RawModes;
+use crate::raw::RawSequence;
+use crate::raw::RawState;
+use rules::Core;
+use rules::Key;
+use rules::Modes;
+use rules::Pending;
+use rules::Screen;
+use rules::Setup;
+use rules::State;
+use state::keys::no_key;
+use state::logic::and;
+
+// The sequence of a kind, with its numbers; no other kind has one.
+fn pending_of(q: RawSequence) -> Pending
+    ensures { λ r. ⌜ r ≡ pendingOf q ⌝ }
+{
+    let k = q.kind;
+    match k {
+        1 => Pending::Escape,
+        2 => Pending::Address,
+        3 => Pending::AddressRow(q.first),
+        4 => Pending::Segment,
+        5 => Pending::SegmentNumber(q.first),
+        6 => Pending::SegmentRow(q.first, q.second),
+        7 => Pending::DecimalRow(q.first, q.second),
+        8 => Pending::DecimalColumn(q.first, q.second, q.third),
+        9 => Pending::Split,
+        10 => Pending::SplitRow,
+        11 => Pending::Attribute,
+        12 => Pending::Graphic,
+        13 => Pending::FillAttribute,
+        14 => Pending::FillCode,
+        15 => Pending::Feature,
+        16 => Pending::FieldAttribute,
+        17 => Pending::FieldNumber(q.first),
+        18 => Pending::KeyValue,
+        19 => Pending::KeyText(q.first),
+        20 => Pending::KeyOver(q.first),
+        _ => Pending::Idle,
+    }
+}
+
+fn same_sequence(a: RawSequence, b: RawSequence) -> bool
+    ensures { λ r. ⌜ r ≡ sameSequence a b ⌝ }
+{
+    let numbers = and(a.second == b.second, a.third == b.third);
+    and(a.kind == b.kind, and(a.first == b.first, numbers))
+}
+
+// Whether the numbers are those of a sequence: it gives them back.
+fn is_sequence(q: RawSequence) -> bool
+    ensures { λ r. ⌜ r ≡ isSequence q ⌝ }
+{
+    let p = pending_of(q);
+    same_sequence(sequence_of(p), q)
+}
+
+fn are_flags(m: RawModes) -> bool
+    ensures { λ r. ⌜ r ≡ areFlags m ⌝ }
+{
+    let first = and(m.protect < 2, and(m.mark < 2, m.insert < 2));
+    let second = and(m.autoscroll < 2, and(m.locked < 2, m.local < 2));
+    and(first, second)
+}
+
+fn are_tabs(tabs: [u8; 80]) -> bool
+    ensures { λ r. ⌜ r ≡ allBelow 2 tabs ⌝ }
+{
+    let mut i = 0;
+    while i < 80 {
+        if 2 <= tabs[i] {
+            return false;
+        }
+        i += 1;
+    }
+    true
+}
+
+// Whether the numbers name a state.
+pub fn is_named(x: RawState) -> bool
+    ensures { λ r. ⌜ r ≡ named x ⌝ }
+{
+    let modes = x.modes;
+    let sequence = x.sequence;
+    let tabs = x.tabs;
+    let rest = and(is_sequence(sequence), are_tabs(tabs));
+    and(are_flags(modes), and(x.bells < 256, rest))
+}
+
+fn modes_of(m: RawModes) -> Modes
+    ensures { λ r. ⌜ r ≡ modesOf m ⌝ }
+{
+    Modes {
+        protect: m.protect == 1,
+        mark: m.mark == 1,
+        insert: m.insert == 1,
+        autoscroll: m.autoscroll == 1,
+        locked: m.locked == 1,
+        local: m.local == 1,
+    }
+}
+
+fn key_of(k: RawKey) -> Key
+    ensures { λ r. ⌜ r ≡ keyOf k ⌝ }
+{
+    let bytes = k.bytes;
+    Key {
+        len: k.len,
+        bytes: bytes,
+    }
+}
+
+fn tabs_of(tabs: [u8; 80]) -> [bool; 80]
+    ensures { λ r. ⌜ r ≡ map isOn tabs ⌝ }
+{
+    let mut t = [false; 80];
+    let mut i = 0;
+    while i < 80 {
+        t[i] = tabs[i] == 1;
+        i += 1;
+    }
+    t
+}
+
+fn keys_of(keys: [RawKey; 32]) -> [Key; 32]
+    ensures { λ r. ⌜ r ≡ map keyOf keys ⌝ }
+{
+    let none = no_key();
+    let mut t = [none; 32];
+    let mut i = 0;
+    while i < 32 {
+        let k = keys[i];
+        t[i] = key_of(k);
+        i += 1;
+    }
+    t
+}
+
+pub fn unpack(x: RawState) -> State
+    requires { ⌜ named x ≡ true ⌝ }
+    ensures { λ r. ⌜ r ≡ unpacked x ⌝ }
+{
+    let modes = x.modes;
+    let sequence = x.sequence;
+    let gathered = x.gathered;
+    let tabs = x.tabs;
+    let attributes = x.attributes;
+    let features = x.features;
+    let keys = x.keys;
+    let screen = x.screen;
+    State {
+        core: Core {
+            screen: Screen {
+                active: screen.active,
+                split: screen.split,
+                cursor0: screen.cursor0,
+                cursor1: screen.cursor1,
+            },
+            modes: modes_of(modes),
+            bells: x.bells as u8,
+            pending: pending_of(sequence),
+            gathered: key_of(gathered),
+        },
+        setup: Setup {
+            tabs: tabs_of(tabs),
+            attributes: attributes,
+            features: features,
+            keys: keys_of(keys),
+        },
+    }
+}

@@ -1,0 +1,183 @@
+/* wy50.h: the WY-50 alert terminal for C99 and C++. Link with libwy50.a.
+ *
+ * The caller lends the page (1,920 cells) and the reply room at each call and keeps the state: it goes in by value and comes back by value.
+ * The library keeps nothing between calls, allocates nothing and calls nothing but memcpy and memset, so different terminals may run in
+ * different threads.
+ *
+ * Every call returns, whatever numbers it is handed. It relies on this much of its caller: a pointer goes with a count of elements, is not
+ * NULL even where the count is 0, and points to that many; and the page, the input and the reply room do not overlap.
+ */
+#ifndef WY50_H
+#define WY50_H
+
+#include <stddef.h>
+#include <stdint.h>
+
+#ifdef __cplusplus
+extern "C" {
+#endif
+
+enum {
+    WY50_ROWS = 24,
+    WY50_COLUMNS = 80,
+    WY50_CELLS = 1920,         /* the page, in reading order */
+    WY50_LONGEST_REPLY = 1944, /* with this room no byte is ever answered 6 */
+    WY50_KEYS = 32,
+    WY50_KEY_BYTES = 8
+};
+
+/* What a call answers. */
+enum {
+    WY50_DONE = 0,         /* done, or more bytes are awaited */
+    WY50_HIGH_BYTE = 1,    /* a byte 80h to FFh; nothing changed */
+    WY50_UNKNOWN = 2,      /* no such byte after ESC; the sequence is cleared */
+    WY50_BAD_ARGUMENT = 3, /* an argument outside its range, no such key or segment; the sequence is cleared */
+    WY50_BARRED = 4,       /* a guarded cell or protect mode bars it; the sequence is cleared */
+    WY50_KEYS_FULL = 5,    /* the key bytes would total over 256; the sequence is cleared */
+    WY50_NO_ROOM = 6,      /* the reply is longer than the room; nothing changed, the byte may come again */
+    WY50_BAD_CALL = 7,     /* the page is not 1,920 cells long, or the state is not possible; nothing changed */
+    WY50_LOCKED = 8        /* a key is pressed while the keyboard is locked; nothing changed */
+};
+
+/* The kind of a cell. Any number from 2 on is a graphic. */
+enum {
+    WY50_TEXT = 0,
+    WY50_ATTRIBUTE = 1,
+    WY50_GRAPHIC = 2
+};
+
+/* A function key: the first len of bytes, each below 7Fh. len is at most 8; 0 is a key that is not programmed. */
+typedef struct wy50_key {
+    uint8_t len;
+    uint8_t bytes[WY50_KEY_BYTES];
+} wy50_key;
+
+/* The page is one segment, or split into two at a row. */
+typedef struct wy50_screen {
+    uint8_t active;   /* the active segment, 0 or 1 */
+    uint8_t split;    /* the first row of segment 1, 2 to 24, counted from 1; 0: not split */
+    uint16_t cursor0; /* the cursor of segment 0, as a cell of the page, counted from 0 */
+    uint16_t cursor1; /* the cursor of segment 1 */
+} wy50_screen;
+
+/* Each mode is 0 (off) or 1 (on). */
+typedef struct wy50_modes {
+    uint8_t protect;       /* protected cells are guarded: not written, not sent, no place for the cursor */
+    uint8_t write_protect; /* what is written is protected */
+    uint8_t insert;        /* what is written shifts the rest of the field */
+    uint8_t autoscroll;    /* the last row scrolls */
+    uint8_t locked;        /* the keyboard is locked */
+    uint8_t local_edit;    /* remembered */
+} wy50_modes;
+
+/* Which sequence is under way, in wy50_sequence.kind, with its numbers. */
+enum {
+    WY50_IDLE = 0,             /* none */
+    WY50_ESCAPE = 1,           /* ESC */
+    WY50_ADDRESS = 2,          /* ESC = */
+    WY50_ADDRESS_ROW = 3,      /* ESC = r: first is the row code */
+    WY50_SEGMENT = 4,          /* ESC - */
+    WY50_SEGMENT_NUMBER = 5,   /* ESC - n: first is the segment code */
+    WY50_SEGMENT_ROW = 6,      /* ESC - n r: first is the segment code, second the row code */
+    WY50_DECIMAL_ROW = 7,      /* ESC a: first counts the digits so far, second is their number */
+    WY50_DECIMAL_COLUMN = 8,   /* ESC a row R: first is the row, second counts the column's digits so far, third is their number */
+    WY50_SPLIT = 9,            /* ESC x */
+    WY50_SPLIT_ROW = 10,       /* ESC x 1 */
+    WY50_SET_ATTRIBUTE = 11,   /* ESC G */
+    WY50_SET_GRAPHIC = 12,     /* ESC H */
+    WY50_FILL_ATTRIBUTE = 13,  /* ESC ! */
+    WY50_FILL_CODE = 14,       /* ESC . */
+    WY50_SET_FEATURE = 15,     /* ESC ` */
+    WY50_FIELD_ATTRIBUTE = 16, /* ESC A */
+    WY50_FIELD_NUMBER = 17,    /* ESC A n: first is the field code */
+    WY50_KEY_VALUE = 18,       /* ESC z */
+    WY50_KEY_TEXT = 19,        /* ESC z value: first is the value, wy50_state.gathered the text so far */
+    WY50_KEY_OVER = 20         /* ESC z value and more than 8 bytes: first is the value */
+};
+
+/* The sequence under way. A number that its kind does not have is 0. */
+typedef struct wy50_sequence {
+    uint16_t kind;
+    uint8_t first;
+    uint8_t second;
+    uint16_t third;
+} wy50_sequence;
+
+/* The places of wy50_state.features, each holding the code that ESC ` last set it to. */
+enum {
+    WY50_CURSOR_SHOWN = 0,   /* '0' hidden, '1' shown */
+    WY50_CURSOR_STYLE = 1,   /* '2' steady block, '3' blinking line, '4' steady line, '5' blinking block */
+    WY50_PROTECTED_LOOK = 2, /* '6' reverse, '7' dim, 'A' normal */
+    WY50_SCREEN_SHOWN = 3,   /* '8' dark, '9' shown */
+    WY50_SCROLLING = 4       /* '<' '=' '>' '?' smooth at 1, 2, 4, 8 rows a second, '@' jump */
+};
+
+/* The state: numbers alone, without padding, so that memcmp compares two states and a state can be saved as its 406 bytes.
+ *
+ * A program may read it and may fill it in. Numbers that are no possible state do no harm: a call that is handed them answers 7, replies
+ * nothing and gives them back as they came. So does a mode or a tab stop that is neither 0 nor 1, a sequence of no kind above, or a number
+ * other than 0 that its kind does not have. The bytes of a key beyond its len are not looked at.
+ */
+typedef struct wy50_state {
+    wy50_screen screen;
+    wy50_modes modes;
+    uint16_t bells; /* 07h counted modulo 256 */
+    wy50_sequence sequence;
+    wy50_key gathered;         /* the key text under way */
+    uint8_t tabs[WY50_COLUMNS]; /* by column: 1 a tab stop, 0 none */
+    uint8_t attributes[4];     /* of ESC A: 20h, 30h to 3Fh or 70h to 7Eh */
+    uint8_t features[5];       /* of ESC ` */
+    wy50_key keys[WY50_KEYS];  /* 40h to 4Fh, then 60h to 6Fh */
+} wy50_state;
+
+typedef struct wy50_power_on_result {
+    uint8_t answer; /* 0 or 7 */
+    wy50_state state;
+} wy50_power_on_result;
+
+typedef struct wy50_step_result {
+    uint8_t answer;  /* 0 to 7 */
+    size_t replied;  /* reply bytes */
+    wy50_state state;
+} wy50_step_result;
+
+typedef struct wy50_run_result {
+    uint8_t answer; /* 0, 6 or 7 */
+    size_t taken;   /* bytes taken; the rest of the input starts at input + taken */
+    size_t replied; /* reply bytes */
+    size_t refused; /* how many of the bytes taken answered 1 to 5 */
+    wy50_state state;
+} wy50_run_result;
+
+typedef struct wy50_press_result {
+    uint8_t answer; /* 0, 3, 6, 7 or 8 */
+    size_t replied; /* reply bytes */
+} wy50_press_result;
+
+/* Power-on: every cell 0, and the power-on state. A page of another length than 1,920 answers 7 and is left as it was; the state is given. */
+wy50_power_on_result wy50_power_on(uint16_t *page, size_t page_len);
+
+/* One byte from the host. The reply is put at the front of the room; what lies beyond it is not touched. */
+wy50_step_result wy50_step(uint16_t *page, size_t page_len, wy50_state state, uint8_t byte, uint8_t *reply, size_t reply_len);
+
+/* Bytes from the host: the single step repeated, replies joined. It stops before the first byte whose reply does not fit into what is left
+ * of the room and then answers 6: empty the room, and hand it the rest of the input. Other answers do not stop it; it counts them. */
+wy50_run_result wy50_run(uint16_t *page, size_t page_len, wy50_state state, const uint8_t *input, size_t input_len, uint8_t *reply,
+                         size_t reply_len);
+
+/* A function key is pressed: 40h to 4Fh or 60h to 6Fh. The reply is its bytes; 01h key 0Dh if it is not programmed. The page is only
+ * measured, and neither it nor the state changes. */
+wy50_press_result wy50_press(const uint16_t *page, size_t page_len, wy50_state state, uint8_t key, uint8_t *reply, size_t reply_len);
+
+/* What a cell's number says: its code, 0 to 127; whether it is protected, 0 or 1; its kind; and the byte that a send gives for it, which
+ * is the code of a text cell from 20h to 7Eh and 20h for any other cell. */
+uint8_t wy50_cell_code(uint16_t cell);
+uint8_t wy50_cell_protected(uint16_t cell);
+uint8_t wy50_cell_kind(uint16_t cell);
+uint8_t wy50_cell_sent(uint16_t cell);
+
+#ifdef __cplusplus
+}
+#endif
+
+#endif
