@@ -1,9 +1,13 @@
-# make test: the gate. make demo: the gateway's main job on two host streams. make fuzz: the differential test for longer.
+# make test: the gate. make demo: the gateway's main job on two host streams. make fuzz SECONDS=60 SEED=7: the differential test for longer.
+# make lib: the library for C and Rust. make test-face: its tests. make fuzz-face SECONDS=60: random calls. make install PREFIX=/usr/local.
 
-.PHONY: test demo fuzz
+.PHONY: test demo fuzz lib test-face fuzz-face install
 
 SECONDS ?= 60
 SEED ?= 1
+PREFIX ?= /usr/local
+LIB := target/staticlib/libwy50.a
+PARTS := $(addprefix crates/,rules page state plan carry terminal wy50)
 
 test:
 	@tests/gate
@@ -15,7 +19,27 @@ demo:
 	@echo
 	@target/bin/alert examples/june-slip.host
 
-# The differential test for SECONDS seconds, after make test or rt check has built replay.
+# over the replay that make test or rt check has built
 fuzz:
 	@test -x target/bin/replay || rt check replay
 	@$$(tests/build-independent) compare target/bin/replay $(SEED) --seconds $(SECONDS)
+
+lib: $(LIB)
+
+$(LIB): $(shell find $(PARTS) -name '*.rt' -o -name '*.antt') crates.txt
+	rt staticlib wy50
+	@touch $@
+
+test-face: $(LIB)
+	@tests/face/run
+
+fuzz-face: $(LIB)
+	@mkdir -p target/face
+	$(CC) -std=c99 -Wall -Wextra -Werror -O1 -g -fsanitize=address,undefined -fno-sanitize-recover=all -Iinclude tests/face/fuzz.c $(LIB) -o target/face/fuzz
+	target/face/fuzz $(SECONDS)
+
+install: $(LIB)
+	install -d $(DESTDIR)$(PREFIX)/lib/pkgconfig $(DESTDIR)$(PREFIX)/include
+	install -m 644 $(LIB) $(DESTDIR)$(PREFIX)/lib/libwy50.a
+	install -m 644 include/wy50.h $(DESTDIR)$(PREFIX)/include/wy50.h
+	sed -e 's|@PREFIX@|$(PREFIX)|' -e "s|@VERSION@|$$(cat VERSION)|" wy50.pc.in > $(DESTDIR)$(PREFIX)/lib/pkgconfig/wy50.pc

@@ -21,7 +21,7 @@ enum {
     WY50_ROWS = 24,
     WY50_COLUMNS = 80,
     WY50_CELLS = 1920,         /* the page, in reading order */
-    WY50_LONGEST_REPLY = 1944, /* with this room no byte is ever answered 6 */
+    WY50_LONGEST_REPLY = 1944, /* a step that has this room is never answered 6 */
     WY50_KEYS = 32,
     WY50_KEY_BYTES = 8
 };
@@ -115,19 +115,19 @@ enum {
 /* The state: numbers alone, without padding, so that memcmp compares two states and a state can be saved as its 406 bytes.
  *
  * A program may read it and may fill it in. Numbers that are no possible state do no harm: a call that is handed them answers 7, replies
- * nothing and gives them back as they came. So does a mode or a tab stop that is neither 0 nor 1, a sequence of no kind above, or a number
- * other than 0 that its kind does not have. The bytes of a key beyond its len are not looked at.
+ * nothing and gives them back as they came. A mode or a tab stop that is neither 0 nor 1, a sequence of no kind above, and a number other
+ * than 0 that its kind does not have are such numbers too. The bytes of a key beyond its len are not looked at.
  */
 typedef struct wy50_state {
     wy50_screen screen;
     wy50_modes modes;
-    uint16_t bells; /* 07h counted modulo 256 */
+    uint16_t bells; /* 07h counted modulo 256: below 256 */
     wy50_sequence sequence;
-    wy50_key gathered;         /* the key text under way */
+    wy50_key gathered;          /* the key text under way */
     uint8_t tabs[WY50_COLUMNS]; /* by column: 1 a tab stop, 0 none */
-    uint8_t attributes[4];     /* of ESC A: 20h, 30h to 3Fh or 70h to 7Eh */
-    uint8_t features[5];       /* of ESC ` */
-    wy50_key keys[WY50_KEYS];  /* 40h to 4Fh, then 60h to 6Fh */
+    uint8_t attributes[4];      /* of ESC A: 20h, 30h to 3Fh or 70h to 7Eh */
+    uint8_t features[5];        /* of ESC `, by the places above */
+    wy50_key keys[WY50_KEYS];   /* 40h to 4Fh, then 60h to 6Fh */
 } wy50_state;
 
 typedef struct wy50_power_on_result {
@@ -136,8 +136,8 @@ typedef struct wy50_power_on_result {
 } wy50_power_on_result;
 
 typedef struct wy50_step_result {
-    uint8_t answer;  /* 0 to 7 */
-    size_t replied;  /* reply bytes */
+    uint8_t answer; /* 0 to 7 */
+    size_t replied; /* reply bytes */
     wy50_state state;
 } wy50_step_result;
 

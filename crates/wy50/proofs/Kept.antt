@@ -1,21 +1,21 @@
 -- The calls over numbers: a bad call gives back what it was handed, and a good page and state stay good.
 -- Assumes nothing.
-use mathlib.Core.Path.{_≡_, refl, ap, _∙_}
+use mathlib.Core.Path.{_≡_, refl}
 use mathlib.Core.Bool.{Bool, true, false}
 use mathlib.Core.List.{List, []}
-use Prim.Native.Nat.{ℕ, _<_}
+use Prim.Native.Nat.{ℕ}
 use lib.ListN.{length}
 use Rattle.rules.specs.declared.State.{State}
-use Rattle.rules.specs.Cell.{pick, both}
+use Rattle.rules.specs.Cell.{pick}
 use Rattle.rules.specs.Row.{pageLength}
-use Rattle.rules.specs.Possible.{possible, good}
-use Rattle.rules.specs.Step.{Outcome, stepRule}
-use Rattle.rules.specs.Calls.{Pressed, pressed, ended, powerOnRule, runRule, pressRule}
+use Rattle.rules.specs.Possible.{good}
+use Rattle.rules.specs.Step.{stepRule}
+use Rattle.rules.specs.Calls.{pressed, powerOnRule, runRule, pressRule}
 use Rattle.rules.proofs.Kept.{possible-parts, good-parts, step-good, run-good, powerOn-good}
 use Rattle.state.proofs.Tests.{both-left, both-right}
 use Rattle.wy50.specs.declared.raw.RawState.{RawState}
 use Rattle.wy50.specs.Raw.{packed, unpacked, named}
-use Rattle.wy50.specs.Promise.{RawOutcome, RawRan, raw, rawRan, rawGood, badStep, badRun, rawStep, rawRun, rawPress}
+use Rattle.wy50.specs.Promise.{raw, rawGood, badStep, badRun, rawStep, rawRun, rawPress}
 use Rattle.wy50.proofs.RoundTrip.{packed-named, unpacked-packed, packed-unpacked}
 
 -- a bad call

@@ -31,6 +31,7 @@ pub record RawOutcome : Type 0 where
 abbrev pub raw : Outcome → RawOutcome
 raw o = record { answer = o .answer; state = packed (o .state); page = o .page; reply = o .reply }
 
+-- 7: nothing replied, nothing changed
 abbrev pub badStep : List ℕ → RawState → RawOutcome
 badStep p x = record { answer = 7; state = x; page = p; reply = [] }
 
@@ -50,6 +51,7 @@ pub record RawRan : Type 0 where
 abbrev pub rawRan : Ran → RawRan
 rawRan o = record { answer = o .answer; taken = o .taken; refused = o .refused; reply = o .reply; rest = o .rest; state = packed (o .state); page = o .page }
 
+-- 7: zeros, the whole input back, nothing changed
 abbrev pub badRun : List ℕ → RawState → List ℕ → RawRan
 badRun p x l = record { answer = 7; taken = 0; refused = 0; reply = []; rest = l; state = x; page = p }
 

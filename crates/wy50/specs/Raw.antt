@@ -1,5 +1,5 @@
 -- A state as C holds it, in numbers: the numbers of a state, and the state that numbers name.
-use mathlib.Core.Bool.{Bool, true, false}
+use mathlib.Core.Bool.{Bool}
 use mathlib.Core.List.{List, [], _∷_, map}
 use Prim.Native.Nat.{ℕ}
 use lib.Dec.{ltb, eqb}

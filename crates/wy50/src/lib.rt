@@ -29,6 +29,7 @@ use terminal::step;
 use unpack::is_named;
 use unpack::unpack;
 
+// All cells 0, and the power-on state's numbers.
 #[no_mangle]
 pub extern "C" fn wy50_power_on(page: &mut [u16]) -> RawPowerOn
     ensures { λ r. ⌜ PoweredOn (raw (powerOnRule (now (page .entry)))) r (now (page .exit)) ⌝ }
@@ -42,6 +43,7 @@ pub extern "C" fn wy50_power_on(page: &mut [u16]) -> RawPowerOn
     }
 }
 
+// The single step. Ruled out: one that reads a mode of 2 as on, or gives an impossible state back changed.
 #[no_mangle]
 pub extern "C" fn wy50_step(
     page: &mut [u16],
@@ -68,7 +70,8 @@ pub extern "C" fn wy50_step(
     }
 }
 
-// The bytes not taken start at `taken` of the input.
+// The run over many bytes. The bytes not taken start at `taken` of the input. Ruled out: one that loses the sequence under way between two
+// calls.
 #[no_mangle]
 pub extern "C" fn wy50_run(
     page: &mut [u16],
@@ -99,6 +102,7 @@ pub extern "C" fn wy50_run(
     }
 }
 
+// The key press. Ruled out: one that sends the bytes of the key beside.
 #[no_mangle]
 pub extern "C" fn wy50_press(page: &[u16], state: RawState, key: u8, reply: &mut [u8]) -> RawPress
     ensures { λ r. ⌜ Sent (rawPress (now (page .entry)) state key (length (now (reply .entry)))) r (now (reply .entry)) (now (reply .exit)) ⌝ }

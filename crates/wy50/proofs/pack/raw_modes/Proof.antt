@@ -1,6 +1,5 @@
 -- `raw_modes` meets its contract.
 -- Assumes nothing.
-use Rattle.wy50.specs.Raw.{rawModes}
 use borrow.Author.Needs.{needs}
 use Rattle.wy50.proofs.pack.raw_modes.Statement.{statement}
 use Rattle.wy50.proofs.pack.raw_modes.Tie as tie

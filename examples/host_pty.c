@@ -1,0 +1,234 @@
+/* Runs a program on a 24 by 80 pseudo-terminal with TERM=wy50, feeds what it writes to the terminal, writes the replies back, and prints the
+ * page at the end: when the program ends, or, with -s or -q, when it has been quiet for a while after the last keys; then it is killed.
+ *
+ *     host_pty [-l] [-s KEYS].. [-q MILLISECONDS] PROGRAM [ARGUMENT]..
+ *
+ *     -s KEYS          once the program is quiet, send it these keys; may come more than once. \r \e \b \t \\ and \xHH are read as in C
+ *     -q MILLISECONDS  how long quiet is (300)
+ *     -l               follow live on this ANSI display, guarded cells dim; what is typed goes to the program, Ctrl-] ends
+ */
+#define _DEFAULT_SOURCE
+#include "wy50.h"
+
+#include <errno.h>
+#include <poll.h>
+#include <pty.h>
+#include <signal.h>
+#include <stdio.h>
+#include <stdlib.h>
+#include <string.h>
+#include <sys/wait.h>
+#include <termios.h>
+#include <unistd.h>
+
+enum { END_KEY = 0x1d };
+
+static uint16_t page[WY50_CELLS], shown[WY50_CELLS];
+static wy50_state state;
+static size_t fed, refused;
+
+static void put(int to, const uint8_t *bytes, size_t n)
+{
+    while (n > 0) {
+        ssize_t k = write(to, bytes, n);
+        if (k < 0 && errno != EINTR && errno != EAGAIN)
+            return;
+        if (k > 0) {
+            bytes += k;
+            n -= (size_t)k;
+        }
+    }
+}
+
+/* Host bytes; replies go back to the program. */
+static void feed(int program, const uint8_t *bytes, size_t n)
+{
+    uint8_t reply[WY50_LONGEST_REPLY];
+    while (n > 0) {
+        wy50_run_result r = wy50_run(page, WY50_CELLS, state, bytes, n, reply, sizeof reply);
+        if (r.answer == WY50_BAD_CALL)
+            abort();
+        state = r.state;
+        fed += r.taken;
+        refused += r.refused;
+        put(program, reply, r.replied);
+        bytes += r.taken;
+        n -= r.taken;
+    }
+}
+
+static unsigned cursor(void)
+{
+    return state.screen.active ? state.screen.cursor1 : state.screen.cursor0;
+}
+
+/* One cell on an ANSI display. Graphics 30h to 3Fh are line drawing. */
+static void show_cell(uint16_t v, int guarded)
+{
+    static const char *const lines[16] = {"┬", "└", "┌", "┐", "├", "┘", "│", "█", "┼", "┤", "─", "▒", "═", "┴", "║", "░"};
+    if (guarded)
+        fputs("\033[2m", stdout);
+    if (wy50_cell_kind(v) >= WY50_GRAPHIC)
+        fputs(lines[wy50_cell_code(v) % 16], stdout);
+    else
+        putchar(wy50_cell_sent(v));
+    if (guarded)
+        fputs("\033[0m", stdout);
+}
+
+/* Draws the cells that have changed. A cell's bit 10 in `shown` says that it is guarded; no written cell has it. */
+static void show(void)
+{
+    unsigned i, at = cursor();
+    for (i = 0; i < WY50_CELLS; i++) {
+        int guarded = state.modes.protect && wy50_cell_protected(page[i]);
+        uint16_t now = (uint16_t)(page[i] | (guarded ? 1024 : 0));
+        if (now != shown[i]) {
+            printf("\033[%u;%uH", i / WY50_COLUMNS + 1, i % WY50_COLUMNS + 1);
+            show_cell(page[i], guarded);
+            shown[i] = now;
+        }
+    }
+    printf("\033[%u;%uH\033[?25%c", at / WY50_COLUMNS + 1, at % WY50_COLUMNS + 1, state.features[WY50_CURSOR_SHOWN] == '1' ? 'h' : 'l');
+    fflush(stdout);
+}
+
+static void print_page(void)
+{
+    unsigned row, column;
+    for (row = 0; row < WY50_ROWS; row++) {
+        unsigned end = WY50_COLUMNS;
+        const uint16_t *cells = page + row * WY50_COLUMNS;
+        while (end > 0 && wy50_cell_sent(cells[end - 1]) == ' ')
+            end--;
+        for (column = 0; column < end; column++)
+            putchar(wy50_cell_sent(cells[column]));
+        putchar('\n');
+    }
+    fflush(stdout);
+}
+
+/* Reads the escapes of -s in place; how many bytes they make. */
+static size_t keys(char *s)
+{
+    char *to = s, *from = s;
+    while (*from) {
+        if (*from != '\\') {
+            *to++ = *from++;
+            continue;
+        }
+        switch (*++from) {
+        case 'r': *to++ = '\r'; from++; break;
+        case 'n': *to++ = '\n'; from++; break;
+        case 'e': *to++ = 27; from++; break;
+        case 'b': *to++ = 8; from++; break;
+        case 't': *to++ = 9; from++; break;
+        case 'x': *to++ = (char)strtol(from + 1, &from, 16); break;
+        case 0: break;
+        default: *to++ = *from++;
+        }
+    }
+    return (size_t)(to - s);
+}
+
+static void usage(void)
+{
+    fputs("usage: host_pty [-l] [-s KEYS].. [-q MILLISECONDS] PROGRAM [ARGUMENT]..\n", stderr);
+    exit(2);
+}
+
+/* Bytes to and from the program until it ends, goes quiet after the last keys, or Ctrl-] is typed. */
+static void play(int program, int live, char **scripts, int count, int quiet)
+{
+    uint8_t bytes[4096];
+    int sent = 0;
+    for (;;) {
+        struct pollfd fds[2] = {{0, POLLIN, 0}, {0, POLLIN, 0}};
+        int ready;
+        fds[0].fd = program;
+        fds[1].fd = live ? 0 : -1;
+        ready = poll(fds, 2, quiet);
+        if (ready < 0 && errno != EINTR)
+            return;
+        if (ready == 0) {
+            if (sent == count)
+                return;
+            put(program, (const uint8_t *)scripts[sent], keys(scripts[sent]));
+            sent++;
+            continue;
+        }
+        if (fds[1].revents & POLLIN) {
+            ssize_t n = read(0, bytes, sizeof bytes);
+            if (n <= 0 || memchr(bytes, END_KEY, (size_t)n))
+                return;
+            put(program, bytes, (size_t)n);
+        }
+        if (fds[0].revents) {
+            ssize_t n = read(program, bytes, sizeof bytes);
+            if (n <= 0)
+                return;
+            feed(program, bytes, (size_t)n);
+            if (live)
+                show();
+        }
+    }
+}
+
+int main(int argc, char **argv)
+{
+    struct winsize size = {WY50_ROWS, WY50_COLUMNS, 0, 0};
+    struct termios before;
+    char *scripts[64];
+    int option, program, live = 0, count = 0, quiet = -1, raw = 0;
+    pid_t child;
+
+    while ((option = getopt(argc, argv, "+ls:q:")) != -1) {
+        if (option == 'l')
+            live = 1;
+        else if (option == 's' && count < 64)
+            scripts[count++] = optarg;
+        else if (option == 'q')
+            quiet = atoi(optarg);
+        else
+            usage();
+    }
+    if (optind == argc)
+        usage();
+    if (count > 0 && quiet < 0)
+        quiet = 300;
+
+    state = wy50_power_on(page, WY50_CELLS).state;
+    child = forkpty(&program, NULL, NULL, &size);
+    if (child < 0) {
+        perror("host_pty: no pseudo-terminal");
+        return 1;
+    }
+    if (child == 0) {
+        setenv("TERM", "wy50", 1);
+        unsetenv("LINES");
+        unsetenv("COLUMNS");
+        execvp(argv[optind], argv + optind);
+        perror(argv[optind]);
+        _exit(127);
+    }
+    if (live) {
+        if (tcgetattr(0, &before) == 0) {
+            struct termios now = before;
+            cfmakeraw(&now);
+            raw = tcsetattr(0, TCSANOW, &now) == 0;
+        }
+        fputs("\033[0m\033[2J", stdout);
+        memset(shown, 0, sizeof shown);
+    }
+    play(program, live, scripts, count, quiet);
+    if (raw)
+        tcsetattr(0, TCSANOW, &before);
+    if (live)
+        fputs("\033[?25h\033[2J\033[H", stdout);
+    print_page();
+    fprintf(stderr, "host_pty: %zu bytes, %zu refused, cursor at row %u column %u\n", fed, refused, cursor() / WY50_COLUMNS + 1, cursor() % WY50_COLUMNS + 1);
+    kill(-child, SIGKILL);
+    waitpid(child, NULL, 0);
+    close(program);
+    return 0;
+}

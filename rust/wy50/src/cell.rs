@@ -1,0 +1,100 @@
+//! A cell's number, and cells together: rows and open fields.
+
+use crate::sys;
+use core::fmt::{self, Write};
+
+/// What a cell holds.
+#[derive(Clone, Copy, Debug, PartialEq, Eq, Hash)]
+pub enum Kind {
+    Text,
+    Attribute,
+    Graphic,
+}
+
+/// One cell's number.
+#[derive(Clone, Copy, Debug, PartialEq, Eq, Hash)]
+pub struct Cell(pub u16);
+
+impl Cell {
+    /// 0 to 127.
+    pub fn code(self) -> u8 {
+        sys::cell_code(self.0)
+    }
+
+    pub fn is_protected(self) -> bool {
+        sys::cell_protected(self.0) != 0
+    }
+
+    pub fn kind(self) -> Kind {
+        match sys::cell_kind(self.0) {
+            0 => Kind::Text,
+            1 => Kind::Attribute,
+            _ => Kind::Graphic,
+        }
+    }
+
+    /// The byte that a send gives for it: the code of a text cell from 20h to 7Eh, 20h for any other cell.
+    pub fn sent(self) -> u8 {
+        sys::cell_sent(self.0)
+    }
+}
+
+/// A row of the page. It displays as the bytes that a send gives.
+#[derive(Clone, Copy, Debug, PartialEq, Eq)]
+pub struct Row<'a>(&'a [u16]);
+
+impl<'a> Row<'a> {
+    pub(crate) fn new(cells: &'a [u16]) -> Self {
+        Row(cells)
+    }
+
+    pub fn cells(self) -> impl DoubleEndedIterator<Item = Cell> + ExactSizeIterator + 'a {
+        self.0.iter().copied().map(Cell)
+    }
+}
+
+impl fmt::Display for Row<'_> {
+    fn fmt(&self, f: &mut fmt::Formatter<'_>) -> fmt::Result {
+        write_cells(f, self.0)
+    }
+}
+
+/// An open field: cells that follow each other and are not guarded. It displays as the bytes that a send gives.
+#[derive(Clone, Copy, Debug, PartialEq, Eq)]
+pub struct Field<'a> {
+    start: usize,
+    cells: &'a [u16],
+}
+
+impl<'a> Field<'a> {
+    /// The field's first cell, from 0.
+    pub fn start(self) -> usize {
+        self.start
+    }
+
+    pub fn cells(self) -> impl DoubleEndedIterator<Item = Cell> + ExactSizeIterator + 'a {
+        self.cells.iter().copied().map(Cell)
+    }
+}
+
+impl fmt::Display for Field<'_> {
+    fn fmt(&self, f: &mut fmt::Formatter<'_>) -> fmt::Result {
+        write_cells(f, self.cells)
+    }
+}
+
+fn write_cells(f: &mut fmt::Formatter<'_>, cells: &[u16]) -> fmt::Result {
+    cells.iter().try_for_each(|&v| f.write_char(Cell(v).sent().into()))
+}
+
+/// The fields of the cells `from` up to `to`.
+pub(crate) fn fields(page: &[u16], from: usize, to: usize, protects: bool) -> impl Iterator<Item = Field<'_>> + '_ {
+    let guarded = move |at: usize| protects && Cell(page[at]).is_protected();
+    let mut at = from;
+    core::iter::from_fn(move || {
+        let start = (at..to).find(|&i| !guarded(i))?;
+        let end = (start..to).find(|&i| guarded(i)).unwrap_or(to);
+        at = end;
+        Some(Field { start, cells: &page[start..end] })
+    })
+}

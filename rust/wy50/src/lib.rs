@@ -1,0 +1,156 @@
+//! A WY-50 terminal. Feed it the host's bytes, send its replies back, read its page.
+//!
+//! ```
+//! use wy50::{Answer, Terminal, LONGEST_REPLY};
+//!
+//! let mut terminal = Terminal::new();
+//! let mut reply = [0; LONGEST_REPLY];
+//! let fed = terminal.feed(b"Hello\x1b?", &mut reply);
+//! assert_eq!((fed.answer, fed.rest.len()), (Answer::Done, 0));
+//! assert_eq!(&reply[..fed.replied], b"\x20\x25\r"); // row 1, column 6
+//! assert_eq!(terminal.rows().next().unwrap().to_string().trim_end(), "Hello");
+//! ```
+//!
+//! It links the proved library libwy50.a (see `build.rs`), which keeps nothing between calls and allocates nothing; neither does this crate.
+#![no_std]
+
+mod answer;
+mod cell;
+mod sys;
+
+pub use answer::Answer;
+pub use cell::{Cell, Field, Kind, Row};
+use core::fmt;
+pub use sys::{Key, Modes, Screen, Sequence, State};
+
+pub const ROWS: usize = 24;
+pub const COLUMNS: usize = 80;
+/// The page, in reading order.
+pub const CELLS: usize = ROWS * COLUMNS;
+/// A byte that has this room for its reply is never answered [`Answer::NoRoom`].
+pub const LONGEST_REPLY: usize = 1944;
+
+/// What the bytes of a [`Terminal::feed`] came to.
+#[must_use]
+#[derive(Clone, Copy, Debug, PartialEq, Eq)]
+pub struct Fed<'a> {
+    /// [`Answer::Done`], [`Answer::NoRoom`] if it stopped before a byte whose reply does not fit, or [`Answer::BadCall`].
+    pub answer: Answer,
+    /// How many bytes were taken.
+    pub taken: usize,
+    /// How many bytes were put at the front of the reply.
+    pub replied: usize,
+    /// How many of the bytes taken were refused, with an answer from 1 to 5.
+    pub refused: usize,
+    /// The bytes not taken: feed them again once the reply is sent.
+    pub rest: &'a [u8],
+}
+
+/// What one byte, or one key, came to.
+#[must_use]
+#[derive(Clone, Copy, Debug, PartialEq, Eq)]
+pub struct Replied {
+    pub answer: Answer,
+    /// How many bytes were put at the front of the reply.
+    pub replied: usize,
+}
+
+/// A terminal: its page and its state.
+#[derive(Clone, PartialEq, Eq)]
+pub struct Terminal {
+    page: [u16; CELLS],
+    state: State,
+}
+
+impl Terminal {
+    /// A terminal just powered on.
+    pub fn new() -> Self {
+        let mut page = [0; CELLS];
+        let state = sys::power_on(&mut page).state;
+        Terminal { page, state }
+    }
+
+    /// A terminal with this page and state, as [`page`](Self::page) and [`state`](Self::state) gave them. A state that is not possible
+    /// does no harm: every call answers [`Answer::BadCall`] and changes nothing.
+    pub fn from_parts(page: [u16; CELLS], state: State) -> Self {
+        Terminal { page, state }
+    }
+
+    /// Bytes from the host. What they reply is put at the front of `reply`; what lies beyond it is not touched.
+    pub fn feed<'a>(&mut self, bytes: &'a [u8], reply: &mut [u8]) -> Fed<'a> {
+        let ran = sys::run(&mut self.page, self.state, bytes, reply);
+        self.state = ran.state;
+        Fed { answer: Answer::of(ran.answer), taken: ran.taken, replied: ran.replied, refused: ran.refused, rest: &bytes[ran.taken..] }
+    }
+
+    /// One byte from the host, with its own answer.
+    pub fn step(&mut self, byte: u8, reply: &mut [u8]) -> Replied {
+        let stepped = sys::step(&mut self.page, self.state, byte, reply);
+        self.state = stepped.state;
+        Replied { answer: Answer::of(stepped.answer), replied: stepped.replied }
+    }
+
+    /// A function key is pressed: 40h to 4Fh or 60h to 6Fh. Neither page nor state changes.
+    pub fn press(&self, key: u8, reply: &mut [u8]) -> Replied {
+        let pressed = sys::press(&self.page, self.state, key, reply);
+        Replied { answer: Answer::of(pressed.answer), replied: pressed.replied }
+    }
+
+    pub fn page(&self) -> &[u16; CELLS] {
+        &self.page
+    }
+
+    pub fn state(&self) -> &State {
+        &self.state
+    }
+
+    /// The active cursor as a cell of the page, from 0.
+    pub fn cursor(&self) -> usize {
+        let screen = self.state.screen;
+        usize::from(if screen.active == 0 { screen.cursor0 } else { screen.cursor1 })
+    }
+
+    /// Protect mode is on: protected cells are guarded.
+    pub fn protects(&self) -> bool {
+        self.state.modes.protect != 0
+    }
+
+    /// The rows from the top.
+    pub fn rows(&self) -> impl DoubleEndedIterator<Item = Row<'_>> + ExactSizeIterator + '_ {
+        self.page.chunks_exact(COLUMNS).map(Row::new)
+    }
+
+    /// The cells in reading order.
+    pub fn cells(&self) -> impl DoubleEndedIterator<Item = Cell> + ExactSizeIterator + '_ {
+        self.page.iter().copied().map(Cell)
+    }
+
+    /// The open fields in reading order: the longest stretches of cells that are not guarded. A field goes on across rows and ends at the
+    /// segment's end. With protect mode off each segment is one field.
+    pub fn fields(&self) -> impl Iterator<Item = Field<'_>> + '_ {
+        let split = match usize::from(self.state.screen.split) {
+            row @ 2..=ROWS => (row - 1) * COLUMNS,
+            _ => CELLS,
+        };
+        cell::fields(&self.page, 0, split, self.protects()).chain(cell::fields(&self.page, split, CELLS, self.protects()))
+    }
+}
+
+impl Default for Terminal {
+    fn default() -> Self {
+        Terminal::new()
+    }
+}
+
+/// The page as text, a line for each row; a cell is shown as a send gives it.
+impl fmt::Display for Terminal {
+    fn fmt(&self, f: &mut fmt::Formatter<'_>) -> fmt::Result {
+        self.rows().try_for_each(|row| writeln!(f, "{row}"))
+    }
+}
+
+impl fmt::Debug for Terminal {
+    fn fmt(&self, f: &mut fmt::Formatter<'_>) -> fmt::Result {
+        f.debug_struct("Terminal").field("state", &self.state).finish_non_exhaustive()
+    }
+}

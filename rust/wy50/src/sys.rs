@@ -1,0 +1,136 @@
+//! What crosses to the library: the structs of include/wy50.h and its calls. All members are numbers, so every bit pattern is a value.
+
+use crate::{CELLS, COLUMNS};
+
+/// A function key, or the key text under way: the first `len` of `bytes`.
+#[repr(C)]
+#[derive(Clone, Copy, Debug, PartialEq, Eq)]
+pub struct Key {
+    pub len: u8,
+    pub bytes: [u8; 8],
+}
+
+/// `split` is the first row of segment 1, from 1, and 0 if there is none. A cursor is a cell of the page, from 0.
+#[repr(C)]
+#[derive(Clone, Copy, Debug, PartialEq, Eq)]
+pub struct Screen {
+    pub active: u8,
+    pub split: u8,
+    pub cursor0: u16,
+    pub cursor1: u16,
+}
+
+/// Each 0 or 1.
+#[repr(C)]
+#[derive(Clone, Copy, Debug, PartialEq, Eq)]
+pub struct Modes {
+    pub protect: u8,
+    pub write_protect: u8,
+    pub insert: u8,
+    pub autoscroll: u8,
+    pub locked: u8,
+    pub local_edit: u8,
+}
+
+/// The sequence under way: its kind (0: none) and its numbers, as the constants of wy50.h say.
+#[repr(C)]
+#[derive(Clone, Copy, Debug, PartialEq, Eq)]
+pub struct Sequence {
+    pub kind: u16,
+    pub first: u8,
+    pub second: u8,
+    pub third: u16,
+}
+
+/// All that a terminal remembers but its page. It may be filled in: a state that is not possible answers [`Answer::BadCall`].
+///
+/// [`Answer::BadCall`]: crate::Answer::BadCall
+#[repr(C)]
+#[derive(Clone, Copy, Debug, PartialEq, Eq)]
+pub struct State {
+    pub screen: Screen,
+    pub modes: Modes,
+    pub bells: u16,
+    pub sequence: Sequence,
+    pub gathered: Key,
+    pub tabs: [u8; COLUMNS],
+    pub attributes: [u8; 4],
+    pub features: [u8; 5],
+    pub keys: [Key; 32],
+}
+
+#[repr(C)]
+pub struct RawPowerOn {
+    pub answer: u8,
+    pub state: State,
+}
+
+#[repr(C)]
+pub struct RawStep {
+    pub answer: u8,
+    pub replied: usize,
+    pub state: State,
+}
+
+#[repr(C)]
+pub struct RawRun {
+    pub answer: u8,
+    pub taken: usize,
+    pub replied: usize,
+    pub refused: usize,
+    pub state: State,
+}
+
+#[repr(C)]
+pub struct RawPress {
+    pub answer: u8,
+    pub replied: usize,
+}
+
+mod linked {
+    use super::*;
+
+    // SAFETY: these are the calls of include/wy50.h, with its types. Those marked safe take and give numbers alone.
+    unsafe extern "C" {
+        pub fn wy50_power_on(page: *mut u16, page_len: usize) -> RawPowerOn;
+        pub fn wy50_step(page: *mut u16, page_len: usize, state: State, byte: u8, reply: *mut u8, reply_len: usize) -> RawStep;
+        pub fn wy50_run(
+            page: *mut u16,
+            page_len: usize,
+            state: State,
+            input: *const u8,
+            input_len: usize,
+            reply: *mut u8,
+            reply_len: usize,
+        ) -> RawRun;
+        pub fn wy50_press(page: *const u16, page_len: usize, state: State, key: u8, reply: *mut u8, reply_len: usize) -> RawPress;
+        pub safe fn wy50_cell_code(cell: u16) -> u8;
+        pub safe fn wy50_cell_protected(cell: u16) -> u8;
+        pub safe fn wy50_cell_kind(cell: u16) -> u8;
+        pub safe fn wy50_cell_sent(cell: u16) -> u8;
+    }
+}
+
+pub use linked::{
+    wy50_cell_code as cell_code, wy50_cell_kind as cell_kind, wy50_cell_protected as cell_protected, wy50_cell_sent as cell_sent,
+};
+
+pub fn power_on(page: &mut [u16; CELLS]) -> RawPowerOn {
+    // SAFETY: the pointer and the count are those of one slice that nothing else reads or writes meanwhile.
+    unsafe { linked::wy50_power_on(page.as_mut_ptr(), page.len()) }
+}
+
+pub fn step(page: &mut [u16; CELLS], state: State, byte: u8, reply: &mut [u8]) -> RawStep {
+    // SAFETY: as above, for each of two slices, which do not overlap since both are lent for writing.
+    unsafe { linked::wy50_step(page.as_mut_ptr(), page.len(), state, byte, reply.as_mut_ptr(), reply.len()) }
+}
+
+pub fn run(page: &mut [u16; CELLS], state: State, input: &[u8], reply: &mut [u8]) -> RawRun {
+    // SAFETY: as above; the input is only read, and overlaps neither of the slices that are lent for writing.
+    unsafe { linked::wy50_run(page.as_mut_ptr(), page.len(), state, input.as_ptr(), input.len(), reply.as_mut_ptr(), reply.len()) }
+}
+
+pub fn press(page: &[u16; CELLS], state: State, key: u8, reply: &mut [u8]) -> RawPress {
+    // SAFETY: as above; the page is only read.
+    unsafe { linked::wy50_press(page.as_ptr(), page.len(), state, key, reply.as_mut_ptr(), reply.len()) }
+}

@@ -1,0 +1,130 @@
+//! The wrapper against the rules: the bench list where it is short, the tail handed back, rows, cells, fields and answers.
+use wy50::{Answer, Kind, Replied, State, Terminal, CELLS, COLUMNS, LONGEST_REPLY, ROWS};
+
+/// Feeds all of it; the reply of all of it.
+fn fed(terminal: &mut Terminal, bytes: &[u8]) -> Vec<u8> {
+    let mut reply = [0; LONGEST_REPLY];
+    let fed = terminal.feed(bytes, &mut reply);
+    assert_eq!((fed.answer, fed.taken, fed.rest), (Answer::Done, bytes.len(), &b""[..]));
+    reply[..fed.replied].to_vec()
+}
+
+#[test]
+fn sizes() {
+    assert_eq!(std::mem::size_of::<State>(), 406);
+    assert_eq!(CELLS, ROWS * COLUMNS);
+}
+
+#[test]
+fn power_on() {
+    let t = Terminal::new();
+    assert!(t.cells().all(|c| c.0 == 0));
+    assert_eq!(t.cursor(), 0);
+    assert_eq!((t.state().modes.autoscroll, t.state().modes.protect), (1, 0));
+    assert_eq!(&t.state().features, b"1579@");
+}
+
+#[test]
+fn bench_1_and_4() {
+    let mut t = Terminal::new();
+    assert_eq!(fed(&mut t, b"AB\x1b?"), b"\x20\x22\r");
+    assert_eq!(fed(&mut t, b"\x1ba24R80C\x1bb"), b"24R080C");
+}
+
+#[test]
+fn bench_5() {
+    let mut t = Terminal::new();
+    fed(&mut t, b"\x1b)No\x1b(\x1b&");
+    assert_eq!(t.page()[..2], [206, 239]);
+    fed(&mut t, b"\r");
+    assert_eq!(t.cursor(), 2);
+    assert_eq!(fed(&mut t, b"\x08x\x1b4"), b"x \r");
+}
+
+#[test]
+fn bench_8() {
+    let mut t = Terminal::new();
+    let mut reply = [0; 8];
+    fed(&mut t, b"\x1bz@hi\x7f");
+    assert_eq!(t.press(0x40, &mut reply), Replied { answer: Answer::Done, replied: 2 });
+    assert_eq!(&reply[..2], b"hi");
+    assert_eq!(t.press(0x41, &mut reply), Replied { answer: Answer::Done, replied: 3 });
+    assert_eq!(&reply[..3], b"\x01\x41\r");
+    assert_eq!(t.press(0x50, &mut reply).answer, Answer::BadArgument);
+    assert_eq!(t.press(0x40, &mut reply[..1]).answer, Answer::NoRoom);
+    fed(&mut t, b"\x0f");
+    assert_eq!(t.press(0x40, &mut reply).answer, Answer::Locked);
+}
+
+#[test]
+fn bench_12_by_the_tail() {
+    let mut t = Terminal::new();
+    let mut room = [0; 1943];
+    let input = b"\x1b=\x37\x6f\x1b7!";
+    let stopped = t.feed(input, &mut room);
+    assert_eq!((stopped.answer, stopped.taken, stopped.replied, stopped.rest), (Answer::NoRoom, 5, 0, &b"7!"[..]));
+    let mut room = [0; LONGEST_REPLY];
+    let rest = t.feed(stopped.rest, &mut room);
+    assert_eq!((rest.answer, rest.taken, rest.replied, rest.rest), (Answer::Done, 2, 1944, &b""[..]));
+}
+
+#[test]
+fn refusals_are_counted() {
+    let mut t = Terminal::new();
+    let fed = t.feed(b"\x1b\xe9=  \x1b\x01\x1b=\x38 ", &mut []);
+    assert_eq!((fed.answer, fed.refused, fed.rest.len()), (Answer::Done, 3, 0));
+    assert_eq!(t.step(0xe9, &mut []).answer, Answer::HighByte);
+    let _ = t.step(0x1b, &mut []);
+    assert_eq!(t.step(0x01, &mut []).answer, Answer::Unknown);
+}
+
+#[test]
+fn an_impossible_state_answers_7() {
+    let t = Terminal::new();
+    let mut state = *t.state();
+    state.tabs[9] = 2;
+    let mut bad = Terminal::from_parts([7; CELLS], state);
+    let before = bad.clone();
+    let fed = bad.feed(b"AB", &mut []);
+    assert_eq!((fed.answer, fed.taken, fed.rest), (Answer::BadCall, 0, &b"AB"[..]));
+    assert_eq!(bad.step(b'A', &mut []).answer, Answer::BadCall);
+    assert_eq!(bad.press(0x40, &mut []).answer, Answer::BadCall);
+    assert!(bad == before);
+}
+
+#[test]
+fn rows_and_cells() {
+    let mut t = Terminal::new();
+    fed(&mut t, b"Roast\x1fDate\x1bG4\x1bH2");
+    let rows: Vec<String> = t.rows().map(|r| r.to_string()).collect();
+    assert_eq!((rows.len(), rows[0].trim_end(), rows[1].trim_end()), (ROWS, "Roast", "Date"));
+    assert!(rows.iter().all(|r| r.len() == COLUMNS));
+    let second: Vec<_> = t.rows().nth(1).unwrap().cells().take(6).map(|c| (c.kind(), c.code(), c.is_protected())).collect();
+    assert_eq!(second[3..], [(Kind::Text, b'e', false), (Kind::Attribute, b'4', false), (Kind::Graphic, b'2', false)]);
+    assert_eq!(t.to_string().lines().count(), ROWS);
+}
+
+/// A form with two open fields, the second one across a row's end.
+#[test]
+fn fields() {
+    let mut t = Terminal::new();
+    fed(&mut t, b"\x1b,\x1b(\x1b= \x25dark \x1b= \x6eA\x1b=! B\x1b&");
+    let fields: Vec<_> = t.fields().map(|f| (f.start(), f.to_string())).collect();
+    assert_eq!(fields, [(5, "dark ".to_string()), (78, "A".to_string()), (80, "B".to_string())]);
+    fed(&mut t, b"\x1b'\x1b=! \x1b= \x6fC\x1b&");
+    let fields: Vec<_> = t.fields().map(|f| (f.start(), f.to_string())).collect();
+    assert_eq!(fields, [(5, "dark ".to_string()), (78, "ACB".to_string())]);
+    fed(&mut t, b"\x1bx1\x21");
+    let fields: Vec<_> = t.fields().map(|f| (f.start(), f.to_string())).collect();
+    assert_eq!(fields, [(5, "dark ".to_string()), (78, "AC".to_string()), (80, "B".to_string())]);
+    fed(&mut t, b"\x1b'");
+    assert_eq!(t.fields().map(|f| f.cells().len()).collect::<Vec<_>>(), [80, 1840]);
+    fed(&mut t, b"\x1bx0");
+    assert_eq!(t.fields().map(|f| f.cells().len()).collect::<Vec<_>>(), [CELLS]);
+}
+
+#[test]
+fn answers() {
+    assert_eq!((Answer::Done.number(), Answer::Locked.number()), (0, 8));
+    assert_eq!(Answer::NoRoom.to_string(), "the reply does not fit");
+}

@@ -1,0 +1,398 @@
+/* Checks the C face: that header and library agree on every member, cases 1 to 12 of the bench list, and that numbers which are no possible
+ * state are answered 7 and given back as they came. Compiles as C99 and as C++. Prints one line for each part, and fails by its status. */
+#include "wy50.h"
+
+#include <stdio.h>
+#include <string.h>
+
+static uint16_t page[WY50_CELLS];
+static uint8_t reply[WY50_LONGEST_REPLY];
+static wy50_state state;
+static int failures, part_failures;
+
+#define CHECK(test) check((test) != 0, #test, __LINE__)
+
+static void check(int ok, const char *text, int line)
+{
+    if (!ok) {
+        printf("face.c:%d: not so: %s\n", line, text);
+        part_failures++;
+    }
+}
+
+static void part(const char *name)
+{
+    printf("%s %s\n", part_failures ? "FAILED" : "passed", name);
+    failures += part_failures != 0;
+    part_failures = 0;
+}
+
+static void power_on(void)
+{
+    wy50_power_on_result r = wy50_power_on(page, WY50_CELLS);
+    CHECK(r.answer == WY50_DONE);
+    state = r.state;
+}
+
+/* Host bytes, one at a time; the answer of the last, and the reply of the last. */
+static size_t replied;
+static int feed(const char *bytes, size_t n)
+{
+    size_t i;
+    int answer = -1;
+    for (i = 0; i < n; i++) {
+        wy50_step_result r = wy50_step(page, WY50_CELLS, state, (uint8_t)bytes[i], reply, sizeof reply);
+        state = r.state;
+        replied = r.replied;
+        answer = r.answer;
+    }
+    return answer;
+}
+#define FEED(s) feed(s, sizeof(s) - 1)
+
+static int replies(const char *bytes, size_t n)
+{
+    return replied == n && memcmp(reply, bytes, n) == 0;
+}
+#define REPLIES(s) replies(s, sizeof(s) - 1)
+
+static int same(const wy50_state *a, const wy50_state *b)
+{
+    return memcmp(a, b, sizeof *a) == 0;
+}
+
+/* What the header says of the layout: no padding, so the sizes of the members add up. */
+static void layout(void)
+{
+    CHECK(sizeof(wy50_key) == 9);
+    CHECK(sizeof(wy50_screen) == 6);
+    CHECK(sizeof(wy50_modes) == 6);
+    CHECK(sizeof(wy50_sequence) == 6);
+    CHECK(sizeof(wy50_state) == 406);
+    CHECK(offsetof(wy50_state, modes) == 6);
+    CHECK(offsetof(wy50_state, bells) == 12);
+    CHECK(offsetof(wy50_state, sequence) == 14);
+    CHECK(offsetof(wy50_state, gathered) == 20);
+    CHECK(offsetof(wy50_state, tabs) == 29);
+    CHECK(offsetof(wy50_state, attributes) == 109);
+    CHECK(offsetof(wy50_state, features) == 113);
+    CHECK(offsetof(wy50_state, keys) == 118);
+    CHECK(sizeof(wy50_power_on_result) == 408);
+    CHECK(sizeof(wy50_step_result) == 424);
+    CHECK(sizeof(wy50_run_result) == 440);
+    CHECK(sizeof(wy50_press_result) == 16);
+    part("sizes and offsets");
+}
+
+/* Bytes from power-on, and the one change that they make to the state: written once by the library and once here. */
+static wy50_state expected;
+#define EXPECT(bytes, change)                                                  \
+    do {                                                                       \
+        power_on();                                                            \
+        expected = state;                                                      \
+        change;                                                                \
+        FEED(bytes);                                                           \
+        CHECK(same(&state, &expected));                                        \
+        CHECK(feed("\xe9", 1) == WY50_HIGH_BYTE && same(&state, &expected));   \
+    } while (0)
+
+static void sequence_is(uint16_t kind, uint8_t first, uint8_t second, uint16_t third)
+{
+    expected.sequence.kind = kind;
+    expected.sequence.first = first;
+    expected.sequence.second = second;
+    expected.sequence.third = third;
+}
+
+static void set_key(wy50_key *k, const char *text)
+{
+    memset(k, 0, sizeof *k);
+    k->len = (uint8_t)strlen(text);
+    memcpy(k->bytes, text, k->len);
+}
+
+static void members(void)
+{
+    EXPECT("AB", expected.screen.cursor0 = 2);
+    EXPECT("\033x1\x2c", (expected.screen.split = 13, expected.screen.cursor1 = 960));
+    EXPECT("\033x1\x2c\033}Z", (expected.screen.split = 13, expected.screen.cursor1 = 961, expected.screen.active = 1));
+    EXPECT("\033&", expected.modes.protect = 1);
+    EXPECT("\033)", expected.modes.write_protect = 1);
+    EXPECT("\033q", expected.modes.insert = 1);
+    EXPECT("\033N", expected.modes.autoscroll = 0);
+    EXPECT("\033#", expected.modes.locked = 1);
+    EXPECT("\033k", expected.modes.local_edit = 1);
+    EXPECT("\007\007\007", expected.bells = 3);
+    EXPECT("\033= \x25\0331", (expected.screen.cursor0 = 5, expected.tabs[5] = 1));
+    EXPECT("\033= \x6f\0331", (expected.screen.cursor0 = 79, expected.tabs[79] = 1));
+    EXPECT("\033A2\x34", expected.attributes[2] = 0x34);
+    EXPECT("\033`0", expected.features[WY50_CURSOR_SHOWN] = '0');
+    EXPECT("\033`3", expected.features[WY50_CURSOR_STYLE] = '3');
+    EXPECT("\033`A", expected.features[WY50_PROTECTED_LOOK] = 'A');
+    EXPECT("\033`8", expected.features[WY50_SCREEN_SHOWN] = '8');
+    EXPECT("\033`<", expected.features[WY50_SCROLLING] = '<');
+    EXPECT("\033z@first\177", set_key(&expected.keys[0], "first"));
+    EXPECT("\033zonine byte\177", (void)0);
+    EXPECT("\033zoeightlng\177", set_key(&expected.keys[31], "eightlng"));
+    part("each member of the state, by the command that sets it");
+
+    EXPECT("\033", sequence_is(WY50_ESCAPE, 0, 0, 0));
+    EXPECT("\033=", sequence_is(WY50_ADDRESS, 0, 0, 0));
+    EXPECT("\033=\x21", sequence_is(WY50_ADDRESS_ROW, 0x21, 0, 0));
+    EXPECT("\033-", sequence_is(WY50_SEGMENT, 0, 0, 0));
+    EXPECT("\033-\x30", sequence_is(WY50_SEGMENT_NUMBER, 0x30, 0, 0));
+    EXPECT("\033-\x30\x22", sequence_is(WY50_SEGMENT_ROW, 0x30, 0x22, 0));
+    EXPECT("\033a12", sequence_is(WY50_DECIMAL_ROW, 2, 12, 0));
+    EXPECT("\033a7R345", sequence_is(WY50_DECIMAL_COLUMN, 7, 3, 345));
+    EXPECT("\033x", sequence_is(WY50_SPLIT, 0, 0, 0));
+    EXPECT("\033x1", sequence_is(WY50_SPLIT_ROW, 0, 0, 0));
+    EXPECT("\033G", sequence_is(WY50_SET_ATTRIBUTE, 0, 0, 0));
+    EXPECT("\033H", sequence_is(WY50_SET_GRAPHIC, 0, 0, 0));
+    EXPECT("\033!", sequence_is(WY50_FILL_ATTRIBUTE, 0, 0, 0));
+    EXPECT("\033.", sequence_is(WY50_FILL_CODE, 0, 0, 0));
+    EXPECT("\033`", sequence_is(WY50_SET_FEATURE, 0, 0, 0));
+    EXPECT("\033A", sequence_is(WY50_FIELD_ATTRIBUTE, 0, 0, 0));
+    EXPECT("\033A1", sequence_is(WY50_FIELD_NUMBER, '1', 0, 0));
+    EXPECT("\033z", sequence_is(WY50_KEY_VALUE, 0, 0, 0));
+    EXPECT("\033zAtext", (sequence_is(WY50_KEY_TEXT, 'A', 0, 0), set_key(&expected.gathered, "text")));
+    EXPECT("\033zA123456789", sequence_is(WY50_KEY_OVER, 'A', 0, 0));
+    part("each sequence under way, with its numbers");
+}
+
+/* A state filled in by hand, every member with a number of its own, goes through a call that changes nothing. */
+static void round_trip(void)
+{
+    wy50_step_result r;
+    size_t i;
+    power_on();
+    state.screen.active = 1;
+    state.screen.split = 7;
+    state.screen.cursor0 = 321;
+    state.screen.cursor1 = 1357;
+    state.modes.protect = 1;
+    state.modes.insert = 1;
+    state.modes.local_edit = 1;
+    state.bells = 213;
+    state.sequence.kind = WY50_DECIMAL_COLUMN;
+    state.sequence.first = 17;
+    state.sequence.second = 3;
+    state.sequence.third = 789;
+    set_key(&state.gathered, "gathered");
+    for (i = 0; i < WY50_COLUMNS; i++)
+        state.tabs[i] = (uint8_t)(i % 3 == 1);
+    for (i = 0; i < 4; i++)
+        state.attributes[i] = (uint8_t)(0x31 + 2 * i);
+    memcpy(state.features, "04A8>", 5);
+    for (i = 0; i < WY50_KEYS; i++) {
+        state.keys[i].len = (uint8_t)(i % 9);
+        memset(state.keys[i].bytes, (int)(0x21 + i), WY50_KEY_BYTES);
+    }
+    r = wy50_step(page, WY50_CELLS, state, 0xe9, reply, sizeof reply);
+    CHECK(r.answer == WY50_HIGH_BYTE && r.replied == 0 && same(&r.state, &state));
+    r = wy50_step(page, WY50_CELLS, state, 0xff, reply, 0);
+    CHECK(r.answer == WY50_HIGH_BYTE && same(&r.state, &state));
+    for (i = 0; i < WY50_KEYS; i++) {
+        uint8_t key = (uint8_t)(i < 16 ? 0x40 + i : 0x50 + i);
+        wy50_press_result k = wy50_press(page, WY50_CELLS, state, key, reply, sizeof reply);
+        CHECK(k.answer == WY50_DONE && k.replied == (i % 9 ? i % 9 : 3));
+        CHECK(i % 9 ? reply[k.replied - 1] == 0x21 + i : reply[0] == 1 && reply[1] == key && reply[2] == 13);
+    }
+    part("a state filled in by hand comes back the same");
+}
+
+static void bench(void)
+{
+    size_t i;
+    char number[8];
+    wy50_press_result k;
+    wy50_run_result r;
+    wy50_step_result t;
+
+    power_on();
+    CHECK(FEED("AB\033?") == 0 && REPLIES("\x20\x22\x0d"));
+    part("bench 1");
+
+    power_on();
+    CHECK(FEED("\033=\x37\x6fX") == 0 && page[1839] == 'X' && state.screen.cursor0 == 1840);
+    part("bench 2");
+
+    power_on();
+    CHECK(FEED("\033=\x38\x20") == WY50_BAD_ARGUMENT);
+    CHECK(FEED("\033=\x20\x70") == WY50_BAD_ARGUMENT && state.screen.cursor0 == 0);
+    part("bench 3");
+
+    power_on();
+    CHECK(FEED("\033a24R80C\033b") == 0 && REPLIES("24R080C"));
+    part("bench 4");
+
+    power_on();
+    CHECK(FEED("\033)No\033(\033&") == 0 && page[0] == 206 && page[1] == 239);
+    CHECK(FEED("\r") == 0 && state.screen.cursor0 == 2);
+    CHECK(FEED("\b") == 0 && state.screen.cursor0 == 2);
+    CHECK(FEED("x\0334") == 0 && REPLIES("\x78\x20\x0d"));
+    part("bench 5");
+
+    power_on();
+    CHECK(FEED("\033)Hi\033(\033&") == 0 && page[0] == 'H' + 128);
+    CHECK(FEED("\r\bx\0334") == 0 && REPLIES("\x78\x20\x0d"));
+    part("bench 6");
+
+    power_on();
+    CHECK(FEED("\033,\033&A") == WY50_BARRED && state.screen.cursor0 == 0);
+    part("bench 7");
+
+    power_on();
+    CHECK(FEED("\033z@hi\177") == 0);
+    k = wy50_press(page, WY50_CELLS, state, 0x40, reply, sizeof reply);
+    replied = k.replied;
+    CHECK(k.answer == 0 && REPLIES("hi"));
+    k = wy50_press(page, WY50_CELLS, state, 0x41, reply, sizeof reply);
+    replied = k.replied;
+    CHECK(k.answer == 0 && REPLIES("\x01\x41\x0d"));
+    part("bench 8");
+
+    power_on();
+    r = wy50_run(page, WY50_CELLS, state, (const uint8_t *)"Z\033\xe9=  ", 6, reply, sizeof reply);
+    CHECK(r.answer == 0 && r.taken == 6 && r.refused == 1 && r.state.screen.cursor0 == 0);
+    part("bench 9");
+
+    power_on();
+    CHECK(FEED("\033x1\x2c\033}\033/") == 0 && REPLIES("\x31\x20\x20\x0d"));
+    CHECK(FEED("\033=\x2c\x20") == WY50_BAD_ARGUMENT);
+    part("bench 10");
+
+    power_on();
+    CHECK(FEED("A\037B\0337") == 0 && replied == 84);
+    CHECK(reply[0] == 'A' && reply[80] == 0x1f && memcmp(reply + 81, "B \r", 3) == 0);
+    for (i = 1; i < 80; i++)
+        CHECK(reply[i] == ' ');
+    part("bench 11");
+
+    power_on();
+    CHECK(FEED("\033=\x37\x6f\033") == 0);
+    expected = state;
+    t = wy50_step(page, WY50_CELLS, state, '7', reply, 1943);
+    CHECK(t.answer == WY50_NO_ROOM && t.replied == 0 && same(&t.state, &expected) && t.state.sequence.kind == WY50_ESCAPE);
+    CHECK(FEED("7") == 0 && replied == 1944 && reply[1943] == 0x0d);
+    part("bench 12");
+
+    /* the run stops before the byte that has no room, and goes on from there */
+    power_on();
+    r = wy50_run(page, WY50_CELLS, state, (const uint8_t *)"\005\005\033?A", 5, reply, 2);
+    CHECK(r.answer == WY50_NO_ROOM && r.taken == 3 && r.replied == 2 && r.refused == 0 && memcmp(reply, "\6\6", 2) == 0);
+    r = wy50_run(page, WY50_CELLS, r.state, (const uint8_t *)"?A", 2, reply, 3);
+    CHECK(r.answer == 0 && r.taken == 2 && r.replied == 3 && page[0] == 'A');
+    part("a run goes on where it stopped");
+
+    for (i = 0; i < 65536; i++) {
+        uint16_t v = (uint16_t)i;
+        int text = v / 256 == 0 && v % 128 >= 0x20 && v % 128 <= 0x7e;
+        if (wy50_cell_code(v) != v % 128 || wy50_cell_protected(v) != v / 128 % 2 || wy50_cell_kind(v) != v / 256
+            || wy50_cell_sent(v) != (text ? v % 128 : 0x20)) {
+            snprintf(number, sizeof number, "%u", (unsigned)v);
+            check(0, number, __LINE__);
+        }
+    }
+    part("the readers of a cell, for every number");
+}
+
+/* A state that is not possible, or a page of another length: 7 from every call, and nothing is changed. */
+static void refused(const wy50_state *x, size_t page_len)
+{
+    static const uint8_t input[] = "A\005\033?";
+    uint16_t before[WY50_CELLS];
+    size_t i;
+    wy50_step_result s;
+    wy50_run_result r;
+    wy50_press_result k;
+    for (i = 0; i < WY50_CELLS; i++)
+        before[i] = page[i] = (uint16_t)(i * 37);
+    memset(reply, 0x55, sizeof reply);
+    s = wy50_step(page, page_len, *x, 5, reply, sizeof reply);
+    CHECK(s.answer == WY50_BAD_CALL && s.replied == 0 && same(&s.state, x));
+    r = wy50_run(page, page_len, *x, input, 4, reply, sizeof reply);
+    CHECK(r.answer == WY50_BAD_CALL && r.taken == 0 && r.replied == 0 && r.refused == 0 && same(&r.state, x));
+    k = wy50_press(page, page_len, *x, 0x40, reply, sizeof reply);
+    CHECK(k.answer == WY50_BAD_CALL && k.replied == 0);
+    CHECK(memcmp(page, before, sizeof page) == 0);
+    for (i = 0; i < sizeof reply; i++)
+        CHECK(reply[i] == 0x55);
+}
+#define REFUSED(change)                  \
+    do {                                 \
+        power_on();                      \
+        change;                          \
+        refused(&state, WY50_CELLS);     \
+    } while (0)
+
+static void impossible(void)
+{
+    static const uint8_t bare[] = {0, 1, 2, 4, 9, 10, 11, 12, 13, 14, 15, 16, 18};
+    static const uint8_t one[] = {3, 5, 17, 19, 20};
+    size_t i;
+    power_on();
+    refused(&state, WY50_CELLS - 1);
+    refused(&state, 0);
+    REFUSED(state.modes.protect = 2);
+    REFUSED(state.modes.write_protect = 2);
+    REFUSED(state.modes.insert = 2);
+    REFUSED(state.modes.autoscroll = 255);
+    REFUSED(state.modes.locked = 2);
+    REFUSED(state.modes.local_edit = 128);
+    for (i = 0; i < WY50_COLUMNS; i++)
+        REFUSED(state.tabs[i] = (uint8_t)(2 + i));
+    REFUSED(state.bells = 256);
+    REFUSED(state.sequence.kind = 21);
+    REFUSED(state.sequence.kind = 256);
+    REFUSED(state.sequence.kind = 0xffff);
+    for (i = 0; i < sizeof bare; i++) {
+        REFUSED((state.sequence.kind = bare[i], state.sequence.first = 1));
+        REFUSED((state.sequence.kind = bare[i], state.sequence.second = 1));
+        REFUSED((state.sequence.kind = bare[i], state.sequence.third = 256));
+    }
+    for (i = 0; i < sizeof one; i++) {
+        REFUSED((state.sequence.kind = one[i], state.sequence.first = 0x41, state.sequence.second = 1));
+        REFUSED((state.sequence.kind = one[i], state.sequence.first = 0x41, state.sequence.third = 1));
+        REFUSED((state.sequence.kind = one[i], state.sequence.first = 0x80));
+    }
+    REFUSED((state.sequence.kind = WY50_SEGMENT_ROW, state.sequence.third = 1));
+    REFUSED((state.sequence.kind = WY50_DECIMAL_ROW, state.sequence.third = 1));
+    REFUSED((state.sequence.kind = WY50_DECIMAL_ROW, state.sequence.first = 1, state.sequence.second = 10));
+    REFUSED((state.sequence.kind = WY50_DECIMAL_COLUMN, state.sequence.second = 4));
+    REFUSED((state.sequence.kind = WY50_KEY_TEXT, state.sequence.first = 'A', state.gathered.len = 9));
+    part("numbers that name no state: 7, and given back as they came");
+
+    REFUSED(state.screen.active = 1);
+    REFUSED(state.screen.split = 1);
+    REFUSED((state.screen.split = 25, state.screen.cursor1 = 1919));
+    REFUSED(state.screen.cursor0 = 1920);
+    REFUSED(state.screen.cursor1 = 0xffff);
+    REFUSED((state.screen.split = 2, state.screen.cursor1 = 79));
+    REFUSED(state.attributes[3] = 0x2f);
+    REFUSED(state.features[0] = '2');
+    REFUSED(state.keys[31].len = 9);
+    REFUSED((state.keys[7].len = 8, state.keys[7].bytes[7] = 0x7f));
+    memset(&state, 0, sizeof state);
+    refused(&state, WY50_CELLS);
+    memset(&state, 0xff, sizeof state);
+    refused(&state, WY50_CELLS);
+    part("states that are not possible: 7, and given back as they came");
+
+    power_on();
+    memset(state.keys[3].bytes, 0xff, sizeof state.keys[3].bytes);
+    memset(&state.gathered, 0xff, sizeof state.gathered);
+    CHECK(FEED("A") == 0 && state.keys[3].bytes[0] == 0xff);
+    part("bytes beyond a key's text are not looked at");
+}
+
+int main(void)
+{
+    layout();
+    members();
+    round_trip();
+    bench();
+    impossible();
+    if (failures)
+        printf("%d parts FAILED\n", failures);
+    return failures != 0;
+}

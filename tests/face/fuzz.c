@@ -1,0 +1,275 @@
+/* Calls the library with random pages, states, bytes and rooms, and checks what holds of every call. Compiled with the address and undefined
+ * behaviour sanitizers. Each buffer lies against a page of memory that may not be touched, before it or behind it by turns, and has guard
+ * bytes on its other side.
+ *
+ *     fuzz SECONDS [SEED]
+ */
+#define _GNU_SOURCE
+#include "wy50.h"
+
+#include <stdio.h>
+#include <stdlib.h>
+#include <string.h>
+#include <sys/mman.h>
+#include <time.h>
+#include <unistd.h>
+
+enum { MOST_ROOM = 2000, MOST_INPUT = 600, MOST_PAGE = 2100, GUARD = 64 };
+
+static uint64_t seed, calls, bytes, turns, answered_7, replies;
+
+static uint64_t next(void)
+{
+    static uint64_t s;
+    if (s == 0)
+        s = seed | 1;
+    s ^= s << 13;
+    s ^= s >> 7;
+    s ^= s << 17;
+    return s * 0x2545f4914f6cdd1dULL >> 11;
+}
+
+static size_t below(size_t n)
+{
+    return (size_t)(next() % n);
+}
+
+static void expect(int ok, const char *what)
+{
+    if (!ok) {
+        printf("fuzz: not so: %s (seed %llu, turn %llu)\n", what, (unsigned long long)seed, (unsigned long long)turns);
+        exit(1);
+    }
+}
+
+/* A buffer between two pages of memory that may not be touched. */
+typedef struct buffer {
+    uint8_t *memory, *start;
+    size_t space, size;
+    int at_end;
+} buffer;
+
+static size_t step_of_memory;
+
+static buffer make(size_t most)
+{
+    buffer b;
+    memset(&b, 0, sizeof b);
+    b.space = (most + GUARD + step_of_memory - 1) / step_of_memory * step_of_memory;
+    b.memory = (uint8_t *)mmap(NULL, b.space + 2 * step_of_memory, PROT_READ | PROT_WRITE, MAP_PRIVATE | MAP_ANONYMOUS, -1, 0);
+    expect(b.memory != (uint8_t *)MAP_FAILED, "memory is there");
+    expect(mprotect(b.memory, step_of_memory, PROT_NONE) == 0, "the page before is barred");
+    expect(mprotect(b.memory + step_of_memory + b.space, step_of_memory, PROT_NONE) == 0, "the page behind is barred");
+    return b;
+}
+
+static void *place(buffer *b, size_t size)
+{
+    uint8_t *first = b->memory + step_of_memory;
+    b->at_end = (int)below(2);
+    b->size = size;
+    b->start = b->at_end ? first + b->space - size : first;
+    memset(b->at_end ? b->start - GUARD : b->start + size, 0xa5, GUARD);
+    return b->start;
+}
+
+static void untouched(const buffer *b)
+{
+    const uint8_t *guard = b->at_end ? b->start - GUARD : b->start + b->size;
+    size_t i;
+    for (i = 0; i < GUARD; i++)
+        expect(guard[i] == 0xa5, "the guard bytes are untouched");
+}
+
+/* Bytes of a host: text, controls, whole sequences, and anything. */
+static size_t host(uint8_t *to, size_t most)
+{
+    static const char after[] = " !\"#&'()*+,-./01245674:;=?AEGHIJKMNOQRTVWY]`abijklqrtxyz{}";
+    static const char *const whole[] = {"\033=5A", "\033-15A", "\033-0! ", "\033a12R34C", "\033a24R80C", "\033x1,", "\033x0", "\033G4", "\033H5", "\033!s",
+        "\033.x", "\033`0", "\033A1t", "\033z@key\177", "\033zoeightlng\177", "\033zA123456789\177", "\033&", "\033)", "\033(", "\033'", "\0335", "\0337", "\033,", "\033V"};
+    size_t n = below(most + 1), i = 0;
+    while (i < n) {
+        size_t k = below(8);
+        if (k < 3) {
+            to[i++] = (uint8_t)(0x20 + below(95));
+        } else if (k < 4) {
+            to[i++] = (uint8_t)below(0x20);
+        } else if (k < 5) {
+            to[i++] = (uint8_t)next();
+        } else if (k < 6) {
+            to[i++] = 27;
+            if (i < n)
+                to[i++] = (uint8_t)after[below(sizeof after - 1)];
+        } else {
+            const char *s = whole[below(sizeof whole / sizeof *whole)];
+            while (*s && i < n)
+                to[i++] = (uint8_t)*s++;
+        }
+    }
+    return n;
+}
+
+/* The state that the last calls left, one with a member or a byte changed, or any bytes. */
+static wy50_state any_state(wy50_state last)
+{
+    uint8_t raw[sizeof(wy50_state)];
+    size_t i, k = below(16);
+    if (k < 9)
+        return last;
+    memcpy(raw, &last, sizeof raw);
+    if (k < 12) {
+        raw[below(sizeof raw)] = (uint8_t)next();
+    } else if (k < 14) {
+        for (i = 0; i <= below(4); i++)
+            raw[below(29)] = (uint8_t)below(32);
+    } else {
+        for (i = 0; i < sizeof raw; i++)
+            raw[i] = (uint8_t)next();
+    }
+    memcpy(&last, raw, sizeof raw);
+    return last;
+}
+
+static buffer page_buffer, reply_buffer, input_buffer;
+static uint16_t page_before[MOST_PAGE], page_stepped[MOST_PAGE];
+static uint8_t room_before[MOST_ROOM], joined[MOST_ROOM];
+
+/* Nothing but the first `replied` bytes of the room is new. */
+static void beyond(const uint8_t *reply, size_t room, size_t replied)
+{
+    replies += replied;
+    expect(replied <= room, "the reply fits");
+    expect(memcmp(reply + replied, room_before + replied, room - replied) == 0, "the room beyond the reply is untouched");
+}
+
+static int same(const wy50_state *a, const wy50_state *b)
+{
+    return memcmp(a, b, sizeof *a) == 0;
+}
+
+/* The run against the single step repeated, on a page and a room of their own. */
+static void repeated(size_t cells, wy50_state x, const uint8_t *input, size_t n, size_t room, const wy50_run_result *r, const uint16_t *page, const uint8_t *reply)
+{
+    size_t taken = 0, replied = 0, refused = 0;
+    int answer = 0;
+    memcpy(page_stepped, page_before, cells * sizeof *page);
+    while (taken < n) {
+        wy50_step_result s = wy50_step(page_stepped, cells, x, input[taken], joined + replied, room - replied);
+        answer = s.answer;
+        if (answer == WY50_NO_ROOM || answer == WY50_BAD_CALL)
+            break;
+        answer = 0;
+        refused += s.answer >= 1 && s.answer <= 5;
+        replied += s.replied;
+        x = s.state;
+        taken++;
+    }
+    expect(r->answer == answer || (n == 0 && r->answer == WY50_BAD_CALL), "a run answers as the steps do");
+    expect(r->taken == taken && r->replied == replied && r->refused == refused, "a run counts as the steps do");
+    expect(memcmp(reply, joined, replied) == 0, "a run replies as the steps do");
+    expect(same(&r->state, &x), "a run leaves the state of the steps");
+    expect(memcmp(page, page_stepped, cells * sizeof *page) == 0, "a run leaves the page of the steps");
+    calls += taken;
+}
+
+static wy50_state turn(wy50_state last, uint16_t *kept)
+{
+    size_t i, cells = below(20) ? WY50_CELLS : below(MOST_PAGE + 1);
+    size_t room = below(3) ? below(MOST_ROOM + 1) : below(12);
+    uint16_t *page = (uint16_t *)place(&page_buffer, cells * sizeof *page);
+    uint8_t *reply = (uint8_t *)place(&reply_buffer, room);
+    wy50_state x = any_state(last);
+    size_t n;
+    uint8_t *input;
+
+    for (i = 0; i < cells; i++)
+        page[i] = i < WY50_CELLS ? kept[i] : (uint16_t)next();
+    if (below(8) == 0) {
+        for (i = 0; i < cells; i++)
+            page[i] = (uint16_t)(below(4) ? next() : 32 + 128 * below(2));
+    }
+    for (i = 0; i < room; i++)
+        reply[i] = (uint8_t)next();
+    memcpy(page_before, page, cells * sizeof *page);
+    memcpy(room_before, reply, room);
+
+    switch (below(4)) {
+    case 0: {
+        uint8_t b = (uint8_t)(below(4) ? below(128) : next());
+        wy50_step_result r = wy50_step(page, cells, x, b, reply, room);
+        bytes++;
+        beyond(reply, room, r.replied);
+        expect(r.answer <= 7, "a step answers 0 to 7");
+        expect(r.answer == 0 || (r.replied == 0 && memcmp(page, page_before, cells * sizeof *page) == 0), "a refusal replies and writes nothing");
+        expect((r.answer != 1 && r.answer < 6) || same(&r.state, &x), "1, 6 and 7 leave the state");
+        answered_7 += r.answer == 7;
+        last = r.answer == 7 ? last : r.state;
+        break;
+    }
+    case 1: {
+        uint8_t key = (uint8_t)(below(4) ? 0x40 + below(64) : next());
+        wy50_press_result r = wy50_press(page, cells, x, key, reply, room);
+        beyond(reply, room, r.replied);
+        expect(r.answer == 0 || r.answer == 3 || r.answer == 6 || r.answer == 7 || r.answer == 8, "a press answers 0, 3, 6, 7 or 8");
+        expect(r.answer == 0 || r.replied == 0, "a refused press replies nothing");
+        expect(memcmp(page, page_before, cells * sizeof *page) == 0, "a press leaves the page");
+        answered_7 += r.answer == 7;
+        break;
+    }
+    default: {
+        uint8_t text[MOST_INPUT];
+        wy50_run_result r;
+        n = host(text, MOST_INPUT);
+        input = (uint8_t *)place(&input_buffer, n);
+        memcpy(input, text, n);
+        r = wy50_run(page, cells, x, input, n, reply, room);
+        bytes += r.taken;
+        beyond(reply, room, r.replied);
+        expect(r.answer == 0 || r.answer == 6 || r.answer == 7, "a run answers 0, 6 or 7");
+        expect(r.taken <= n && r.refused <= r.taken, "a run counts what there is");
+        expect(r.answer != 0 || r.taken == n, "a run that answers 0 took all");
+        expect(r.answer != 6 || r.taken < n, "a run that answers 6 left some");
+        expect(r.answer != 6 || room - r.replied < WY50_LONGEST_REPLY, "1,944 bytes of room are enough");
+        expect(r.answer != 7 || (r.taken == 0 && r.replied == 0 && r.refused == 0 && same(&r.state, &x)), "7 gives zeros and the state as it came");
+        expect(memcmp(input, text, n) == 0, "the input is not written");
+        untouched(&input_buffer);
+        repeated(cells, x, input, n, room, &r, page, reply);
+        answered_7 += r.answer == 7;
+        last = r.answer == 7 ? last : r.state;
+        break;
+    }
+    }
+    untouched(&page_buffer);
+    untouched(&reply_buffer);
+    calls++;
+    if (cells == WY50_CELLS)
+        memcpy(kept, page, sizeof *kept * WY50_CELLS);
+    expect(wy50_step(kept, WY50_CELLS, last, 0xe9, reply, 0).answer == WY50_HIGH_BYTE, "a good state stays good");
+    return last;
+}
+
+int main(int argc, char **argv)
+{
+    static uint16_t kept[WY50_CELLS];
+    wy50_state last;
+    double seconds = argc > 1 ? atof(argv[1]) : 10;
+    struct timespec from, to;
+    step_of_memory = (size_t)sysconf(_SC_PAGESIZE);
+    clock_gettime(CLOCK_MONOTONIC, &from);
+    seed = argc > 2 ? strtoull(argv[2], NULL, 10) : (uint64_t)from.tv_nsec * 1000003 + (uint64_t)from.tv_sec;
+    page_buffer = make(MOST_PAGE * sizeof *kept);
+    reply_buffer = make(MOST_ROOM);
+    input_buffer = make(MOST_INPUT);
+    last = wy50_power_on(kept, WY50_CELLS).state;
+    do {
+        if (turns % 5000 == 0)
+            last = wy50_power_on(kept, WY50_CELLS).state;
+        last = turn(last, kept);
+        turns++;
+        clock_gettime(CLOCK_MONOTONIC, &to);
+    } while ((double)(to.tv_sec - from.tv_sec) + 1e-9 * (double)(to.tv_nsec - from.tv_nsec) < seconds);
+    printf("fuzz: nothing found in %.0f seconds: %llu turns (%llu answered 7), %llu calls, %llu host bytes, %llu reply bytes (seed %llu)\n", seconds,
+        (unsigned long long)turns, (unsigned long long)answered_7, (unsigned long long)calls, (unsigned long long)bytes, (unsigned long long)replies,
+        (unsigned long long)seed);
+    return 0;
+}
