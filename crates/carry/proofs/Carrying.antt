@@ -1,6 +1,7 @@
 -- A plan carried out: what the parts give is what the rules say.
 -- Assumes nothing.
 use mathlib.Core.Path.{_≡_, refl, sym, ap, subst, _∙_}
+use mathlib.Core.Bool.{false≢true}
 use mathlib.Core.List.{List, []}
 use Prim.Native.Nat.{ℕ, zero-le, _<_, _≤_}
 use borrow.Author.Tests.{le-leb, lt-leb}
@@ -20,11 +21,11 @@ pub carried-is : {e e′ : Effect} {r : CoreResult} {p w w′ : List ℕ} → e 
 carried-is {e} {e′} {r} {p} {w} {w′} h k = subst (λ (x : Effect). Carried x r p w w′) (sym h) k
 
 module _ (p : List ℕ) (c : Core) (x : Plan) (w : List ℕ) {n : ℕ} (e : n ≡ length (replied (c .modes .protect) p (x .reply))) where
-  pub no-room : length w < n → Carried (carried p c x (length w)) (record { answer = Answer.NoRoom; replied = 0; core = c; change = SetupChange.Nothing }) p w w
+  pub no-room : length w < n → Carried (carried p c x (length w)) (record { answer = Answer.NoRoom; replied = 0; core = x .next; change = SetupChange.Nothing }) p w w
   unfolding carried over
   no-room h =
       carried-is {e′ = quiet 6 c p} (rw (← e, lt-leb n (length w) h))
-      (record { answer = refl; core = refl; change = refl; replied = refl; page = refl; room = refl; fits = zero-le })
+      (record { answer = refl; core = λ z. absurd (false≢true (sym z)); change = refl; replied = refl; page = refl; room = refl; fits = zero-le })
 
   pub carried-out : {p₁ p₂ w′ : List ℕ} {c′ : Core} → n ≤ length w → w′ ≡ over (replied (c .modes .protect) p (x .reply)) w
       → p₁ ≡ applied (c .modes .protect) (x .first) p → p₂ ≡ applied (c .modes .protect) (x .second) p₁
@@ -35,7 +36,7 @@ module _ (p : List ℕ) (c : Core) (x : Plan) (w : List ℕ) {n : ℕ} (e : n �
       carried-is {e′ = done (c .modes .protect) p x} (rw (← e, le-leb n (length w) h))
       (record {
         answer = refl;
-        core = rw (hc, h₂, h₁);
+        core = λ z. rw (hc, h₂, h₁);
         change = refl;
         replied = e;
         page = h₂ ∙ ap (applied (c .modes .protect) (x .second)) h₁;

@@ -28,10 +28,11 @@ pub fn carry_out(page: &mut [u16], core: Core, plan: Plan, room: &mut [u8]) -> C
     let reply = plan.reply;
     let n = reply_length(page, on, reply);
     if room.len() < n {
+        let next = plan.next;
         return CoreResult {
             answer: Answer::NoRoom,
             replied: 0,
-            core: core,
+            core: next,
             change: SetupChange::Nothing,
         };
     }

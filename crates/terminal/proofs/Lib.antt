@@ -2,5 +2,7 @@ pub mod Gathered
 pub mod Judged
 pub mod Carrying
 pub mod Loop
+pub mod TextSteps
+pub mod TextRuns
 pub mod Calls
 pub mod Noninterference

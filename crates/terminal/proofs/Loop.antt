@@ -250,7 +250,7 @@ module _ (p₀ : List ℕ) (s₀ : State) (input w₀ p w : List ℕ) (c : Core)
       not-six = rw (made .answer) (pick-if (λ (m : ℕ). eqb m 6 ≡ false) (overfills (u .keys) (c .gathered) (e .change)) (λ z. refl) (λ z. rw (sym (S .answer)) t))
 
       reached : o .state ≡ stateOf (r .core) v
-      reached = ap₂ stateOf (made .core ∙ sym (S .core)) (made .setup ∙ rw (sym (S .change)) (sym ev))
+      reached = ap₂ stateOf (made .core ∙ sym (S .core (rw (sym (S .answer)) t))) (made .setup ∙ rw (sym (S .change)) (sym ev))
 
       turned : o .page ≡ p′
       turned = made .page ∙ sym (S .page)

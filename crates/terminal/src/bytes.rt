@@ -9,6 +9,8 @@ ghost use Rattle.rules.specs.Calls.{refusal};
 ghost use Rattle.terminal.specs.Inner.{overfills, keysAnswer, keysSetup};
 ghost use Rattle.terminal.specs.Loop.{isNothing, stateOf, Looped};
 use crate::inner::inner;
+use crate::text::moved;
+use crate::text::text;
 use rules::Answer;
 use rules::Core;
 use rules::Key;
@@ -145,6 +147,10 @@ pub fn repeat(page: &mut [u16], core: Core, setup: Setup, input: &[u8], room: &m
     let mut replied = 0;
     let mut refused = 0;
     while taken < input.len() {
+        let run = text(page, c, input, taken);
+        let moved_core = moved(c, run.at, run.taken == taken);
+        c = moved_core;
+        taken = run.taken;
         let k = c.gathered;
         let t = inner(page, &u.tabs, c, input[taken], &mut room[replied..]);
         let a = t.answer;

@@ -3,6 +3,7 @@
 mod bytes; // the loop over host bytes
 mod inner; // one byte
 mod key; // what a key sends
+mod text; // runs of text
 
 ghost use mathlib.Core.Path.{_≡_};
 ghost use lib.ListN.{length, drop};

@@ -12,7 +12,7 @@ carry-out-spec =
     (tie.spec
     (λ c κs. (c .before .before .before .pre .0, c .before .before .before .pre .1 .text))
     (λ c. search needs)
-    (λ c. let x = c .before .before .before .before .before .args in no-room (now (x .page)) (x .core) (x .plan) (now (x .room)) (c .before .reply-length .ensures) (c .if1 .taken))
+    (λ c. let x = c .before .before .before .before .before .before .args in no-room (now (x .page)) (x .core) (x .plan) (now (x .room)) (c .before .before .reply-length .ensures) (c .before .if1 .taken))
     (λ c κs. (c .before .before .before .before .before .before .before .pre .0, (c .before .before .before .before .before .before .before .pre .1 .text, omega (arith, c .before .before .before .reply-length .ensures, c .before .before .if1 .left))))
     (λ c κs. (c .before .before .before .before .before .before .before .before .before .before .before .pre .0, c .before .before .before .before .before .before .before .before .before .before .before .pre .1 .one))
     (λ c κs. (c .before .before .before .write .kept .0 ∙ c .before .before .before .before .before .before .before .before .before .before .before .before .before .before .before .pre .0, c .before .before .before .before .before .before .before .before .before .before .before .before .before .before .before .pre .1 .two))

@@ -1,0 +1,256 @@
+-- Runs of text are the repeated step.
+--     typed-then, typed-range     a run after a run; where a run ends
+--     text-run     the loop over host bytes goes on after a run as before it
+-- Assumes nothing.
+use mathlib.Core.Path.{_≡_, refl, sym, ap, ap₂, subst, _∙_}
+use mathlib.Core.Bool.{Bool, true, false}
+use mathlib.Core.List.{List, [], _++_}
+use Prim.Native.Nat.{ℕ, _+_, _-_, _*_, _<_, _≤_}
+use native.Mathlib.Nat.{add-zero}
+use native.Mathlib.Omega.{arith}
+use lib.Dec.{eqb}
+use lib.ListN.{length, getD, set, take, drop, length-set, take-append-drop}
+use lib.Seq.{drop-cons}
+use borrow.Author.Tests.{eq-eqb, ne-eqb}
+use Rattle.rules.specs.declared.Answer.{Answer}
+use Rattle.rules.specs.declared.Answer.the-variants as Answer
+use Rattle.rules.specs.declared.Contents.the-variants as Contents
+use Rattle.rules.specs.declared.Core.{Core}
+use Rattle.rules.specs.declared.CoreResult.{CoreResult}
+use Rattle.rules.specs.declared.Decoded.the-variants as Decoded
+use Rattle.rules.specs.declared.Modes.{Modes}
+use Rattle.rules.specs.declared.Pending.{Pending}
+use Rattle.rules.specs.declared.Pending.the-variants as Pending
+use Rattle.rules.specs.declared.Screen.{Screen}
+use Rattle.rules.specs.declared.Setup.{Setup}
+use Rattle.rules.specs.declared.State.{State}
+use Rattle.rules.specs.declared.SetupChange.the-variants as SetupChange
+use Rattle.rules.specs.Cell.{pick, written}
+use Rattle.rules.specs.Row.{width, pageLength}
+use Rattle.rules.specs.Search.{guardedAt}
+use Rattle.rules.specs.Possible.{screenOk}
+use Rattle.rules.specs.State.{number, segmentStart, segmentEnd, segmentTop, segmentBottom, cursorOf, withCursor, withScreen, awaiting, idle}
+use Rattle.rules.specs.Decode.{decodeRule, idleRule, escapeRule, lookup}
+use Rattle.rules.specs.Carry.{effect}
+use Rattle.rules.proofs.Tests.{either-way}
+use Rattle.rules.proofs.Kept.{good-parts, possible-parts}
+use Rattle.rules.proofs.Screens.{screen-inside}
+use Rattle.terminal.specs.Inner.{innerAlone}
+use Rattle.terminal.specs.Loop.{stateOf, lastAnswer}
+use Rattle.terminal.specs.Text.{Stored, Addressed, Typed, none, stored, placed, TextRun, still, typed, textCore}
+use Rattle.terminal.proofs.Carrying.{quiet-carried}
+use Rattle.carry.proofs.Carrying.{carried-is}
+use Rattle.terminal.proofs.Loop.{Running, go, nothing-made, lentTail, backTail, tail-lent, tail-back}
+use Rattle.terminal.proofs.TextSteps.{stores, waits, places}
+
+-- where a run over l from the byte i₀ and the page p₀ ends
+pub record Range (l : List ℕ) (i₀ : ℕ) (p₀ : List ℕ) (at i : ℕ) (p : List ℕ) : Type 0 where
+  pub from : i₀ ≤ i
+  pub within : i < length l
+  pub below : at < 1920
+  pub size : length p ≡ length p₀
+
+module _ {on mark : Bool} {home end : ℕ} {l : List ℕ} {at₀ i₀ : ℕ} {p₀ : List ℕ} where
+  pub typed-then : {at i : ℕ} {p : List ℕ} → Typed on mark home end l at₀ i₀ p₀ at i p → {at′ i′ : ℕ} {p′ : List ℕ} → Typed on mark home end l at i p at′ i′ p′
+      → Typed on mark home end l at₀ i₀ p₀ at′ i′ p′
+  typed-then t none = t
+  typed-then t (stored u h s e) = stored (typed-then t u) h s e
+  typed-then t (placed u h s) = placed (typed-then t u) h s
+
+  pub typed-range : {at i : ℕ} {p : List ℕ} → Typed on mark home end l at₀ i₀ p₀ at i p → i₀ < length l → at₀ < 1920 → end ≤ 1920 → Range l i₀ p₀ at i p
+  typed-range none h a e = record { from = omega arith; within = h; below = a; size = refl }
+  typed-range (stored {at} {i} {v} {p} u k s w) h a e =
+      let r = typed-range u h a e in
+      record { from = omega (arith, r .from); within = k; below = omega (arith, s .inside); size = length-set p at v ∙ r .size }
+  typed-range (placed u k s) h a e =
+      let r = typed-range u h a e in record { from = omega (arith, r .from); within = k; below = omega (arith, s .inside); size = r .size }
+
+-- ---- a turn of the loop that changes the core and the page alone
+
+-- where a byte is still to come, the last answer is its
+last-any : (l : List ℕ) (i : ℕ) → i < length l → (p : List ℕ) (s : State) (room a a′ : ℕ)
+    → lastAnswer (drop i l) p s room a ≡ lastAnswer (drop i l) p s room a′
+unfolding lastAnswer
+last-any l i h p s room a a′ =
+    ap (λ (x : List ℕ). lastAnswer x p s room a) (drop-cons l i 0 h) ∙ sym (ap (λ (x : List ℕ). lastAnswer x p s room a′) (drop-cons l i 0 h))
+
+same-room : (n : ℕ) (w : List ℕ) → backTail n w (lentTail n w) ≡ w
+same-room n w = tail-back n w (lentTail n w) ∙ ap (λ (l : List ℕ). take n w ++ l) (tail-lent n w) ∙ take-append-drop n w
+
+module _ {p₀ : List ℕ} {s₀ : State} {input w₀ : List ℕ} {u : Setup} {a : Answer} {n f : ℕ} {w : List ℕ} where
+  turn : {p : List ℕ} {c : Core} {i : ℕ} (j : ℕ) → Running p₀ s₀ input w₀ p w c u a i n f → j ≡ i + 1 → j < length input → {p′ : List ℕ} {c′ : Core}
+      → ((room : ℕ) → innerAlone p c (u .tabs) (getD input i 0) room ≡ effect 0 c′ SetupChange.Nothing p′ [])
+      → Running p₀ s₀ input w₀ p′ w c′ u a j n f
+  turn {p} {c} {i} j R e h {p′} {c′} E =
+      let q = lentTail n w in
+      let r : CoreResult = record { answer = Answer.Done; replied = 0; core = c′; change = SetupChange.Nothing } in
+      let m = nothing-made SetupChange.Nothing (c .gathered) u 0 refl in
+      let G = go p₀ s₀ input w₀ p w c u a i n f R (omega arith) r p′ q (carried-is (E (length q)) (quiet-carried Answer.Done c′ SetupChange.Nothing p′ q)) Answer.Done u 0 refl (m .0) (m .1) refl in
+      let H : Running p₀ s₀ input w₀ p′ w c′ u Answer.Done j n f = rw (same-room n w, add-zero n, add-zero f, sym e) at G in
+      record {
+        within = H .within;
+        used = H .used;
+        few = H .few;
+        fine = H .fine;
+        size = H .size;
+        untouched = H .untouched;
+        same = H .same;
+        last = H .last ∙ last-any input j h p′ (stateOf c′ u) (length w₀ - n) 0 (number a);
+      }
+
+-- the page and the screen of a loop are good
+pub fine : {p₀ : List ℕ} {s₀ : State} {input w₀ p w : List ℕ} {c : Core} {u : Setup} {a : Answer} {i n f : ℕ} → Running p₀ s₀ input w₀ p w c u a i n f
+    → (length p ≡ pageLength) × (screenOk (c .screen) ≡ true)
+fine R = let g = good-parts _ _ (R .fine) in (g .0, possible-parts _ (g .1) .core .screen)
+
+-- ---- the cores of a run
+
+-- d is c but for the cursor, and nothing is under way
+record Like (c d : Core) (at : ℕ) : Type 0 where
+  idle : d .pending ≡ Pending.Idle
+  modes : d .modes ≡ c .modes
+  cursor : cursorOf (d .screen) ≡ at
+  home : segmentStart (d .screen) ≡ segmentStart (c .screen)
+  end : segmentEnd (d .screen) ≡ segmentEnd (c .screen)
+  next : (i : ℕ) → textCore d i ≡ textCore c i
+
+cursor-set : (x : Screen) (i : ℕ) → cursorOf (withCursor x i) ≡ i
+unfolding cursorOf withCursor
+cursor-set x i = by (eqb (x .active) 0)
+  where
+    by : (t : Bool) → pick t (pick t i (x .cursor0)) (pick t (x .cursor1) i) ≡ i
+    by true = refl
+    by false = refl
+
+cursor-twice : (x : Screen) (i j : ℕ) → withCursor (withCursor x i) j ≡ withCursor x j
+unfolding withCursor
+cursor-twice x i j = by (eqb (x .active) 0)
+  where
+    by : (t : Bool)
+        → _≡_ {A = Screen} (record { active = x .active; split = x .split; cursor0 = pick t j (pick t i (x .cursor0)); cursor1 = pick t (pick t (x .cursor1) i) j })
+        (record { active = x .active; split = x .split; cursor0 = pick t j (x .cursor0); cursor1 = pick t (x .cursor1) j })
+    by true = refl
+    by false = refl
+
+like-text : (c : Core) (at : ℕ) → Like c (textCore c at) at
+unfolding segmentTop segmentBottom withCursor
+like-text c at = record {
+  idle = refl;
+  modes = refl;
+  cursor = cursor-set (c .screen) at;
+  home = refl;
+  end = refl;
+  next = λ i. ap (λ (x : Screen). withScreen (idle c) x) (cursor-twice (c .screen) at i);
+}
+
+-- the core where a run from c and the byte i₀ has come to
+data Arrived (c : Core) (i₀ : ℕ) : ℕ → ℕ → Core → Type 0 where
+  here : Arrived c i₀ (cursorOf (c .screen)) i₀ c
+  there : {at i : ℕ} → i₀ < i → Arrived c i₀ at i (textCore c at)
+
+like : {c d : Core} {i₀ at i : ℕ} → c .pending ≡ Pending.Idle → Arrived c i₀ at i d → Like c d at
+like {c} q here = record { idle = q; modes = refl; cursor = refl; home = refl; end = refl; next = λ i. refl }
+like {c} q (there {at} h) = like-text c at
+
+later : {c d : Core} {i₀ at i : ℕ} → Arrived c i₀ at i d → i₀ ≤ i
+later here = omega arith
+later (there h) = omega arith
+
+arrived-core : {c d : Core} {i₀ at i : ℕ} → Arrived c i₀ at i d → pick (eqb i i₀) c (textCore c at) ≡ d
+arrived-core {i₀ = i₀} here = rw (eq-eqb i₀ i₀ refl)
+arrived-core {i₀ = i₀} (there {at} {i} h) = rw (ne-eqb i i₀ (λ e. omega arith))
+
+module _ {c d : Core} {at : ℕ} (L : Like c d at) where
+  like-guard : (p : List ℕ) {i j : ℕ} → i ≡ j → getD (guardedAt (c .modes .protect) p) j false ≡ false → getD (guardedAt (d .modes .protect) p) i false ≡ false
+  like-guard p e g = ap₂ (λ (m : Modes) (i : ℕ). getD (guardedAt (m .protect) p) i false) (L .modes) e ∙ g
+
+  like-stored : {p : List ℕ} {b : ℕ} → Stored (c .modes .protect) (segmentEnd (c .screen)) at p b
+      → Stored (d .modes .protect) (segmentEnd (d .screen)) (cursorOf (d .screen)) p b
+  like-stored {p} s = record {
+    low = s .low;
+    high = s .high;
+    inside = omega (arith, s .inside, L .cursor, L .end);
+    here = like-guard p (L .cursor) (s .here);
+    next = like-guard p (ap (λ (i : ℕ). i + 1) (L .cursor)) (s .next);
+  }
+
+-- ---- a run
+
+module _ {p₀ : List ℕ} {s₀ : State} {input w₀ : List ℕ} {u : Setup} {a : Answer} {n f : ℕ} {w p : List ℕ} (c : Core) {i₀ : ℕ}
+    (R : Running p₀ s₀ input w₀ p w c u a i₀ n f) (quiet : c .pending ≡ Pending.Idle) (over : c .modes .insert ≡ false) where
+  record Went (at i : ℕ) (p′ : List ℕ) : Type 0 where
+    core : Core
+    arrived : Arrived c i₀ at i core
+    running : Running p₀ s₀ input w₀ p′ w core u a i n f
+
+  module _ {at i : ℕ} {q : List ℕ} (G : Went at i q) where
+    abbrev d : Core
+    d = G .core
+
+    L : Like c d at
+    L = like quiet (G .arrived)
+
+    went-stored : {v : ℕ} → i + 1 < length input → Stored (c .modes .protect) (segmentEnd (c .screen)) at q (getD input i 0)
+        → v ≡ written (Contents.Text (getD input i 0)) (c .modes .mark) → Went (at + 1) (i + 1) (set q at v)
+    went-stored h s e =
+        let b = getD input i 0 in
+        let k = fine (G .running) in
+        record {
+          core = textCore c (at + 1);
+          arrived = there {i = i + 1} (omega (arith, later (G .arrived)));
+          running = turn (i + 1) (G .running) refl h (λ room.
+              stores q d (k .0) (k .1) (u .tabs) room b (L .idle) (ap (λ (m : Modes). m .insert) (L .modes) ∙ over) (like-stored L s)
+              ∙ ap₂ (λ (x : Core) (y : List ℕ). effect 0 x SetupChange.Nothing y [])
+              (ap (λ (j : ℕ). textCore d (j + 1)) (L .cursor) ∙ L .next (at + 1))
+              (ap₂ (set q) (L .cursor) (ap (λ (m : Modes). written (Contents.Text b) (m .mark)) (L .modes) ∙ sym e)));
+        }
+
+    went-placed : {k : ℕ} → i + 4 < length input → Addressed (c .modes .protect) (segmentStart (c .screen)) (segmentEnd (c .screen)) input i q k → Went k (i + 4) q
+    unfolding decodeRule idleRule escapeRule lookup
+    went-placed {k} h s =
+        let r = getD input (i + 2) 0 in
+        let most = screen-inside (c .screen) (fine R .1) .most in
+        let f0 = fine (G .running) in
+        let R1 = turn (i + 1) (G .running) refl (omega arith) (λ room.
+        waits q d (f0 .0) (f0 .1) (u .tabs) room (getD input i 0) Pending.Escape (omega (arith, s .escape)) (ap₂ (λ (x : Pending) (b : ℕ). decodeRule x (d .gathered .len) b) (L .idle) (s .escape))) in
+        let d1 = awaiting d Pending.Escape in
+        let R2 = turn (i + 2) R1 (omega arith) (omega arith) (λ room.
+        waits q d1 (f0 .0) (f0 .1) (u .tabs) room (getD input (i + 1) 0) Pending.Address (omega (arith, s .equals)) (ap (decodeRule Pending.Escape 0) (s .equals))) in
+        let d2 = awaiting d Pending.Address in
+        let R3 = turn (i + 3) R2 (omega arith) (omega arith) (λ room.
+        waits q d2 (f0 .0) (f0 .1) (u .tabs) room r (Pending.AddressRow r) (omega (arith, s .row, s .place, s .inside, most)) refl) in
+        let d3 = awaiting d (Pending.AddressRow r) in
+        record {
+          core = textCore c k;
+          arrived = there {i = i + 4} (omega (arith, later (G .arrived)));
+          running = turn (i + 4) R3 (omega arith) h (λ room.
+              places q d3 (f0 .0) (f0 .1) (u .tabs) room r (getD input (i + 3) 0) k refl (s .row) (s .column) (s .wide)
+              (omega (arith, s .place, L .home)) (omega (arith, s .inside, L .end)) (like-guard L q refl (s .unguarded))
+              ∙ ap (λ (x : Core). effect 0 x SetupChange.Nothing q []) (L .next k));
+        }
+
+  typed-run : {at i : ℕ} {p′ : List ℕ}
+      → Typed (c .modes .protect) (c .modes .mark) (segmentStart (c .screen)) (segmentEnd (c .screen)) input (cursorOf (c .screen)) i₀ p at i p′ → Went at i p′
+  typed-run none = record { core = c; arrived = here; running = R }
+  typed-run (stored t h s e) = went-stored (typed-run t) h s e
+  typed-run (placed t h s) = went-placed (typed-run t) h s
+
+module _ {p₀ : List ℕ} {s₀ : State} {input w₀ : List ℕ} {u : Setup} {a : Answer} {n f : ℕ} {w p : List ℕ} {c : Core} {i₀ : ℕ}
+    (R : Running p₀ s₀ input w₀ p w c u a i₀ n f) where
+  arriving : {at i : ℕ} {p′ : List ℕ} → TextRun c input i₀ p at i p′ → Running p₀ s₀ input w₀ p′ w (pick (eqb i i₀) c (textCore c at)) u a i n f
+  arriving still = rw (eq-eqb i₀ i₀ refl) R
+  arriving (typed quiet over t) = let G = typed-run c R quiet over t in rw (arrived-core (G .arrived)) (G .running)
+
+  -- d is the core after it
+  pub text-run : {at i : ℕ} {p′ : List ℕ} {d : Core} → TextRun c input i₀ p at i p′ → d ≡ pick (eqb i i₀) c (textCore c at)
+      → Running p₀ s₀ input w₀ p′ w d u a i n f
+  text-run t e = rw e (arriving t)
+
+  pub text-range : i₀ < length input → {at i : ℕ} {p′ : List ℕ} → TextRun c input i₀ p at i p′ → Range input i₀ p at i p′
+  text-range h t =
+      let s = screen-inside (c .screen) (fine R .1) in
+      by t (omega (arith, s .below, s .most)) (omega (arith, s .most))
+    where
+      by : {at i : ℕ} {p′ : List ℕ} → TextRun c input i₀ p at i p′ → cursorOf (c .screen) < 1920 → segmentEnd (c .screen) ≤ 1920 → Range input i₀ p at i p′
+      by still l e = record { from = omega arith; within = h; below = l; size = refl }
+      by (typed quiet over t) l e = typed-range t h l e

@@ -1,0 +1,123 @@
+-- One byte of a run of text, by the inner step.
+--     stores, waits, places     a byte stored; a byte of ESC = that is awaited; its last byte, which moves the cursor
+-- Assumes nothing.
+use mathlib.Core.Path.{_≡_, refl, sym, ap, ap₂, _∙_}
+use mathlib.Core.Bool.{Bool, true, false, not}
+use mathlib.Core.List.{List, []}
+use Prim.Native.Nat.{ℕ, zero-le, _+_, _-_, _*_, _<_, _≤_}
+use native.Mathlib.Omega.{arith}
+use lib.Dec.{ltb}
+use lib.ListN.{length, getD, set, length-set}
+use lib.Seq.{getD-set-other}
+use borrow.Author.Tests.{lt-ltb, le-ltb, le-leb}
+use Rattle.rules.specs.declared.Contents.the-variants as Contents
+use Rattle.rules.specs.declared.Core.{Core}
+use Rattle.rules.specs.declared.Command.the-variants as Command
+use Rattle.rules.specs.declared.Decoded.{Decoded}
+use Rattle.rules.specs.declared.Decoded.the-variants as Decoded
+use Rattle.rules.specs.declared.Land.the-variants as Land
+use Rattle.rules.specs.declared.Move.the-variants as Move
+use Rattle.rules.specs.declared.Pending.{Pending}
+use Rattle.rules.specs.declared.Pending.the-variants as Pending
+use Rattle.rules.specs.declared.Plan.{Plan}
+use Rattle.rules.specs.declared.SetupChange.the-variants as SetupChange
+use Rattle.rules.specs.declared.Write.{Write}
+use Rattle.rules.specs.declared.Write.the-variants as Write
+use Rattle.rules.specs.Cell.{pick, guarded, among, both, written}
+use Rattle.rules.specs.Row.{width, pageLength}
+use Rattle.rules.specs.Search.{guardedAt, others, settled}
+use Rattle.rules.specs.State.{segmentTop, segmentBottom, segmentStart, segmentEnd, cursorOf, withCursor, withScreen, awaiting, idle}
+use Rattle.rules.specs.Possible.{screenOk}
+use Rattle.rules.specs.Decode.{decodeRule, idleRule}
+use Rattle.rules.specs.Plan.{writing, unlessGuarded, storing, advancing, storePlan, addressPlan, movePlan, planRule}
+use Rattle.rules.specs.Carry.{Effect, effect, applied, replied, landed, done, carried}
+use Rattle.rules.proofs.Tests.{both-true}
+use Rattle.rules.proofs.Marks.{hit, around-here, length-guards, length-others, guard-at, open-at}
+use Rattle.rules.proofs.Lengths.{length-applied}
+use Rattle.rules.proofs.Screens.{screen-inside}
+use Rattle.page.proofs.Changes.{one-filled}
+use Rattle.terminal.specs.Inner.{obeyedAlone, innerAlone}
+use Rattle.terminal.specs.Text.{Stored, textCore}
+use Rattle.terminal.proofs.Carrying.{below}
+
+-- an open cell: settling stays there
+settled-open : (g : List Bool) (first end i : ℕ) → i < end → end ≤ length g → getD g i false ≡ false → settled g first end i ≡ i
+settled-open g first end i h k e =
+    let t : getD (others g) i false ≡ true = open-at g i (omega arith) ∙ ap not e in
+    sym (around-here (others g) first end i (sym (hit (others g) i end h (omega (arith, length-others g)) refl t)) h)
+
+module _ (p : List ℕ) (c : Core) (size : length p ≡ pageLength) (ok : screenOk (c .screen) ≡ true) (tabs : List Bool) (room : ℕ) where
+  abbrev on : Bool
+  on = c .modes .protect
+
+  -- a plan that writes, and then settles from an open cell of the segment
+  carried-writing : (w : Write) (i : ℕ) → i < segmentEnd (c .screen) → getD (guardedAt on (applied on w p)) i false ≡ false
+      → carried p c (writing (idle c) w (Land.Settle i)) room ≡ effect 0 (textCore c i) SetupChange.Nothing (applied on w p) []
+  unfolding carried done replied landed applied
+  carried-writing w i h e =
+      let q = applied on w p in
+      let g = guardedAt on q in
+      let k : segmentEnd (c .screen) ≤ length g = omega (arith, length-guards on q, length-applied on w p, size, screen-inside (c .screen) ok .most) in
+      rw (le-leb 0 room zero-le)
+      (ap (λ (n : ℕ). effect 0 (withScreen (idle c) (withCursor (c .screen) n)) SetupChange.Nothing q [])
+      (settled-open g (segmentStart (c .screen)) (segmentEnd (c .screen)) i h k e))
+
+  -- ---- a byte that is stored
+
+  module _ (b : ℕ) (quiet : c .pending ≡ Pending.Idle) (over : c .modes .insert ≡ false) (s : Stored on (segmentEnd (c .screen)) (cursorOf (c .screen)) p b) where
+    abbrev at : ℕ
+    at = cursorOf (c .screen)
+
+    abbrev v : ℕ
+    v = written (Contents.Text b) (c .modes .mark)
+
+    decoded : decodeRule (c .pending) (c .gathered .len) b ≡ Decoded.Do (Command.Store (Contents.Text b))
+    unfolding decodeRule idleRule
+    decoded = ap (λ (q : Pending). decodeRule q (c .gathered .len) b) quiet ∙ rw (le-ltb b 0x20 (s .low), lt-ltb b 0x7f (omega (arith, s .high)))
+
+    planned : planRule (guardedAt on p) tabs c (Command.Store (Contents.Text b)) ≡ writing (idle c) (Write.Fill at (at + 1) v) (Land.Settle (at + 1))
+    unfolding planRule storePlan unlessGuarded storing advancing
+    planned =
+        ap (λ (t : Bool). unlessGuarded (guardedAt on p) c (advancing c (storing t at v))) over
+        ∙ rw (s .here, lt-ltb (at + 1) (segmentEnd (c .screen)) (s .inside))
+
+    inside : at + 1 < length p
+    inside = omega (arith, s .inside, size, screen-inside (c .screen) ok .most)
+
+    page : applied on (Write.Fill at (at + 1) v) p ≡ set p at v
+    unfolding applied
+    page =
+        sym (one-filled on v p at (omega (arith, inside)))
+        ∙ ap (λ (t : Bool). set p at (pick t (getD p at 0) v)) (sym (guard-at on p at (omega (arith, inside))) ∙ s .here)
+
+    next : getD (guardedAt on (set p at v)) (at + 1) false ≡ false
+    next =
+        guard-at on (set p at v) (at + 1) (omega (arith, inside, length-set p at v))
+        ∙ ap (guarded on) (getD-set-other p at (at + 1) v 0 (λ e. omega arith)) ∙ sym (guard-at on p (at + 1) inside) ∙ s .next
+
+    pub stores : innerAlone p c tabs b room ≡ effect 0 (textCore c (at + 1)) SetupChange.Nothing (set p at v) []
+    unfolding obeyedAlone
+    stores =
+        below p c tabs b room (omega (arith, s .high)) refl decoded ∙ ap (λ (x : Plan). carried p c x room) planned
+        ∙ carried-writing (Write.Fill at (at + 1) v) (at + 1) (s .inside) (rw page next)
+        ∙ ap (λ (q : List ℕ). effect 0 (textCore c (at + 1)) SetupChange.Nothing q []) page
+
+  -- ---- ESC =
+
+  pub waits : (b : ℕ) (q : Pending) → b < 128 → decodeRule (c .pending) (c .gathered .len) b ≡ Decoded.Wait q
+      → innerAlone p c tabs b room ≡ effect 0 (awaiting c q) SetupChange.Nothing p []
+  unfolding obeyedAlone
+  waits b q h e = below p c tabs b room h refl e
+
+  pub places : (r k i : ℕ) → c .pending ≡ Pending.AddressRow r → 0x20 ≤ r → 0x20 ≤ k → k < 0x20 + width
+      → i ≡ segmentStart (c .screen) + (r - 0x20) * width + (k - 0x20) → i < segmentEnd (c .screen) → getD (guardedAt on p) i false ≡ false
+      → innerAlone p c tabs k room ≡ effect 0 (textCore c i) SetupChange.Nothing p []
+  unfolding obeyedAlone decodeRule planRule movePlan addressPlan applied
+  places r k i pending low left right e h g =
+      let x = c .screen in
+      let z = (segmentTop x + (r - 0x20)) * width + (k - 0x20) in
+      let same : i ≡ z = omega arith in
+      let t : both (among 0x20 (segmentBottom x - segmentTop x) r) (among 0x20 width k) ≡ true =
+      both-true (both-true (le-leb 0x20 r low) (lt-ltb r (0x20 + (segmentBottom x - segmentTop x)) (omega arith))) (both-true (le-leb 0x20 k left) (lt-ltb k (0x20 + width) right)) in
+      below p c tabs k room (omega arith) refl (ap (λ (q : Pending). decodeRule q (c .gathered .len) k) pending)
+      ∙ rw t (rw (sym same) (carried-writing Write.Nothing i h g))

@@ -1,0 +1,14 @@
+use mathlib.Core.Path.{ap}
+use Prim.Native.Nat.{ℕ}
+use Rattle.terminal.specs.declared.text.Reached.{Reached}
+use borrow.Author.Needs.{needs}
+use Rattle.terminal.proofs.text.still.Statement.{statement}
+use Rattle.terminal.proofs.text.still.Tie as tie
+
+pub still-spec : {M : Type 1} → statement M
+still-spec =
+    tie.close
+    (tie.spec
+    (λ c κs. search needs)
+    (λ c. search needs)
+    (λ c. ap {B = Reached} (λ (n : ℕ). record { at = n; taken = c .before .args .from }) (c .cursor-of .ensures)))

@@ -1,0 +1,196 @@
+// Runs of text, stored without a plan for each byte. Nothing is under way and insert mode is off; a run goes on in its segment and on open
+// cells, over ESC = too, and leaves the last byte of the input to the inner step.
+ghost use mathlib.Core.Path.{_≡_};
+ghost use mathlib.Core.Bool.{true};
+ghost use Prim.Native.Nat.{ℕ, _+_, _-_, _*_, _<_, _≤_};
+ghost use lib.ListN.{length};
+ghost use Rattle.rules.specs.Cell.{pick};
+ghost use Rattle.rules.specs.Row.{width};
+ghost use Rattle.rules.specs.Possible.{screenOk};
+ghost use Rattle.rules.specs.State.{cursorOf};
+ghost use Rattle.terminal.specs.Text.{Stored, Addressed, Typed, TextRun, textCore};
+use page::cell::written_cell;
+use page::search::is_guarded_at;
+use rules::Contents;
+use rules::Core;
+use rules::Pending;
+use state::core::idle;
+use state::core::with_screen;
+use state::screen::cursor_of;
+use state::screen::segment_end;
+use state::screen::segment_start;
+use state::screen::with_cursor;
+
+// Where a run ends: the cursor, and the first byte that it did not take.
+pub struct Reached {
+    pub at: usize,
+    pub taken: usize,
+}
+
+// Whether the byte is text, and the cell and the next one are open cells of the segment.
+fn is_stored(page: &[u16], on: bool, at: usize, end: usize, b: u8) -> bool
+    requires { ⌜ (length (now page) ≡ 1920) × ((end ≤ 1920) × (at < 1920)) ⌝ }
+    ensures { λ r. ⌜ (r ≡ true → Stored on end at (now (page .entry)) b) ⌝ }
+{
+    if b < 0x20 {
+        return false;
+    }
+    if 0x7e < b {
+        return false;
+    }
+    if end <= at + 1 {
+        return false;
+    }
+    if is_guarded_at(page, on, at) {
+        return false;
+    }
+    !is_guarded_at(page, on, at + 1)
+}
+
+// Text is stored from the cursor `first` on.
+fn store(
+    page: &mut [u16],
+    on: bool,
+    mark: bool,
+    first: usize,
+    end: usize,
+    input: &[u8],
+    from: usize,
+) -> Reached
+    requires { ⌜ (length (now page) ≡ 1920) × ((end ≤ 1920) × ((first < 1920) × (from < length (now input)))) ⌝ }
+    ensures { λ r. ⌜ ((home : ℕ) → Typed on mark home end (now (input .entry)) first from (now (page .entry)) (r .at) (r .taken) (now (page .exit))) ⌝ }
+{
+    let mut at = first;
+    let mut i = from;
+    while i + 1 < input.len() {
+        let b = input[i];
+        if !is_stored(page, on, at, end, b) {
+            return Reached { at: at, taken: i };
+        }
+        page[at] = written_cell(Contents::Text(b), mark);
+        at += 1;
+        i += 1;
+    }
+    Reached { at: at, taken: i }
+}
+
+// The cell of a row and a column code, the row from the cell `home` on.
+fn cell_at(home: usize, row: u8, column: u8) -> usize
+    requires { ⌜ (home ≤ 1920) × ((0x20 ≤ row) × (0x20 ≤ column)) ⌝ }
+    ensures { λ r. ⌜ r ≡ home + (row - 0x20) * width + (column - 0x20) ⌝ }
+{
+    home + (row - 0x20) as usize * 80 + (column - 0x20) as usize
+}
+
+// The cell of an ESC = at byte i, if it is an open one of the segment `home` up to `end` and a byte follows; else `end`.
+fn address(page: &[u16], on: bool, home: usize, end: usize, input: &[u8], i: usize) -> usize
+    requires { ⌜ (length (now page) ≡ 1920) × ((end ≤ 1920) × ((home ≤ 1920) × (i < length (now input)))) ⌝ }
+    ensures { λ r. ⌜ (r < end → (i + 4 < length (now (input .entry))) × Addressed on home end (now (input .entry)) i (now (page .entry)) r) ⌝ }
+{
+    if input.len() <= i + 4 {
+        return end;
+    }
+    if input[i] != 0x1b {
+        return end;
+    }
+    if input[i + 1] != 0x3d {
+        return end;
+    }
+    let row = input[i + 2];
+    let column = input[i + 3];
+    if row < 0x20 {
+        return end;
+    }
+    if column < 0x20 {
+        return end;
+    }
+    if 0x6f < column {
+        return end;
+    }
+    let k = cell_at(home, row, column);
+    if end <= k {
+        return end;
+    }
+    if is_guarded_at(page, on, k) {
+        return end;
+    }
+    k
+}
+
+// Runs of text, and the moves by ESC = between them.
+fn runs(
+    page: &mut [u16],
+    on: bool,
+    mark: bool,
+    first: usize,
+    home: usize,
+    end: usize,
+    input: &[u8],
+    from: usize,
+) -> Reached
+    requires { ⌜ (length (now page) ≡ 1920) × ((end ≤ 1920) × ((home ≤ 1920) × ((first < 1920) × (from < length (now input))))) ⌝ }
+    ensures { λ r. ⌜ Typed on mark home end (now (input .entry)) first from (now (page .entry)) (r .at) (r .taken) (now (page .exit)) ⌝ }
+{
+    let mut at = first;
+    let mut i = from;
+    while i + 1 < input.len() {
+        let run = store(page, on, mark, at, end, input, i);
+        at = run.at;
+        i = run.taken;
+        let k = address(page, on, home, end, input, i);
+        if end <= k {
+            return Reached { at: at, taken: i };
+        }
+        at = k;
+        i += 4;
+    }
+    Reached { at: at, taken: i }
+}
+
+fn still(core: Core, from: usize) -> Reached
+    ensures { λ r. ⌜ r ≡ record { at = cursorOf (core .screen); taken = from } ⌝ }
+{
+    Reached {
+        at: cursor_of(core.screen) as usize,
+        taken: from,
+    }
+}
+
+// A run from the byte `from` on, if it is text or ESC.
+pub fn text(page: &mut [u16], core: Core, input: &[u8], from: usize) -> Reached
+    requires { ⌜ (length (now page) ≡ 1920) × ((screenOk (core .screen) ≡ true) × (from < length (now input))) ⌝ }
+    ensures { λ r. ⌜ TextRun core (now (input .entry)) from (now (page .entry)) (r .at) (r .taken) (now (page .exit)) ⌝ }
+{
+    if input[from] < 0x1b {
+        return still(core, from);
+    }
+    if core.modes.insert {
+        return still(core, from);
+    }
+    let x = core.screen;
+    let q = core.pending;
+    match q {
+        Pending::Idle => runs(
+            page,
+            core.modes.protect,
+            core.modes.mark,
+            cursor_of(x) as usize,
+            segment_start(x) as usize,
+            segment_end(x) as usize,
+            input,
+            from,
+        ),
+        _ => still(core, from),
+    }
+}
+
+// The core after a run that ended at a cursor; the same one where it took nothing.
+pub fn moved(core: Core, at: usize, same: bool) -> Core
+    requires { ⌜ at < 1920 ⌝ }
+    ensures { λ r. ⌜ r ≡ pick same core (textCore core at) ⌝ }
+{
+    if same {
+        return core;
+    }
+    with_screen(idle(core), with_cursor(core.screen, at as u16))
+}
