@@ -1,7 +1,8 @@
 # make test: the gate. make demo: the gateway's main job on two host streams. make fuzz SECONDS=60 SEED=7: the differential test for longer.
 # make lib: the library for C and Rust. make test-face: its tests. make fuzz-face SECONDS=60: random calls. make install PREFIX=/usr/local.
+# make bench: times beside the peers, to docs/BENCHMARKS.md.
 
-.PHONY: test demo fuzz lib test-face fuzz-face install
+.PHONY: test demo fuzz lib test-face fuzz-face install bench
 
 SECONDS ?= 60
 SEED ?= 1
@@ -43,3 +44,8 @@ install: $(LIB)
 	install -m 644 $(LIB) $(DESTDIR)$(PREFIX)/lib/libwy50.a
 	install -m 644 include/wy50.h $(DESTDIR)$(PREFIX)/include/wy50.h
 	sed -e 's|@PREFIX@|$(PREFIX)|' -e "s|@VERSION@|$$(cat VERSION)|" wy50.pc.in > $(DESTDIR)$(PREFIX)/lib/pkgconfig/wy50.pc
+
+bench: $(LIB)
+	@pkg-config --exists vterm || { echo 'make bench needs libvterm: apt-get install -y libvterm-dev'; exit 1; }
+	@CARGO_TARGET_DIR=target/bench cargo build --release --offline --quiet --manifest-path tests/bench/Cargo.toml
+	@target/bench/release/bench docs/BENCHMARKS.md

@@ -1,0 +1,284 @@
+//! Times the proved terminal beside its peers, prints the tables, and writes them to the file that is named. It fails if the proved terminal
+//! and the independent implementation differ.
+
+mod peers;
+#[allow(dead_code)]
+#[path = "../../independent/src/state.rs"]
+mod state;
+#[allow(dead_code)]
+#[path = "../../independent/src/terminal.rs"]
+mod terminal;
+mod workloads;
+
+use peers::{Page, READ};
+use std::{
+    fmt::Write,
+    hint::black_box,
+    process::{Command, ExitCode},
+    time::Instant,
+};
+use workloads::{Stream, Workload, WORKLOADS};
+use wy50::{Answer, State, Terminal, CELLS, LONGEST_REPLY};
+
+const ROUNDS: usize = 5;
+const SIZE: usize = 20_000_000;
+const GROWTH: [usize; 3] = [1_000_000, 10_000_000, 100_000_000];
+const CALLS: usize = 1_000_000;
+
+/// Nanoseconds a byte, where a peer has the workload.
+struct Row {
+    name: &'static str,
+    proved: f64,
+    independent: f64,
+    libvterm: Option<f64>,
+    floor: Option<f64>,
+}
+
+/// Nanoseconds a call, with the keys unprogrammed and with all of them full.
+struct Single {
+    name: &'static str,
+    most: f64,
+    empty: f64,
+    full: f64,
+}
+
+fn main() -> ExitCode {
+    let Some(path) = std::env::args().nth(1) else {
+        eprintln!("bench FILE: the tables go to FILE");
+        return ExitCode::from(2);
+    };
+    match report() {
+        Ok(text) => {
+            print!("{text}");
+            std::fs::write(path, text).expect("the file can be written");
+            ExitCode::SUCCESS
+        }
+        Err(difference) => {
+            eprintln!("bench: {difference}");
+            ExitCode::FAILURE
+        }
+    }
+}
+
+fn report() -> Result<String, String> {
+    let rows = WORKLOADS.iter().map(row).collect::<Result<Vec<_>, _>>()?;
+    let singles = [single("step", 400.0, step), single("press", 300.0, press)];
+    let mut out = String::new();
+    introduction(&mut out);
+    peers_table(&mut out, &rows);
+    growth_table(&mut out);
+    singles_table(&mut out, &singles);
+    targets(&mut out, &rows, &singles);
+    Ok(out)
+}
+
+/// One workload on every terminal that has it, the terminals taking turns.
+fn row(workload: &Workload) -> Result<Row, String> {
+    let stream = workload.stream(SIZE);
+    let name = workload.name;
+    if let Some(difference) = peers::difference(&stream.wy50) {
+        return Err(format!("{name}: {difference}"));
+    }
+    let page = peers::independent(&stream.wy50);
+    let has_floor = name == "text";
+    if has_floor && peers::floor(&stream.wy50) != page {
+        return Err(format!("{name}: the floor's page differs"));
+    }
+    if workload.translated && shown(&peers::libvterm(&stream.ansi)) != shown(&page) {
+        return Err(format!("{name}: libvterm's page differs"));
+    }
+    let (mut proved, mut independent, mut libvterm, mut floor) = (f64::MAX, f64::MAX, f64::MAX, f64::MAX);
+    for _ in 0..ROUNDS {
+        best(&mut proved, &stream.wy50, peers::proved, &page)?;
+        best(&mut independent, &stream.wy50, peers::independent, &page)?;
+        if workload.translated {
+            libvterm = libvterm.min(timed(&stream.ansi, peers::libvterm).0);
+        }
+        if has_floor {
+            floor = floor.min(timed(&stream.wy50, peers::floor).0);
+        }
+    }
+    Ok(Row { name, proved, independent, libvterm: workload.translated.then_some(libvterm), floor: has_floor.then_some(floor) })
+}
+
+fn timed(stream: &[u8], play: fn(&[u8]) -> Page) -> (f64, Page) {
+    let start = Instant::now();
+    let page = play(black_box(stream));
+    (start.elapsed().as_nanos() as f64 / stream.len() as f64, page)
+}
+
+fn best(least: &mut f64, stream: &[u8], play: fn(&[u8]) -> Page, expected: &Page) -> Result<(), String> {
+    let (time, page) = timed(stream, play);
+    if page != *expected {
+        return Err("a page differs from the independent implementation's".to_string());
+    }
+    *least = least.min(time);
+    Ok(())
+}
+
+/// The page as it looks: a cell without text is a space.
+fn shown(page: &Page) -> Page {
+    page.map(|cell| cell.max(u16::from(b' ')))
+}
+
+fn single(name: &'static str, most: f64, calls: fn(&mut Terminal, &[u8])) -> Single {
+    let Stream { wy50: text, .. } = WORKLOADS[0].stream(CALLS);
+    let [empty, full] = [false, true].map(|full| {
+        let mut terminal = Terminal::new();
+        if full {
+            fill_keys(&mut terminal);
+        }
+        (0..ROUNDS).fold(f64::MAX, |least, _| {
+            let start = Instant::now();
+            calls(&mut terminal, black_box(&text));
+            least.min(start.elapsed().as_nanos() as f64 / text.len() as f64)
+        })
+    });
+    Single { name, most, empty, full }
+}
+
+fn fill_keys(terminal: &mut Terminal) {
+    for key in (0x40..0x50).chain(0x60..0x70) {
+        let program = [0x1b, b'z', key, b'e', b's', b'p', b'r', b'e', b's', b's', b'o', 0x7f];
+        let fed = terminal.feed(&program, &mut []);
+        assert_eq!((fed.answer, fed.refused), (Answer::Done, 0));
+    }
+}
+
+fn step(terminal: &mut Terminal, bytes: &[u8]) {
+    let mut reply = [0; LONGEST_REPLY];
+    for &byte in bytes {
+        assert_eq!(terminal.step(byte, &mut reply).answer, Answer::Done);
+    }
+}
+
+/// As many presses as there are bytes.
+fn press(terminal: &mut Terminal, bytes: &[u8]) {
+    let mut reply = [0; LONGEST_REPLY];
+    for &byte in bytes {
+        assert_eq!(terminal.press(0x40 | (byte & 0x2f), &mut reply).answer, Answer::Done);
+    }
+}
+
+macro_rules! line {
+    ($out:expr) => { $out.push('\n') };
+    ($out:expr, $($words:tt)*) => { writeln!($out, $($words)*).expect("a string takes it") };
+}
+
+fn introduction(out: &mut String) {
+    line!(out, "# Benchmarks");
+    line!(out);
+    line!(out, "Written by `make bench`: one run on one machine, the terminals taking turns, the best of {ROUNDS}.");
+    line!(out);
+    line!(out, "| | |");
+    line!(out, "|---|---|");
+    line!(out, "| date | {} |", said("date", &["+%Y-%m-%d"]));
+    line!(out, "| machine | {} |", machine());
+    line!(out, "| proved | `rt staticlib wy50`: LLVM at -O3 for x86-64, called through `rust/wy50` |");
+    line!(out, "| independent | `tests/independent`, {}, opt-level 3 |", said("rustc", &["--version"]));
+    line!(
+        out,
+        "| libvterm | {}, with its screen layer, damage merged by scrolls |",
+        said("dpkg-query", &["-W", "-f", "${Version}", "libvterm-dev"])
+    );
+    line!(out, "| C floor | `tests/bench/floor.c`, {}, -O3 |", said("cc", &["-dumpfullversion"]));
+    line!(out, "| fed | reads of {READ} bytes, a reply room of {READ} |");
+    line!(out, "| memory | a page of {} bytes and a state of {} bytes, nothing allocated |", 2 * CELLS, std::mem::size_of::<State>());
+    line!(out);
+}
+
+fn peers_table(out: &mut String, rows: &[Row]) {
+    line!(out, "## Beside its peers");
+    line!(out);
+    line!(out, "Nanoseconds a host byte, and in brackets how many times the proved terminal's that is. {} MB each:", SIZE / 1_000_000);
+    line!(out);
+    for workload in &WORKLOADS {
+        line!(out, "- {}: {}", workload.name, workload.what);
+    }
+    line!(out);
+    line!(out, "| workload | proved | independent | libvterm | C floor |");
+    line!(out, "|---|---|---|---|---|");
+    for row in rows {
+        let beside = |time: Option<f64>| time.map_or("-".to_string(), |time| format!("{time:.2} ({:.2})", time / row.proved));
+        line!(
+            out,
+            "| {} | {:.2} | {} | {} | {} |",
+            row.name,
+            row.proved,
+            beside(Some(row.independent)),
+            beside(row.libvterm),
+            beside(row.floor)
+        );
+    }
+    line!(out);
+    line!(
+        out,
+        "libvterm has the first two in its own sequences, and a byte is one of those; it has no protected fields and no split page."
+    );
+    line!(out, "At the end all pages of a workload are the same.");
+    line!(out);
+}
+
+fn growth_table(out: &mut String) {
+    line!(out, "## As the input grows");
+    line!(out);
+    line!(out, "Nanoseconds a host byte of the proved terminal.");
+    line!(out);
+    line!(out, "| workload | {} |", GROWTH.map(|size| format!("{} MB", size / 1_000_000)).join(" | "));
+    line!(out, "|---|---|---|---|");
+    for workload in &WORKLOADS {
+        let stream = workload.stream(GROWTH[2]).wy50;
+        let times = GROWTH.map(|size| (0..ROUNDS).fold(f64::MAX, |least, _| least.min(timed(&stream[..size], peers::proved).0)));
+        line!(out, "| {} | {} |", workload.name, times.map(|time| format!("{time:.2}")).join(" | "));
+    }
+    line!(out);
+}
+
+fn singles_table(out: &mut String, singles: &[Single]) {
+    line!(out, "## Single calls");
+    line!(out);
+    line!(out, "Nanoseconds a call. Each checks the whole state, the 32 keys too.");
+    line!(out);
+    line!(out, "| call | no key programmed | every key full |");
+    line!(out, "|---|---|---|");
+    for single in singles {
+        line!(out, "| {} | {:.0} | {:.0} |", single.name, single.empty, single.full);
+    }
+    line!(out);
+}
+
+fn targets(out: &mut String, rows: &[Row], singles: &[Single]) {
+    line!(out, "## Targets");
+    line!(out);
+    line!(out, "| target | measured | |");
+    line!(out, "|---|---|---|");
+    let mut target =
+        |what: &str, measured: String, met: bool| line!(out, "| {what} | {measured} | {} |", if met { "met" } else { "missed" });
+    for row in rows {
+        if let Some(time) = row.libvterm {
+            let ratio = time / row.proved;
+            target(&format!("{}: at least 3 times as fast as libvterm", row.name), format!("{ratio:.1}"), ratio >= 3.0);
+        }
+        if let Some(time) = row.floor {
+            let ratio = row.proved / time;
+            target(&format!("{}: within 3 times the C floor", row.name), format!("{ratio:.2}"), ratio <= 3.0);
+        }
+        let ratio = row.independent / row.proved;
+        target(&format!("{}: no slower than the independent implementation", row.name), format!("{ratio:.2}"), ratio >= 1.0);
+    }
+    for single in singles {
+        target(&format!("{}: at most {} ns", single.name, single.most), format!("{:.0}", single.full), single.full <= single.most);
+    }
+}
+
+fn machine() -> String {
+    let cpus = std::fs::read_to_string("/proc/cpuinfo").unwrap_or_default();
+    let model = cpus.lines().find_map(|line| line.strip_prefix("model name")).map_or("", |rest| rest.trim_start_matches([' ', '\t', ':']));
+    format!("{model}, {} processors, {}", cpus.lines().filter(|line| line.starts_with("processor")).count(), said("uname", &["-sm"]))
+}
+
+/// The first line that a command says.
+fn said(command: &str, words: &[&str]) -> String {
+    let output = Command::new(command).args(words).output().map(|output| output.stdout).unwrap_or_default();
+    String::from_utf8_lossy(&output).lines().next().unwrap_or("unknown").to_string()
+}

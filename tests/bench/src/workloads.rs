@@ -1,0 +1,154 @@
+//! The host streams that are timed. Each is made of rounds, from a seed that does not change.
+
+use wy50::{COLUMNS, ROWS};
+
+/// The same rounds for the WY-50 and, where libvterm has them, in its own sequences.
+#[derive(Default)]
+pub struct Stream {
+    pub wy50: Vec<u8>,
+    pub ansi: Vec<u8>,
+}
+
+pub struct Workload {
+    pub name: &'static str,
+    pub what: &'static str,
+    pub translated: bool,
+    start: fn(&mut Writer),
+    round: fn(&mut Writer),
+}
+
+pub const WORKLOADS: [Workload; 4] = [
+    Workload { name: "text", what: "lines of 20 to 79 characters, which scroll", translated: true, start: nothing, round: line },
+    Workload { name: "addressed", what: "ESC = and 4 to 40 characters", translated: true, start: nothing, round: addressed },
+    Workload {
+        name: "form",
+        what: "a protected form with 16 fields of 24 cells: each filled with 4 to 22 characters and left by 09h, all asked with ESC 5",
+        translated: false,
+        start: draw_form,
+        round: fill_form,
+    },
+    Workload {
+        name: "edits",
+        what: "ESC =, an edit (ESC Q W E R), a clear (ESC T Y t y ; :) or a split (ESC x J), and 4 to 20 characters",
+        translated: false,
+        start: nothing,
+        round: edit,
+    },
+];
+
+impl Workload {
+    /// Rounds of at least `size` bytes for the WY-50.
+    pub fn stream(&self, size: usize) -> Stream {
+        let mut writer = Writer { stream: Stream::default(), random: Random(0x2545_F491_4F6C_DD1D) };
+        (self.start)(&mut writer);
+        while writer.stream.wy50.len() < size {
+            (self.round)(&mut writer);
+        }
+        writer.stream
+    }
+}
+
+const FIRST_FIELD_ROW: usize = 4;
+const FIELDS: usize = 16;
+const FIELD_COLUMN: usize = 20;
+const FIELD_CELLS: usize = 24;
+
+fn nothing(_: &mut Writer) {}
+
+fn line(w: &mut Writer) {
+    w.text(20, 79);
+    w.both(b"\r\n");
+}
+
+fn addressed(w: &mut Writer) {
+    let length = w.random.from_to(4, 40);
+    let (row, column) = (w.random.from_to(0, ROWS - 1), w.random.from_to(0, COLUMNS - 1 - length));
+    w.address(row, column);
+    w.text(length, length);
+}
+
+fn draw_form(w: &mut Writer) {
+    w.only(b"\x1b)");
+    for row in 0..ROWS {
+        w.address(row, 0);
+        w.text(COLUMNS - 1, COLUMNS - 1);
+    }
+    w.only(b"\x1b(");
+    for field in 0..FIELDS {
+        w.address(FIRST_FIELD_ROW + field, FIELD_COLUMN);
+        w.only(&[b' '; FIELD_CELLS]);
+    }
+    w.only(b"\x1b&");
+}
+
+fn fill_form(w: &mut Writer) {
+    w.only(b"\x1e");
+    w.text(4, FIELD_CELLS - 2);
+    for _ in 1..FIELDS {
+        w.only(b"\t");
+        w.text(4, FIELD_CELLS - 2);
+    }
+    w.only(b"\x1b5");
+}
+
+fn edit(w: &mut Writer) {
+    const SIMPLE: &[u8] = b"QWERQWERTYty;:J";
+    let (row, column) = (w.random.from_to(0, ROWS - 1), w.random.from_to(0, COLUMNS - 1));
+    w.address(row, column);
+    match SIMPLE.get(w.random.below(SIMPLE.len() + 2)) {
+        Some(&code) => w.only(&[0x1b, code]),
+        None => {
+            let row = w.random.from_to(0x21, 0x37) as u8;
+            let splits: [&[u8]; 2] = [b"\x1bx0", &[0x1b, b'x', b'1', row]];
+            let one = w.random.below(2);
+            w.only(splits[one]);
+        }
+    }
+    w.text(4, 20);
+}
+
+struct Writer {
+    stream: Stream,
+    random: Random,
+}
+
+impl Writer {
+    fn both(&mut self, bytes: &[u8]) {
+        self.stream.wy50.extend_from_slice(bytes);
+        self.stream.ansi.extend_from_slice(bytes);
+    }
+
+    /// For the WY-50 alone.
+    fn only(&mut self, bytes: &[u8]) {
+        self.stream.wy50.extend_from_slice(bytes);
+    }
+
+    fn text(&mut self, shortest: usize, longest: usize) {
+        for _ in 0..self.random.from_to(shortest, longest) {
+            let letter = if self.random.below(6) == 0 { b' ' } else { b'a' + self.random.below(26) as u8 };
+            self.both(&[letter]);
+        }
+    }
+
+    /// Row and column count from 0.
+    fn address(&mut self, row: usize, column: usize) {
+        self.only(&[0x1b, b'=', 0x20 + row as u8, 0x20 + column as u8]);
+        self.stream.ansi.extend_from_slice(format!("\x1b[{};{}H", row + 1, column + 1).as_bytes());
+    }
+}
+
+/// Marsaglia's xorshift.
+struct Random(u64);
+
+impl Random {
+    fn below(&mut self, n: usize) -> usize {
+        self.0 ^= self.0 << 13;
+        self.0 ^= self.0 >> 7;
+        self.0 ^= self.0 << 17;
+        (self.0 >> 32) as usize % n
+    }
+
+    fn from_to(&mut self, least: usize, most: usize) -> usize {
+        least + self.below(most - least + 1)
+    }
+}
