@@ -2,22 +2,17 @@
 --     written-none, written-more, written-all    a list that is written from the front
 --     apart, alike                               two lists that are compared
 --     spaces-more, no-space                      a text whose trailing spaces are dropped
---     clash                                      a test that cannot be both
 -- Assumes nothing.
 use mathlib.Core.Path.{_≡_, refl, _∙_}
-use mathlib.Core.Bool.{Bool, true, false, not}
+use mathlib.Core.Bool.{true, false}
 use mathlib.Core.List.{List}
 use mathlib.Core.Logic.{⊎-elim}
 use Prim.Native.Nat.{ℕ, _+_, _-_, _≤_, _<_}
 use native.Mathlib.Nat.{eq-or-lt-of-le}
 use native.Mathlib.Omega.{arith}
-use borrow.Author.Tests.{not-true}
 use lib.ListN.{length, getD, set}
 use lib.Seq.{getD-set-same, getD-set-other, ext-getD}
 use Rattle.alert.specs.Cells.{Same}
-
-pub clash : (a b : Bool) → not a ≡ true → a ≡ b → b ≡ true → ⊥
-clash a b n e t = let f = not-true a n in let z : _≡_ {A = ℕ} 0 1 = cc in omega arith
 
 -- l has g k at each place k below i
 abbrev pub Written : (ℕ → ℕ) → ℕ → List ℕ → Type 0

@@ -3,6 +3,7 @@ use Prim.Native.Nat.{ℕ, _+_, _≤_, _<_}
 use mathlib.Core.Path.{_≡_}
 use mathlib.Core.Bool.{Bool, true, false}
 use mathlib.Core.List.{List}
+use lib.Dec.{eqb}
 use lib.ListN.{length, getD}
 use Rattle.rules.specs.Cell.{pick, guarded, isOpen, sent}
 
@@ -32,7 +33,12 @@ pub record Trimmed (text : List ℕ) (r : ℕ) : Type 0 where
   pub spaces : (k : ℕ) → r ≤ k → k < length text → getD text k 0 ≡ 32
   pub last : (k : ℕ) → r ≡ k + 1 → getD text k 0 ≡ 32 → ⊥
 
--- below r each cell that was guarded is as it was
+-- a cell that was guarded is as it was
+abbrev pub kept : Bool → ℕ → ℕ → Bool
+kept on was is = pick (guarded on was) (eqb is was) true
+
+-- below r each cell is kept; r is the first that is not, or the list ends there
 pub record Kept (on : Bool) (was is : List ℕ) (r : ℕ) : Type 0 where
   pub most : r ≤ length is
-  pub all : (k : ℕ) → k < r → guarded on (getD was k 0) ≡ true → getD is k 0 ≡ getD was k 0
+  pub all : (k : ℕ) → k < r → kept on (getD was k 0) (getD is k 0) ≡ true
+  pub ends : r < length is → kept on (getD was r 0) (getD is r 0) ≡ false

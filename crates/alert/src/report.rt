@@ -1,11 +1,9 @@
 // What is told beside the page: the cursor, the modes, the guarded cells, what was refused, and the replies.
 ghost use mathlib.Core.Path.{_≡_};
-ghost use mathlib.Core.Bool.{true};
 ghost use Prim.Native.Nat.{_≤_};
 ghost use lib.ListN.{length};
-ghost use Rattle.rules.specs.Cell.{guarded};
 ghost use Rattle.rules.specs.State.{cursorOf};
-ghost use Rattle.alert.specs.Cells.{Kept};
+ghost use Rattle.alert.specs.Cells.{kept, Kept};
 use crate::out;
 use crate::stream::Played;
 use crate::stream::Refusals;
@@ -120,12 +118,13 @@ fn guarded_cells(page: &[u16], protect: bool) -> u64 {
 
 // Whether a cell that was guarded is as it was; any other cell is.
 fn is_kept(protect: bool, was: u16, is: u16) -> bool
-    ensures { λ r. ⌜ (r ≡ true → guarded protect was ≡ true → is ≡ was) ⌝ }
+    ensures { λ r. ⌜ r ≡ kept protect was is ⌝ }
 {
-    if is == was {
-        return true;
+    if is_guarded(protect, was) {
+        is == was
+    } else {
+        true
     }
-    !is_guarded(protect, was)
 }
 
 // The first cell that was guarded and has changed, or the page's length.

@@ -36,7 +36,14 @@ copy-spec =
     -- loop-less
     (λ c. search needs)
     -- loop-again
-    (λ c. (search needs, (search needs, written-more (λ k. getD (now (c .before .before .before .args .from)) k 0) (c .before .before .loop .i) _ (c .before .before .loop .to) (c .before .before .loop .inv .1 .1) (omega arith) refl)))
+    (λ c. (
+      search needs,
+      (
+        search needs,
+        written-more (λ k. getD (now (c .before .before .before .args .from)) k 0)
+            (c .before .before .loop .i) _ (c .before .before .loop .to) (c .before .before .loop .inv .1 .1) (omega arith) refl,
+      ),
+    ))
     -- same-length
     (λ c. search needs)
     -- returns

@@ -28,12 +28,21 @@ trimmed-spec =
     -- shared-slice-read-if1
     (λ c. search needs)
     -- returns
-    (λ c. record { most = search needs; spaces = c .before .before .before .loop .inv .1; last = no-space (now (c .before .before .before .before .args .text)) _ (c .if1 .taken) })
+    (λ c. record {
+      most = search needs;
+      spaces = c .before .before .before .loop .inv .1;
+      last = no-space
+          (now (c .before .before .before .before .args .text)) _ (c .if1 .taken);
+    })
     -- sub-n
     (λ c. search needs)
     -- loop-less
     (λ c. search needs)
     -- loop-again
-    (λ c. (search needs, spaces-more (now (c .before .before .before .before .args .text)) _ (c .before .before .before .loop .inv .1) (c .before .before .loop-test .taken) (c .if1 .left)))
+    (λ c. (
+      search needs,
+      spaces-more (now (c .before .before .before .before .args .text)) _ (c .before .before .before .loop .inv .1)
+          (c .before .before .loop-test .taken) (c .if1 .left),
+    ))
     -- returns-2
     (λ c. record { most = search needs; spaces = λ k a. c .before .loop .inv .1 k (omega arith); last = λ k e s. omega arith }))

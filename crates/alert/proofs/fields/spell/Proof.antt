@@ -23,7 +23,14 @@ spell-spec =
     Inv-loop
     μ-loop
     -- loop-holds
-    (λ c. (search needs, (search needs, written-none (λ k. sent (getD (now (c .before .before .args .cells)) k 0)) (now (c .before .before .args .text)))))
+    (λ c. (
+      search needs,
+      (
+        search needs,
+        written-none (λ k. sent (getD (now (c .before .before .args .cells)) k 0))
+            (now (c .before .before .args .text)),
+      ),
+    ))
     -- mul-sent-code
     (λ c. search needs)
     -- shared-slice-read-sent-code
@@ -37,7 +44,15 @@ spell-spec =
     -- loop-less
     (λ c. search needs)
     -- loop-again
-    (λ c. (search needs, (search needs, written-more (λ k. sent (getD (now (c .before .before .before .before .before .before .args .cells)) k 0)) (c .before .before .before .loop .i) _ (c .before .before .before .loop .text) (c .before .before .before .loop .inv .1 .1) (omega arith) (c .sent-code .ensures))))
+    (λ c. (
+      search needs,
+      (
+        search needs,
+        written-more (λ k. sent
+            (getD (now (c .before .before .before .before .before .before .args .cells)) k 0)) (c .before .before .before .loop .i) _
+            (c .before .before .before .loop .text) (c .before .before .before .loop .inv .1 .1) (omega arith) (c .sent-code .ensures),
+      ),
+    ))
     -- same-length
     (λ c. search needs)
     -- returns

@@ -32,12 +32,25 @@ stretch-end-spec =
     -- is-like-requires
     (λ c κs. search needs)
     -- returns
-    (λ c. record { low = search needs; most = search needs; all = c .before .before .before .before .loop .inv .1 .1; ends = λ _. sym (c .before .is-like .ensures) ∙ not-true _ (c .if1 .taken) })
+    (λ c. record {
+      low = search needs;
+      most = search needs;
+      all = c .before .before .before .before .loop .inv .1 .1;
+      ends = λ _. sym
+          (c .before .is-like .ensures) ∙ not-true _ (c .if1 .taken);
+    })
     -- add-i
     (λ c. search needs)
     -- loop-less
     (λ c. search needs)
     -- loop-again
-    (λ c. (search needs, (search needs, below-more _ _ (c .before .before .before .before .loop .inv .1 .1) (λ _. sym (c .before .is-like .ensures) ∙ not-false _ (c .if1 .left)))))
+    (λ c. (
+      search needs,
+      (
+        search needs,
+        below-more _ _ (c .before .before .before .before .loop .inv .1 .1)
+            (λ _. sym (c .before .is-like .ensures) ∙ not-false _ (c .if1 .left)),
+      ),
+    ))
     -- returns-2
     (λ c. record { low = search needs; most = search needs; all = c .before .loop .inv .1 .1; ends = λ h. absurd (omega arith) }))

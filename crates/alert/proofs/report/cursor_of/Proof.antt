@@ -14,4 +14,12 @@ unfolding cursorOf
 returns-2 c = simp (ne-eqb _ _ (c .before .if1 .left))
 
 pub cursor-of-spec : {M : Type 1} → statement M
-cursor-of-spec = tie.close (tie.spec (λ c. search needs) returns (λ c. search needs) returns-2)
+cursor-of-spec = tie.close (tie.spec
+    -- cast-result
+    (λ c. search needs)
+    -- returns
+    returns
+    -- cast-result-2
+    (λ c. search needs)
+    -- returns-2
+    returns-2)

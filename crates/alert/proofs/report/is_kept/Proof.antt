@@ -1,5 +1,5 @@
 -- `alert::report::is_kept` meets its contract.
-use Rattle.alert.proofs.Loops.{clash}
+use mathlib.Core.Path.{sym, _∙_, refl}
 use borrow.Author.Needs.{needs}
 use Rattle.alert.proofs.report.is_kept.Statement.{statement}
 use Rattle.alert.proofs.report.is_kept.Tie as tie
@@ -8,9 +8,9 @@ pub is-kept-spec : {M : Type 1} → statement M
 is-kept-spec =
     tie.close
     (tie.spec
-    -- returns
-    (λ c. λ _ _. c .if1 .taken)
     -- is-guarded-requires
     (λ c κs. search needs)
+    -- returns
+    (λ c. rw (sym (c .before .is-guarded .ensures) ∙ c .if1 .taken) refl)
     -- returns-2
-    (λ c. λ t g. absurd (clash _ _ t (c .is-guarded .ensures) g)))
+    (λ c. rw (sym (c .before .is-guarded .ensures) ∙ c .if1 .left) refl))

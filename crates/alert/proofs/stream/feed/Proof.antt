@@ -28,11 +28,18 @@ feed-spec =
     -- obey-requires
     (λ c κs. search needs)
     -- add-i
-    (λ c. let t = c .before .before .before .before .before .before .before .before .before .before .before .before .before .before .before .before .before in omega (arith, t .loop-test .taken, t .before .before .before .before .before .before .before .before .good .1 .1 .1 .1 .0 .0))
+    (λ c.
+    let t =
+    c .before .before .before .before .before .before .before .before .before .before .before .before .before .before .before .before .before
+    in
+    omega (arith, t .loop-test .taken, t .before .before .before .before .before .before .before .before .good .1 .1 .1 .1 .0 .0))
     -- loop-less
     (λ c. search needs)
     -- loop-again
-    (λ c. let o = c .before .before .before .before .before .before .before .before .before .before in let t = o .before .before .before .before .before .before .before in omega (arith, o .obey .kept, t .loop-test .taken, t .before .loop .inv))
+    (λ c.
+    let o = c .before .before .before .before .before .before .before .before .before .before in
+    let t = o .before .before .before .before .before .before .before in
+    omega (arith, o .obey .kept, t .loop-test .taken, t .before .loop .inv))
     -- same-length
     (λ c. search needs)
     -- same-length-2

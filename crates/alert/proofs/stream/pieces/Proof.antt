@@ -24,11 +24,19 @@ pieces-spec =
     -- piece-requires
     (λ c κs. search needs)
     -- sub-left
-    (λ c. omega (arith, c .before .before .before .before .before .before .before .before .before .before .before .before .before .before .before .before .before .before .loop-test .taken))
+    (λ c. omega (
+      arith,
+      c .before .before .before .before .before .before .before .before .before .before .before .before .before .before .before .before .before .before .loop-test .taken,
+    ))
     -- loop-less
-    (λ c. omega (arith, c .before .before .before .before .before .before .before .before .before .before .before .before .before .before .before .before .before .before .loop-test .taken))
+    (λ c. omega (
+      arith,
+      c .before .before .before .before .before .before .before .before .before .before .before .before .before .before .before .before .before .before .loop-test .taken,
+    ))
     -- loop-again
-    (λ c. let o = c .before .before .before .before .before .before .before .before .before .before .before .before in omega (arith, o .piece .kept, o .before .before .before .before .before .before .before .loop .inv))
+    (λ c.
+    let o = c .before .before .before .before .before .before .before .before .before .before .before .before in
+    omega (arith, o .piece .kept, o .before .before .before .before .before .before .before .loop .inv))
     -- same-length
     (λ c. search needs)
     -- same-length-2
@@ -42,14 +50,24 @@ pieces-spec =
     -- returns
     (λ c. search needs)
     -- same-length-6
-    (λ c. let o = c .before .before .before .before .before .before .before .before .before .before .before .before in omega (arith, o .piece .kept, o .before .before .before .before .before .before .before .loop .inv))
+    (λ c.
+    let o = c .before .before .before .before .before .before .before .before .before .before .before .before in
+    omega (arith, o .piece .kept, o .before .before .before .before .before .before .before .loop .inv))
     -- same-length-7
-    (λ c. let o = c .before .before .before .before .before .before .before .before .before .before .before .before in omega (arith, o .piece .kept, o .before .before .before .before .before .before .before .loop .inv))
+    (λ c.
+    let o = c .before .before .before .before .before .before .before .before .before .before .before .before in
+    omega (arith, o .piece .kept, o .before .before .before .before .before .before .before .loop .inv))
     -- same-length-8
-    (λ c. let o = c .before .before .before .before .before .before .before .before .before .before .before .before in omega (arith, o .piece .kept, o .before .before .before .before .before .before .before .loop .inv))
+    (λ c.
+    let o = c .before .before .before .before .before .before .before .before .before .before .before .before in
+    omega (arith, o .piece .kept, o .before .before .before .before .before .before .before .loop .inv))
     -- same-length-9
-    (λ c. let o = c .before .before .before .before .before .before .before .before .before .before .before .before in omega (arith, o .piece .kept, o .before .before .before .before .before .before .before .loop .inv))
+    (λ c.
+    let o = c .before .before .before .before .before .before .before .before .before .before .before .before in
+    omega (arith, o .piece .kept, o .before .before .before .before .before .before .before .loop .inv))
     -- same-length-10
-    (λ c. let o = c .before .before .before .before .before .before .before .before .before .before .before .before in omega (arith, o .piece .kept, o .before .before .before .before .before .before .before .loop .inv))
+    (λ c.
+    let o = c .before .before .before .before .before .before .before .before .before .before .before .before in
+    omega (arith, o .piece .kept, o .before .before .before .before .before .before .before .loop .inv))
     -- returns-2
     (λ c. search needs))

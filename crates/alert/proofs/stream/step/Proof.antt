@@ -19,9 +19,13 @@ step-spec =
     -- wrapping-add-u64-requires-2
     (λ c κs. search needs)
     -- slice-reshare-prefix-keep
-    (λ c. let s = c .before .before .before .before .before .before .before .before .before .before .step in omega (arith, s .ensures .fits, s .kept))
+    (λ c.
+    let s = c .before .before .before .before .before .before .before .before .before .before .step in
+    omega (arith, s .ensures .fits, s .kept))
     -- slice-aggregate-keep
-    (λ c. let s = c .before .before .before .before .before .before .before .before .before .before .before .step in sym (length-take-le _ _ (omega (arith, s .ensures .fits, s .kept))))
+    (λ c.
+    let s = c .before .before .before .before .before .before .before .before .before .before .before .step in
+    sym (length-take-le _ _ (omega (arith, s .ensures .fits, s .kept))))
     -- keep-requires
     (λ c κs. search needs)
     -- same-length
