@@ -56,7 +56,7 @@ pub fn power_on(page: &mut [u16]) -> PowerOn
     }
 }
 
-// The single step. Ruled out: one that keeps the low seven bits of E9h, or moves the cursor before the second address byte.
+// The single step. Ruled out: one that obeys E9h, or answers 0 to what it refuses.
 pub fn step(page: &mut [u16], state: State, byte: u8, reply: &mut [u8]) -> StepResult
     ensures { λ r. ⌜ Stepped (stepRule (now (page .entry)) state byte (length (now (reply .entry)))) r (now (page .exit)) (now (reply .entry)) (now (reply .exit)) ⌝ }
 {
@@ -82,7 +82,7 @@ pub fn step(page: &mut [u16], state: State, byte: u8, reply: &mut [u8]) -> StepR
     }
 }
 
-// The run over many bytes. Ruled out: one that obeys the first byte and idles after it, or counts the byte that answered 6 as taken.
+// The run over many bytes. Ruled out: one that takes no byte, or counts the byte that answered 6 as taken.
 pub fn run(page: &mut [u16], state: State, input: &[u8], reply: &mut [u8]) -> RunResult
     ensures { λ r. ⌜ Completed (runRule (now (page .entry)) state (now (input .entry)) (length (now (reply .entry)))) r (now (input .entry)) (now (page .exit)) (now (reply .entry)) (now (reply .exit)) ⌝ }
 {
@@ -112,7 +112,7 @@ pub fn run(page: &mut [u16], state: State, input: &[u8], reply: &mut [u8]) -> Ru
 }
 
 // The bytes that a run did not take, as that part of the input; past its end there are none. Ruled out: one that hands back the bytes
-// taken, or drops the byte that answered 6.
+// taken, or none.
 pub fn rest(input: &[u8], taken: usize) -> &[u8]
     ensures { λ r. ⌜ now r ≡ drop taken (now (input .entry)) ⌝ }
 {

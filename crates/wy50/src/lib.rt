@@ -29,7 +29,7 @@ use terminal::step;
 use unpack::is_named;
 use unpack::unpack;
 
-// All cells 0, and the power-on state's numbers.
+// All cells 0, and the power-on state's numbers. Ruled out: one that gives a mode or a cursor for another.
 #[no_mangle]
 pub extern "C" fn wy50_power_on(page: &mut [u16]) -> RawPowerOn
     ensures { λ r. ⌜ PoweredOn (raw (powerOnRule (now (page .entry)))) r (now (page .exit)) ⌝ }
@@ -43,7 +43,7 @@ pub extern "C" fn wy50_power_on(page: &mut [u16]) -> RawPowerOn
     }
 }
 
-// The single step. Ruled out: one that reads a mode of 2 as on, or gives an impossible state back changed.
+// The single step. Ruled out: one that reads a mode of 2 as off, or obeys another byte.
 #[no_mangle]
 pub extern "C" fn wy50_step(
     page: &mut [u16],
@@ -71,7 +71,7 @@ pub extern "C" fn wy50_step(
 }
 
 // The run over many bytes. The bytes not taken start at `taken` of the input. Ruled out: one that loses the sequence under way between two
-// calls.
+// calls, or gives one count for another.
 #[no_mangle]
 pub extern "C" fn wy50_run(
     page: &mut [u16],
@@ -102,7 +102,7 @@ pub extern "C" fn wy50_run(
     }
 }
 
-// The key press. Ruled out: one that sends the bytes of the key beside.
+// The key press. Ruled out: one that presses another key, or takes a tab stop of 2.
 #[no_mangle]
 pub extern "C" fn wy50_press(page: &[u16], state: RawState, key: u8, reply: &mut [u8]) -> RawPress
     ensures { λ r. ⌜ Sent (rawPress (now (page .entry)) state key (length (now (reply .entry)))) r (now (reply .entry)) (now (reply .exit)) ⌝ }
