@@ -51,7 +51,8 @@ module _ (on : Bool) (l : List ℕ) (i : ℕ) where
   pub cells-length : i < length l → length (cellsText on (drop i l)) ≡ length (openCell on (getD l i 0)) + length (cellsText on (drop (i + 1) l))
   cells-length h = ap length (cells-step h) ∙ length-append (openCell on (getD l i 0)) (cellsText on (drop (i + 1) l))
 
-  pub cells-put : (n : ℕ) {n′ : ℕ} (r : List ℕ) {r′ : List ℕ} → i < length l → n′ ≡ n + length (openCell on (getD l i 0)) → r′ ≡ stored n (openCell on (getD l i 0)) r
+  pub cells-put : (n : ℕ) {n′ : ℕ} (r : List ℕ) {r′ : List ℕ} → i < length l → n′ ≡ n + length (openCell on (getD l i 0))
+      → r′ ≡ stored n (openCell on (getD l i 0)) r
       → stored n′ (cellsText on (drop (i + 1) l)) r′ ≡ stored n (cellsText on (drop i l)) r
   cells-put n {n′} r {r′} h en er =
       let x = openCell on (getD l i 0) in

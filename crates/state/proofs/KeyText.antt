@@ -44,7 +44,9 @@ module _ (n : ℕ) (l t : List ℕ) (i : ℕ) (h : n ≤ i) (k : i < 8) (e : len
   pub zero-step : take i t ≡ take i (padded n l) → take (i + 1) (set t i 0) ≡ take (i + 1) (padded n l)
   zero-step g =
       let p : length (padded n l) ≡ n + 8 = length-append (take n l) (replicate 8 0) ∙ ap (λ (m : ℕ). m + 8) (length-take-le n l (omega arith)) in
-      rw add-one (take-suc-set t i 0 (omega arith) ∙ ap (λ (r : List ℕ). r ++ 0 ∷ []) g ∙ ap (λ (x : ℕ). take i (padded n l) ++ x ∷ []) (sym padded-zero) ∙ sym (take-suc (padded n l) i 0 (omega arith)))
+      rw add-one (
+      take-suc-set t i 0 (omega arith) ∙ ap (λ (r : List ℕ). r ++ 0 ∷ []) g
+      ∙ ap (λ (x : ℕ). take i (padded n l) ++ x ∷ []) (sym padded-zero) ∙ sym (take-suc (padded n l) i 0 (omega arith)))
 
 -- a byte is written where the zeros begin
 behind : (l : List ℕ) (b : ℕ) → length l < 8 → set (take 8 (l ++ replicate 8 0)) (length l) b ≡ take 8 (l ++ b ∷ [] ++ replicate 8 0)

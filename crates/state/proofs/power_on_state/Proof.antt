@@ -10,5 +10,7 @@ unfolding powerOn
 power-on-state-spec =
     tie.close
     (tie.spec
+    -- no-key-requires
     (λ c κs. search needs)
+    -- returns
     (λ c. rw (c .no-key .ensures)))

@@ -7,6 +7,9 @@ pub is-guarded-spec : {M : Type 1} → statement M
 is-guarded-spec =
     tie.close
     (tie.spec
+    -- is-protected-requires
     (λ c κs. search needs)
+    -- returns
     (λ c. rw (c .before .if1 .taken) (c .is-protected .ensures))
+    -- returns-2
     (λ c. search needs))

@@ -9,5 +9,7 @@ pub is-open-spec : {M : Type 1} → statement M
 is-open-spec =
     tie.close
     (tie.spec
+    -- is-guarded-requires
     (λ c κs. search needs)
+    -- returns
     (λ c. ap not (c .is-guarded .ensures)))

@@ -24,18 +24,32 @@ fill-spec =
     (tie.spec
     Inv-loop
     μ-loop
+    -- loop-holds
     (λ c. let x = c .before .args in (omega arith, joined-start (length-filled (x .protect) (x .value) (now (x .part)))))
+    -- mul-filled-cell
     (λ c. search needs)
+    -- slice-read-filled-cell
     (λ c. search needs)
+    -- filled-cell-requires
     (λ c κs. search needs)
+    -- mul-part
     (λ c. search needs)
+    -- slice-write-part
     (λ c. search needs)
+    -- add-i
     (λ c. search needs)
+    -- loop-less
     (λ c. search needs)
+    -- loop-again
     (λ c.
     let x = c .before .before .before .before .before .args in
     let l = c .before .before .before .loop in
-    let j = l .inv .1 in
-    (omega arith, step-up j (omega arith) (c .filled-cell .ensures ∙ ap (fillCell (x .protect) (x .value)) (j .above (l .i) (omega arith)) ∙ sym (filled-at (x .protect) (x .value) (now (x .part)) (l .i) (omega arith)))))
+    let j = l .inv .1 in (
+      omega arith,
+      step-up j (omega arith) (c .filled-cell .ensures ∙ ap (fillCell (x .protect) (x .value)) (j .above (l .i) (omega arith))
+          ∙ sym (filled-at (x .protect) (x .value) (now (x .part)) (l .i) (omega arith))),
+    ))
+    -- same-length
     (λ c. search needs)
+    -- returns
     (λ c. joined-all (c .before .loop .inv .1) (omega arith)))

@@ -11,12 +11,20 @@ pub fill-cell-spec : {M : Type 1} → statement M
 fill-cell-spec =
     tie.close
     (tie.spec
+    -- mul-filled-cell
     (λ c. search needs)
+    -- slice-read-filled-cell
     (λ c. search needs)
+    -- filled-cell-requires
     (λ c κs. search needs)
+    -- mul-page
     (λ c. search needs)
+    -- slice-write-page
     (λ c. search needs)
+    -- same-length
     (λ c. search needs)
+    -- returns
     (λ c.
     let x = c .before .before .before .args in
-    ap (set (now (x .page)) (x .at)) (c .filled-cell .ensures) ∙ one-filled (x .protect) (x .value) (now (x .page)) (x .at) (c .before .before .before .pre)))
+    ap (set (now (x .page)) (x .at)) (c .filled-cell .ensures)
+    ∙ one-filled (x .protect) (x .value) (now (x .page)) (x .at) (c .before .before .before .pre)))

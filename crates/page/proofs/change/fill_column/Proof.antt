@@ -12,7 +12,8 @@ use Rattle.page.proofs.change.fill_column.Tie as tie
 
 abbrev Inv-loop : tie.InvT-loop
 Inv-loop page₀ width protect top bottom column value row₀ page row =
-    (top ≤ row) × ((row ≤ bottom) × ((length page ≡ length page₀) × (columnFilled width protect value column (bottom - top) top page₀ ≡ columnFilled width protect value column (bottom - row) row page)))
+    (top ≤ row) × ((row ≤ bottom) × ((length page ≡ length page₀)
+    × (columnFilled width protect value column (bottom - top) top page₀ ≡ columnFilled width protect value column (bottom - row) row page)))
 
 abbrev μ-loop : tie.MeasureT-loop
 μ-loop page₀ width protect top bottom column value row₀ page row = bottom - row
@@ -24,31 +25,52 @@ fill-column-spec =
     (tie.spec
     Inv-loop
     μ-loop
+    -- loop-holds
     (λ c. search needs)
+    -- mul-fill-cell
     (λ c.
     let x = c .before .before .before .before .args in
     let k = c .before .before .before .before .pre in
     let l = c .before .before .loop in
     let i = cell-inside (k .0) {row = l .row} (omega arith) (k .1 .1 .1 .0) in
     omega (arith, page-small (k .0)))
+    -- add-fill-cell
     (λ c.
     let x = c .before .before .before .before .args in
     let k = c .before .before .before .before .pre in
     let l = c .before .before .loop in
     let i = cell-inside (k .0) {row = l .row} (omega arith) (k .1 .1 .1 .0) in
     omega (arith, page-small (k .0)))
+    -- fill-cell-requires
     (λ c κs.
     let x = c .before .before .before .before .args in
     let k = c .before .before .before .before .pre in
     let l = c .before .before .loop in
     let i = cell-inside (k .0) {row = l .row} (omega arith) (k .1 .1 .1 .0) in
     omega arith)
+    -- add-row
     (λ c. search needs)
+    -- loop-less
     (λ c. search needs)
+    -- loop-again
     (λ c.
     let x = c .before .before .before .before .before .before .before .args in
     let l = c .before .before .before .before .before .loop in
-    let f = c .before .before .fill-cell in
-    (omega arith, (omega arith, (f .kept .0 ∙ l .inv .1 .1 .0, l .inv .1 .1 .1 ∙ column-step (x .width) (x .protect) (x .value) (x .column) (l .row) (x .bottom) (l .page) (omega arith) ∙ ap (columnFilled (x .width) (x .protect) (x .value) (x .column) (x .bottom - (l .row + 1)) (l .row + 1)) (sym (f .ensures))))))
+    let f = c .before .before .fill-cell in (
+      omega arith,
+      (
+        omega arith,
+        (
+          f .kept .0 ∙ l .inv .1 .1 .0,
+          l .inv .1 .1 .1
+              ∙ column-step (x .width) (x .protect) (x .value) (x .column) (l .row) (x .bottom) (l .page) (omega arith)
+              ∙ ap (columnFilled (x .width) (x .protect) (x .value) (x .column) (x .bottom - (l .row + 1)) (l .row + 1)) (sym (f .ensures)),
+        ),
+      ),
+    ))
+    -- same-length
     (λ c. search needs)
-    (λ c. let e : c .before .before .before .args .bottom - c .before .loop .row ≡ 0 = omega arith in sym (c .before .loop .inv .1 .1 .1 ∙ rw e)))
+    -- returns
+    (λ c.
+    let e : c .before .before .before .args .bottom - c .before .loop .row ≡ 0 = omega arith in
+    sym (c .before .loop .inv .1 .1 .1 ∙ rw e)))

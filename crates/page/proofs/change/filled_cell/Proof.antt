@@ -8,6 +8,9 @@ pub filled-cell-spec : {M : Type 1} → statement M
 filled-cell-spec =
     tie.close
     (tie.spec
+    -- is-guarded-requires
     (λ c κs. search needs)
+    -- returns
     (λ c. rw (sym (c .before .is-guarded .ensures) ∙ c .if1 .taken))
+    -- returns-2
     (λ c. rw (sym (c .before .is-guarded .ensures) ∙ c .if1 .left)))

@@ -10,12 +10,19 @@ pub shift-cells-spec : {M : Type 1} → statement M
 shift-cells-spec =
     tie.close
     (tie.spec
+    -- mul-shift
     (λ c. search needs)
+    -- sub-shift
     (λ c. search needs)
+    -- part-shift-start
     (λ c. search needs)
+    -- part-shift-end
     (λ c. search needs)
+    -- shift-requires
     (λ c κs. search needs)
+    -- same-length
     (λ c. search needs)
+    -- returns
     (λ c.
     let x = c .before .before .before .before .before .args in
     lent (x .from) (x .to) (shifted (x .right) (x .count) (x .value)) (now (x .page)) (c .before .before .shift .ensures)))

@@ -13,12 +13,16 @@ unfolding editShifted
 shift-edit-run-spec =
     tie.close
     (tie.spec
+    -- edit-end-requires
     (λ c κs. search needs)
+    -- shift-cells-requires
     (λ c κs.
     let x = c .before .before .before .before .args in
     let k = c .before .before .before .before .pre in
     let g = guardedAt (x .protect) (now (x .page)) in
     let n = length-guards (x .protect) (now (x .page)) in
     omega (arith, c .before .edit-end .ensures, edit-range (x .width) g (x .at) (k .0) (omega arith) (k .1 .1)))
+    -- same-length
     (λ c. search needs)
+    -- returns
     (λ c. rw (← c .before .before .before .before .edit-end .ensures) (c .before .before .shift-cells .ensures)))

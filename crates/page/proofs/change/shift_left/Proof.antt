@@ -24,28 +24,52 @@ shift-left-spec =
     (tie.spec
     Inv-loop
     μ-loop
+    -- kept-requires
     (λ c κs. search needs)
+    -- loop-holds
     (λ c.
     let x = c .before .before .args in
     (refl, (c .kept .ensures, (omega arith, joined-start (length-left (x .count) (x .value) (now (x .part)))))))
+    -- add-part
     (λ c. search needs)
+    -- mul-part
     (λ c. search needs)
+    -- slice-read-part
     (λ c. search needs)
+    -- mul-part-2
     (λ c. search needs)
+    -- slice-write-part
     (λ c. search needs)
+    -- add-i
     (λ c. search needs)
+    -- loop-less
     (λ c. search needs)
+    -- loop-again
     (λ c.
     let x = c .before .before .before .before .before .args in
     let l = c .before .before .loop in
-    let j = l .inv .1 .1 .1 in
-    (refl, (c .before .before .before .kept .ensures, (omega arith, step-up j (omega arith) (j .above (l .i + x .count) (omega arith) ∙ sym (left-kept (x .count) (x .value) (now (x .part)) (l .i) (omega arith)))))))
+    let j = l .inv .1 .1 .1 in (
+      refl,
+      (
+        c .before .before .before .kept .ensures,
+        (
+          omega arith,
+          step-up j (omega arith) (j .above (l .i + x .count) (omega arith)
+              ∙ sym (left-kept (x .count) (x .value) (now (x .part)) (l .i) (omega arith))),
+        ),
+      ),
+    ))
+    -- fill-cells-requires
     (λ c κs. search needs)
+    -- same-length
     (λ c. search needs)
+    -- returns
     (λ c.
     let x = c .before .before .before .before .before .before .before .before .args in
     let l = c .before .before .before .before .before .loop in
     let j = l .inv .1 .1 .1 in
     let y = now (x .part) in
     let e = c .before .before .before .before .before .before .kept .ensures in
-    c .before .before .fill-cells .ensures ∙ filled-up (c .before .before .before .before .before .before .kept .result) (length y) (x .value) (l .part) (shiftLeft (x .count) (x .value) y) (omega arith) (omega arith) (j .long ∙ sym (j .even)) (λ i b. j .below i (omega arith)) (λ i b d. left-new (x .count) (x .value) y i d (omega arith)) (λ i b d. absurd (omega arith))))
+    c .before .before .fill-cells .ensures ∙ filled-up (c .before .before .before .before .before .before .kept .result) (length y)
+    (x .value) (l .part) (shiftLeft (x .count) (x .value) y) (omega arith) (omega arith) (j .long ∙ sym (j .even))
+    (λ i b. j .below i (omega arith)) (λ i b d. left-new (x .count) (x .value) y i d (omega arith)) (λ i b d. absurd (omega arith))))

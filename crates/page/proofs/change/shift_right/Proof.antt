@@ -24,28 +24,52 @@ shift-right-spec =
     (tie.spec
     Inv-loop
     μ-loop
+    -- kept-requires
     (λ c κs. search needs)
+    -- sub-first
     (λ c. search needs)
+    -- loop-holds
     (λ c.
     let x = c .before .before .args in
     let e = c .kept .ensures in
     (refl, (rw e, (omega arith, joined-end (sym (length-right (x .count) (x .value) (now (x .part))))))))
+    -- sub-i
     (λ c. search needs)
+    -- sub-part
     (λ c. search needs)
+    -- mul-part
     (λ c. search needs)
+    -- slice-read-part
     (λ c. search needs)
+    -- mul-part-2
     (λ c. search needs)
+    -- slice-write-part
     (λ c. search needs)
+    -- loop-less
     (λ c. search needs)
+    -- loop-again
     (λ c.
     let x = c .before .before .before .before .before .args in
     let l = c .before .before .loop in
     let j = l .inv .1 .1 .1 in
     let e = c .before .before .before .kept .ensures in
-    let z = length-right (x .count) (x .value) (now (x .part)) in
-    (refl, (rw e, (omega arith, step-down j (omega arith) (omega arith) (j .below (l .i - 1 - x .count) (omega arith) ∙ sym (right-kept (x .count) (x .value) (now (x .part)) (l .i - 1) (omega arith) (omega arith)))))))
+    let z = length-right (x .count) (x .value) (now (x .part)) in (
+      refl,
+      (
+        rw e,
+        (
+          omega arith,
+          step-down j (omega arith) (omega arith)
+              (j .below (l .i - 1 - x .count) (omega arith) ∙ sym
+              (right-kept (x .count) (x .value) (now (x .part)) (l .i - 1) (omega arith) (omega arith))),
+        ),
+      ),
+    ))
+    -- fill-cells-requires
     (λ c κs. search needs)
+    -- same-length
     (λ c. search needs)
+    -- returns
     (λ c.
     let x = c .before .before .before .before .before .before .before .before .args in
     let l = c .before .before .before .before .before .loop in
@@ -53,4 +77,6 @@ shift-right-spec =
     let y = now (x .part) in
     let e = c .before .before .before .before .before .before .kept .ensures in
     let z = length-right (x .count) (x .value) y in
-    c .before .before .fill-cells .ensures ∙ filled-up 0 (length y - c .before .before .before .before .before .before .kept .result) (x .value) (l .part) (shiftRight (x .count) (x .value) y) (omega arith) (omega arith) (j .long) (λ i b. absurd (omega arith)) (λ i b d. right-new (x .count) (x .value) y i (omega arith) (omega arith)) (λ i b d. j .above i (omega arith))))
+    c .before .before .fill-cells .ensures ∙ filled-up 0 (length y - c .before .before .before .before .before .before .kept .result)
+    (x .value) (l .part) (shiftRight (x .count) (x .value) y) (omega arith) (omega arith) (j .long) (λ i b. absurd (omega arith))
+    (λ i b d. right-new (x .count) (x .value) y i (omega arith) (omega arith)) (λ i b d. j .above i (omega arith))))

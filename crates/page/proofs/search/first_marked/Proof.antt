@@ -22,8 +22,11 @@ first-marked-spec =
     (tie.spec
     Inv-loop
     μ-loop
+    -- loop-holds
     (λ c. search needs)
+    -- is-marked-requires
     (λ c κs. search needs)
+    -- returns
     (λ c.
     let x = c .before .before .before .before .before .args in
     let l = c .before .before .before .loop in
@@ -31,8 +34,11 @@ first-marked-spec =
     let m = marksOf (x .mark) g in
     let n = length-marks (x .mark) g ∙ length-guards (x .protect) (now (x .page)) in
     sym (l .inv .1 ∙ hit m (l .at) (x .end) (omega arith) (omega arith) (c .before .is-marked .ensures) (c .if1 .taken)))
+    -- add-at
     (λ c. search needs)
+    -- loop-less
     (λ c. search needs)
+    -- loop-again
     (λ c.
     let x = c .before .before .before .before .before .args in
     let l = c .before .before .before .loop in
@@ -40,4 +46,7 @@ first-marked-spec =
     let m = marksOf (x .mark) g in
     let n = length-marks (x .mark) g ∙ length-guards (x .protect) (now (x .page)) in
     (omega arith, l .inv .1 ∙ miss m (l .at) (x .end) (omega arith) (omega arith) (c .before .is-marked .ensures) (c .if1 .left)))
-    (λ c. let e : c .before .loop .at ≡ c .before .before .before .args .end = omega arith in sym (c .before .loop .inv .1 ∙ rw (e, first-none))))
+    -- returns-2
+    (λ c.
+    let e : c .before .loop .at ≡ c .before .before .before .args .end = omega arith in
+    sym (c .before .loop .inv .1 ∙ rw (e, first-none))))

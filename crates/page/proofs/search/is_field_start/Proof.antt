@@ -12,13 +12,20 @@ pub is-field-start-spec : {M : Type 1} → statement M
 is-field-start-spec =
     tie.close
     (tie.spec
+    -- is-guarded-at-requires
     (λ c κs. search needs)
+    -- is-start-requires
     (λ c κs. search needs)
+    -- returns
     (λ c.
     let x = c .before .before .before .args in
     let n = length-guards (x .protect) (now (x .page)) in
-    sym (start-at (x .first) (guardedAt (x .protect) (now (x .page))) (x .at) (omega (arith, c .before .before .before .pre)) ∙ rw (sym (c .before .is-guarded-at .ensures) ∙ c .if1 .taken)))
+    sym (start-at (x .first) (guardedAt (x .protect) (now (x .page))) (x .at) (omega (arith, c .before .before .before .pre))
+    ∙ rw (sym (c .before .is-guarded-at .ensures) ∙ c .if1 .taken)))
+    -- returns-2
     (λ c.
     let x = c .before .before .before .before .args in
     let n = length-guards (x .protect) (now (x .page)) in
-    c .is-start .ensures ∙ sym (start-at (x .first) (guardedAt (x .protect) (now (x .page))) (x .at) (omega (arith, c .before .before .before .before .pre)) ∙ rw (sym (c .before .before .is-guarded-at .ensures) ∙ c .before .if1 .left))))
+    c .is-start .ensures ∙ sym (start-at (x .first) (guardedAt (x .protect) (now (x .page))) (x .at)
+    (omega (arith, c .before .before .before .before .pre))
+    ∙ rw (sym (c .before .before .is-guarded-at .ensures) ∙ c .before .if1 .left))))

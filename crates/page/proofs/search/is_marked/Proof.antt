@@ -13,15 +13,25 @@ pub is-marked-spec : {M : Type 1} → statement M
 is-marked-spec =
     tie.close
     (tie.spec
+    -- enum-told
     (λ c. search needs)
+    -- is-guarded-at-requires
     (λ c κs. search needs)
+    -- enum-told-2
     (λ c. search needs)
+    -- is-guarded-at-requires-2
     (λ c κs. search needs)
+    -- enum-known-mark
     (λ c. search needs)
+    -- is-field-start-requires
     (λ c κs. search needs)
+    -- returns
     (λ c.
     let x = c .before .before .before .before .args in
     let n = length-guards (x .protect) (now (x .page)) in
-    rw (c .before .enum-told .given .1) (ap not (c .is-guarded-at .ensures) ∙ sym (open-at (guardedAt (x .protect) (now (x .page))) (x .at) (omega (arith, c .before .before .before .before .pre)))))
+    rw (c .before .enum-told .given .1) (ap not (c .is-guarded-at .ensures)
+    ∙ sym (open-at (guardedAt (x .protect) (now (x .page))) (x .at) (omega (arith, c .before .before .before .before .pre)))))
+    -- returns-2
     (λ c. rw (c .before .enum-told2 .given .1) (c .is-guarded-at2 .ensures))
+    -- returns-3
     (λ c. rw (c .before .before .mark .given .1) (c .is-field-start .ensures)))

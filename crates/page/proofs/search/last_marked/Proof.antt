@@ -22,22 +22,38 @@ last-marked-spec =
     (tie.spec
     Inv-loop
     μ-loop
+    -- loop-holds
     (λ c. search needs)
+    -- sub-at
     (λ c. search needs)
+    -- is-marked-requires
     (λ c κs. search needs)
+    -- returns
     (λ c.
     let x = c .before .before .before .before .before .args in
     let l = c .before .before .before .loop in
     let g = guardedAt (x .protect) (now (x .page)) in
     let m = marksOf (x .mark) g in
     let n = length-marks (x .mark) g ∙ length-guards (x .protect) (now (x .page)) in
-    sym (l .inv .1 .1 ∙ hit-last (x .none) m (x .first) (l .at) (omega arith) (omega arith) (c .before .is-marked .ensures) (c .if1 .taken)))
+    sym (l .inv .1 .1 ∙ hit-last (x .none) m (x .first) (l .at) (omega arith) (omega arith) (c .before .is-marked .ensures)
+    (c .if1 .taken)))
+    -- loop-less
     (λ c. search needs)
+    -- loop-again
     (λ c.
     let x = c .before .before .before .before .before .args in
     let l = c .before .before .before .loop in
     let g = guardedAt (x .protect) (now (x .page)) in
     let m = marksOf (x .mark) g in
-    let n = length-marks (x .mark) g ∙ length-guards (x .protect) (now (x .page)) in
-    (omega arith, (omega arith, l .inv .1 .1 ∙ miss-last (x .none) m (x .first) (l .at) (omega arith) (omega arith) (c .before .is-marked .ensures) (c .if1 .left))))
-    (λ c. let e : c .before .loop .at ≡ c .before .before .before .args .first = omega arith in sym (c .before .loop .inv .1 .1 ∙ rw (e, last-none))))
+    let n = length-marks (x .mark) g ∙ length-guards (x .protect) (now (x .page)) in (
+      omega arith,
+      (
+        omega arith,
+        l .inv .1 .1 ∙ miss-last (x .none) m (x .first) (l .at) (omega arith) (omega arith)
+            (c .before .is-marked .ensures) (c .if1 .left),
+      ),
+    ))
+    -- returns-2
+    (λ c.
+    let e : c .before .loop .at ≡ c .before .before .before .args .first = omega arith in
+    sym (c .before .loop .inv .1 .1 ∙ rw (e, last-none))))

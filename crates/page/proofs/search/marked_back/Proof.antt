@@ -10,13 +10,18 @@ pub marked-back-spec : {M : Type 1} → statement M
 marked-back-spec =
     tie.close
     (tie.spec
+    -- last-marked-requires
     (λ c κs. search needs)
+    -- returns
     (λ c.
     let x = c .before .before .before .args in
     let m = marksOf (x .mark) (guardedAt (x .protect) (now (x .page))) in
     back-here m (x .first) (x .end) (x .from) (c .before .last-marked .ensures) (c .if1 .taken))
+    -- last-marked-requires-2
     (λ c κs. search needs)
+    -- returns-2
     (λ c.
     let x = c .before .before .before .before .args in
     let m = marksOf (x .mark) (guardedAt (x .protect) (now (x .page))) in
-    back-wrapped m (x .first) (x .end) (x .from) (c .before .before .last-marked .ensures) (c .before .if1 .left) (c .last-marked2 .ensures)))
+    back-wrapped m (x .first) (x .end) (x .from) (c .before .before .last-marked .ensures) (c .before .if1 .left)
+    (c .last-marked2 .ensures)))

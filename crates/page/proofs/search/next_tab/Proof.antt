@@ -22,20 +22,28 @@ next-tab-spec =
     (tie.spec
     Inv-loop
     μ-loop
+    -- add-stop
     (λ c. search needs)
+    -- loop-holds
     (λ c. search needs)
+    -- array-read-if1
     (λ c. search needs)
+    -- returns
     (λ c.
     let x = c .before .before .before .args in
     let l = c .before .before .loop in
     let e = l .inv .1 ∙ hit (x .t1) (l .stop) 80 (omega arith) (omega arith) refl (c .if1 .taken) in
     rw (e, lt-ltb (l .stop) 80 (omega arith)))
+    -- add-stop-2
     (λ c. search needs)
+    -- loop-less
     (λ c. search needs)
+    -- loop-again
     (λ c.
     let x = c .before .before .before .args in
     let l = c .before .before .loop in
     (omega arith, l .inv .1 ∙ miss (x .t1) (l .stop) 80 (omega arith) (omega arith) refl (c .if1 .left)))
+    -- returns-2
     (λ c.
     let x = c .before .before .args in
     let l = c .before .loop in

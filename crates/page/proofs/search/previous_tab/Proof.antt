@@ -21,16 +21,27 @@ previous-tab-spec =
     (tie.spec
     Inv-loop
     μ-loop
+    -- loop-holds
     (λ c. search needs)
+    -- sub-stop
     (λ c. search needs)
+    -- array-read-if1
     (λ c. search needs)
+    -- returns
     (λ c.
     let x = c .before .before .before .args in
     let l = c .before .before .loop in
     sym (l .inv .1 ∙ hit-last 0 (x .t1) 0 (l .stop) (omega arith) (omega arith) refl (c .if1 .taken)))
+    -- loop-less
     (λ c. search needs)
+    -- loop-again
     (λ c.
     let x = c .before .before .before .args in
     let l = c .before .before .loop in
     (omega arith, l .inv .1 ∙ miss-last 0 (x .t1) 0 (l .stop) (omega arith) (omega arith) refl (c .if1 .left)))
-    (λ c. let x = c .before .before .args in let l = c .before .loop in let z : l .stop ≡ 0 = omega arith in sym (l .inv .1 ∙ rw (z, last-none))))
+    -- returns-2
+    (λ c.
+    let x = c .before .before .args in
+    let l = c .before .loop in
+    let z : l .stop ≡ 0 = omega arith in
+    sym (l .inv .1 ∙ rw (z, last-none))))

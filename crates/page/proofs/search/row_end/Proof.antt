@@ -9,7 +9,11 @@ pub row-end-spec : {M : Type 1} → statement M
 row-end-spec =
     tie.close
     (tie.spec
+    -- div-result
     (λ c. search needs)
+    -- mul-result
     (λ c. let x = c .args in omega (arith, row-is (c .pre .0) (x .at), row-inside (c .pre .0) (x .at) (c .pre .1), page-small (c .pre .0)))
+    -- add-result
     (λ c. let x = c .args in omega (arith, row-is (c .pre .0) (x .at), row-inside (c .pre .0) (x .at) (c .pre .1), page-small (c .pre .0)))
+    -- returns
     (λ c. row-is (c .pre .0) (c .args .at)))

@@ -10,6 +10,9 @@ unfolding openCell
 cell-length-spec =
     tie.close
     (tie.spec
+    -- is-guarded-requires
     (λ c κs. search needs)
+    -- returns
     (λ c. rw (sym (c .before .is-guarded .ensures) ∙ c .if1 .taken))
+    -- returns-2
     (λ c. rw (sym (c .before .is-guarded .ensures) ∙ c .if1 .left)))

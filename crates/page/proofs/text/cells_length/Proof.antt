@@ -23,21 +23,35 @@ cells-length-spec =
     (tie.spec
     Inv-loop
     μ-loop
+    -- loop-holds
     (λ c. search needs)
+    -- mul-cell-length
     (λ c. search needs)
+    -- shared-slice-read-cell-length
     (λ c. search needs)
+    -- cell-length-requires
     (λ c κs. search needs)
+    -- add-n
     (λ c.
     let x = c .before .before .before .before .before .args in
     let l = c .before .before .before .loop in
-    omega (arith, c .before .before .before .before .before .pre, c .cell-length .ensures, short-open (x .protect) (getD (now (x .part)) (l .i) 0)))
+    omega (
+      arith,
+      c .before .before .before .before .before .pre,
+      c .cell-length .ensures,
+      short-open (x .protect) (getD (now (x .part)) (l .i) 0),
+    ))
+    -- add-i
     (λ c. search needs)
+    -- loop-less
     (λ c. search needs)
+    -- loop-again
     (λ c.
     let x = c .before .before .before .before .before .args in
     let l = c .before .before .before .loop in
     let s = cells-length (x .protect) (now (x .part)) (l .i) (omega arith) in
     omega (arith, short-open (x .protect) (getD (now (x .part)) (l .i) 0)))
+    -- returns
     (λ c.
     let x = c .before .before .before .args in
     let l = c .before .loop in

@@ -13,21 +13,28 @@ unfolding stored
 put-cell-spec =
     tie.close
     (tie.spec
+    -- is-guarded-requires
     (λ c κs. search needs)
+    -- returns
     (λ c.
     let x = c .before .before .before .args in
     let e = guarded-cell (x .protect) (x .v) (sym (c .before .is-guarded .ensures) ∙ c .if1 .taken) in
     (rw e (omega arith), rw e))
+    -- sent-code-requires
     (λ c κs. search needs)
+    -- slice-write-room
     (λ c.
     let x = c .before .before .before .before .args in
     let e = open-cell (x .protect) (x .v) (sym (c .before .before .is-guarded .ensures) ∙ c .before .if1 .left) in
     omega (arith, ap length e, c .before .before .before .before .pre))
+    -- add-result
     (λ c.
     let x = c .before .before .before .before .args in
     let e = open-cell (x .protect) (x .v) (sym (c .before .before .is-guarded .ensures) ∙ c .before .if1 .left) in
     omega (arith, ap length e, c .before .before .before .before .pre))
+    -- same-length
     (λ c. search needs)
+    -- returns-2
     (λ c.
     let x = c .before .before .before .before .args in
     let e = open-cell (x .protect) (x .v) (sym (c .before .before .is-guarded .ensures) ∙ c .before .if1 .left) in

@@ -14,7 +14,9 @@ use Rattle.page.proofs.text.put_cells.Tie as tie
 
 abbrev Inv-loop : tie.InvT-loop
 Inv-loop room₀ start part protect n₀ i₀ room n i =
-    (i ≤ length part) × ((length room ≡ length room₀) × ((n + length (cellsText protect (drop i part)) ≡ start + length (cellsText protect part)) × (stored n (cellsText protect (drop i part)) room ≡ stored start (cellsText protect part) room₀)))
+    (i ≤ length part) × ((length room ≡ length room₀)
+    × ((n + length (cellsText protect (drop i part)) ≡ start + length (cellsText protect part))
+    × (stored n (cellsText protect (drop i part)) room ≡ stored start (cellsText protect part) room₀)))
 
 abbrev μ-loop : tie.MeasureT-loop
 μ-loop room₀ start part protect n₀ i₀ room n i = length part - i
@@ -25,23 +27,41 @@ put-cells-spec =
     (tie.spec
     Inv-loop
     μ-loop
+    -- loop-holds
     (λ c. search needs)
+    -- mul-put-cell
     (λ c. search needs)
+    -- shared-slice-read-put-cell
     (λ c. search needs)
+    -- put-cell-requires
     (λ c κs.
     let x = c .before .before .before .before .before .before .args in
     let l = c .before .before .before .loop in
     let s = cells-length (x .protect) (now (x .part)) (l .i) (omega arith) in
     omega (arith, c .before .before .before .before .before .before .pre, l .inv))
+    -- add-i
     (λ c. search needs)
+    -- loop-less
     (λ c. search needs)
+    -- loop-again
     (λ c.
     let x = c .before .before .before .before .before .before .before .before .before .args in
     let l = c .before .before .before .before .before .before .loop in
     let s = cells-length (x .protect) (now (x .part)) (l .i) (omega arith) in
-    let q = c .before .before .put-cell in
-    (omega arith, (q .kept .0 ∙ l .inv .1 .0, (omega (arith, q .ensures .0, l .inv), cells-put (x .protect) (now (x .part)) (l .i) (l .n) (l .room) (c .before .before .before .before .before .loop-test .taken) (q .ensures .0) (q .ensures .1) ∙ l .inv .1 .1 .1))))
+    let q = c .before .before .put-cell in (
+      omega arith,
+      (
+        q .kept .0 ∙ l .inv .1 .0,
+        (
+          omega (arith, q .ensures .0, l .inv),
+          cells-put (x .protect) (now (x .part)) (l .i) (l .n) (l .room) (c .before .before .before .before .before .loop-test .taken)
+              (q .ensures .0) (q .ensures .1) ∙ l .inv .1 .1 .1,
+        ),
+      ),
+    ))
+    -- same-length
     (λ c. search needs)
+    -- returns
     (λ c.
     let x = c .before .before .before .before .args in
     let l = c .before .loop in

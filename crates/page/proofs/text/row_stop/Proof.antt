@@ -8,7 +8,11 @@ pub row-stop-spec : {M : Type 1} → statement M
 row-stop-spec =
     tie.close
     (tie.spec
+    -- row-end-requires
     (λ c κs. (c .before .pre .0, omega (arith, c .before .pre, c .if1 .taken)))
+    -- returns
     (λ c. omega (arith, c .before .row-end .ensures, c .if2 .taken))
+    -- returns-2
     (λ c. omega (arith, c .before .row-end .ensures, c .if2 .left))
+    -- returns-3
     (λ c. omega (arith, row-after (c .before .pre .0) (c .before .args .at))))

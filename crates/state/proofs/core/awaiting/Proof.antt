@@ -8,5 +8,7 @@ pub awaiting-spec : {M : Type 1} → statement M
 awaiting-spec =
     tie.close
     (tie.spec
+    -- no-key-requires
     (λ c κs. search needs)
+    -- returns
     (λ c. rw (c .no-key .ensures)))

@@ -13,12 +13,38 @@ unfolding digitRule decimalRowRule
 decimal-row-spec =
     tie.close
     (tie.spec
+    -- and-requires
     (λ c κs. search needs)
+    -- returns
     (λ c. rw (← c .before .and .ensures, c .if1 .taken))
+    -- returns-2
     (λ c. rw (← c .before .before .and .ensures, c .before .if1 .left, lt-leb 0x30 (c .before .before .before .args .b) (c .if2 .taken)))
-    (λ c. rw (← c .before .before .before .and .ensures, c .before .before .if1 .left, le-leb 0x30 (c .before .before .before .before .args .b) (c .before .if2 .left), le-ltb (c .before .before .before .before .args .b) 0x3a (c .if3 .taken)))
-    (λ c. rw (← c .before .before .before .before .and .ensures, c .before .before .before .if1 .left, le-leb 0x30 (c .before .before .before .before .before .args .b) (c .before .before .if2 .left), lt-ltb (c .before .before .before .before .before .args .b) 0x3a (c .before .if3 .left), le-ltb (c .before .before .before .before .before .args .n) 2 (c .if4 .taken)))
+    -- returns-3
+    (λ c. rw (
+      ← c .before .before .before .and .ensures,
+      c .before .before .if1 .left,
+      le-leb 0x30 (c .before .before .before .before .args .b) (c .before .if2 .left),
+      le-ltb (c .before .before .before .before .args .b) 0x3a (c .if3 .taken),
+    ))
+    -- returns-4
+    (λ c. rw (
+      ← c .before .before .before .before .and .ensures,
+      c .before .before .before .if1 .left,
+      le-leb 0x30 (c .before .before .before .before .before .args .b) (c .before .before .if2 .left),
+      lt-ltb (c .before .before .before .before .before .args .b) 0x3a (c .before .if3 .left),
+      le-ltb (c .before .before .before .before .before .args .n) 2 (c .if4 .taken),
+    ))
+    -- add-t11
     (λ c. omega (arith, smaller 1 (c .if4 .left) (c .before .before .before .before .before .pre)))
+    -- mul-t12
     (λ c. omega (arith, smaller 1 (c .if4 .left) (c .before .before .before .before .before .pre)))
+    -- add-t14
     (λ c. omega (arith, smaller 1 (c .if4 .left) (c .before .before .before .before .before .pre)))
-    (λ c. rw (← c .before .before .before .before .and .ensures, c .before .before .before .if1 .left, le-leb 0x30 (c .before .before .before .before .before .args .b) (c .before .before .if2 .left), lt-ltb (c .before .before .before .before .before .args .b) 0x3a (c .before .if3 .left), lt-ltb (c .before .before .before .before .before .args .n) 2 (c .if4 .left))))
+    -- returns-5
+    (λ c. rw (
+      ← c .before .before .before .before .and .ensures,
+      c .before .before .before .if1 .left,
+      le-leb 0x30 (c .before .before .before .before .before .args .b) (c .before .before .if2 .left),
+      lt-ltb (c .before .before .before .before .before .args .b) 0x3a (c .before .if3 .left),
+      lt-ltb (c .before .before .before .before .before .args .n) 2 (c .if4 .left),
+    )))

@@ -13,7 +13,14 @@ unfolding featureRule
 feature-spec =
     tie.close
     (tie.spec
+    -- returns
     (λ c. search tests)
+    -- feature-place-requires
     (λ c κs. search needs)
+    -- judged-requires
     (λ c κs. search needs)
-    (λ c. c .judged .ensures ∙ rw (c .before .feature-place .ensures, ne-eqb (c .before .before .before .args .f) 0x3a (c .before .before .if1 .left))))
+    -- returns-2
+    (λ c. c .judged .ensures ∙ rw (
+      c .before .feature-place .ensures,
+      ne-eqb (c .before .before .before .args .f) 0x3a (c .before .before .if1 .left),
+    )))

@@ -12,9 +12,19 @@ unfolding judged fieldRule
 field-spec =
     tie.close
     (tie.spec
+    -- returns
     (λ c. rw (lt-leb 0x30 (c .before .args .n) (c .if1 .taken)))
+    -- among-requires
     (λ c κs. search needs)
+    -- is-attribute-requires
     (λ c κs. search needs)
+    -- and-requires
     (λ c κs. search needs)
+    -- judged-requires
     (λ c κs. search needs)
-    (λ c. c .judged .ensures ∙ rw (c .before .and .ensures, c .before .before .before .among .ensures, c .before .before .is-attribute .ensures)))
+    -- returns-2
+    (λ c. c .judged .ensures ∙ rw (
+      c .before .and .ensures,
+      c .before .before .before .among .ensures,
+      c .before .before .is-attribute .ensures,
+    )))

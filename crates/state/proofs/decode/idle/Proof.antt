@@ -13,7 +13,11 @@ unfolding idleRule
 idle-spec =
     tie.close
     (tie.spec
+    -- control-requires
     (λ c κs. search needs)
+    -- returns
     (λ c. c .control .ensures ∙ sym (pick-true _ (lt-ltb _ _ (c .before .if1 .taken))))
+    -- returns-2
     (λ c. search tests)
+    -- returns-3
     (λ c. search tests))

@@ -9,5 +9,7 @@ unfolding judged
 judged-spec =
     tie.close
     (tie.spec
+    -- returns
     (λ c. rw (c .if1 .taken))
+    -- returns-2
     (λ c. rw (c .if1 .left)))

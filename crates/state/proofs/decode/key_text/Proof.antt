@@ -12,7 +12,11 @@ unfolding keyTextRule
 key-text-spec =
     tie.close
     (tie.spec
+    -- key-place-requires
     (λ c κs. search needs)
+    -- returns
     (λ c. rw (c .key-place .ensures, eq-eqb (c .before .before .args .b) 0x7f (c .before .if1 .taken)))
+    -- returns-2
     (λ c. search tests)
+    -- returns-3
     (λ c. search tests))

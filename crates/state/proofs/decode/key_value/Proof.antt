@@ -10,6 +10,9 @@ unfolding keyValueRule
 key-value-spec =
     tie.close
     (tie.spec
+    -- is-key-requires
     (λ c κs. search needs)
+    -- returns
     (λ c. rw (← c .before .is-key .ensures, c .if1 .taken))
+    -- returns-2
     (λ c. rw (← c .before .is-key .ensures, c .if1 .left)))

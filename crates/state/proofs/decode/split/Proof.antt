@@ -10,6 +10,9 @@ unfolding splitRule
 split-spec =
     tie.close
     (tie.spec
+    -- returns
     (λ c. search tests)
+    -- returns-2
     (λ c. search tests)
+    -- returns-3
     (λ c. search tests))

@@ -12,6 +12,14 @@ pub clean-key-spec : {M : Type 1} → statement M
 clean-key-spec =
     tie.close
     (tie.spec
-    (λ c. let e : length (c .before .before .before .args .k .bytes) ≡ 8 = search needs in whole-key (c .before .before .before .args .k .len) (c .before .before .before .args .k .bytes) e (omega (arith, c .if1 .taken)))
+    -- returns
+    (λ c.
+    let e : length (c .before .before .before .args .k .bytes) ≡ 8 = search needs in
+    whole-key (c .before .before .before .args .k .len) (c .before .before .before .args .k .bytes) e (omega (arith, c .if1 .taken)))
+    -- zeroed-requires
     (λ c κs. search needs)
-    (λ c. let e : length (c .before .before .before .before .args .k .bytes) ≡ 8 = search needs in rw (c .zeroed .ensures) (part-key (c .before .before .before .before .args .k .len) (c .before .before .before .before .args .k .bytes) e (c .before .if1 .left))))
+    -- returns-2
+    (λ c.
+    let e : length (c .before .before .before .before .args .k .bytes) ≡ 8 = search needs in
+    rw (c .zeroed .ensures) (part-key (c .before .before .before .before .args .k .len) (c .before .before .before .before .args .k .bytes)
+    e (c .before .if1 .left))))

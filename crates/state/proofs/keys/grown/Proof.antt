@@ -11,8 +11,16 @@ pub grown-spec : {M : Type 1} → statement M
 grown-spec =
     tie.close
     (tie.spec
+    -- clean-key-requires
     (λ c κs. search needs)
+    -- cast-i
     (λ c. search needs)
+    -- element-write-t
     (λ c. search needs)
+    -- add-t
     (λ c. search needs)
-    (λ c. let e : length (c .before .before .before .args .k .bytes) ≡ 8 = search needs in rw (c .before .before .clean-key .ensures) (grown-key (c .before .before .before .args .k .len) (c .before .before .before .args .k .bytes) e (c .before .before .before .args .b) (c .before .before .before .pre))))
+    -- returns
+    (λ c.
+    let e : length (c .before .before .before .args .k .bytes) ≡ 8 = search needs in
+    rw (c .before .before .clean-key .ensures) (grown-key (c .before .before .before .args .k .len)
+    (c .before .before .before .args .k .bytes) e (c .before .before .before .args .b) (c .before .before .before .pre))))

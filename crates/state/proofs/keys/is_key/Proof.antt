@@ -11,7 +11,11 @@ unfolding isKey
 is-key-spec =
     tie.close
     (tie.spec
+    -- among-requires
     (λ c κs. search needs)
+    -- among-requires-2
     (λ c κs. search needs)
+    -- or-requires
     (λ c κs. search needs)
+    -- returns
     (λ c. c .or .ensures ∙ rw (c .before .among2 .ensures, c .before .before .among .ensures)))

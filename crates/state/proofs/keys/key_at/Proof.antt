@@ -10,8 +10,13 @@ pub key-at-spec : {M : Type 1} → statement M
 key-at-spec =
     tie.close
     (tie.spec
+    -- key-place-requires
     (λ c κs. search needs)
+    -- cast-i
     (λ c. search needs)
+    -- mul-result
     (λ c. search needs)
+    -- array-copy-out-result
     (λ c. let k = value (c .before .args .v) (c .before .pre) in omega (arith, c .key-place .ensures))
+    -- returns
     (λ c. rw (c .before .key-place .ensures)))

@@ -42,12 +42,21 @@ key-bytes-spec =
     (tie.spec
     Inv-loop
     μ-loop
+    -- loop-holds
     (λ c. search needs)
+    -- mul-k
     (λ c. search needs)
+    -- array-copy-out-k
     (λ c. search needs)
+    -- cast-sum
     (λ c. search needs)
+    -- add-sum
     (λ c. search needs)
+    -- add-i
     (λ c. search needs)
+    -- loop-less
     (λ c. search needs)
+    -- loop-again
     loop-again
+    -- returns
     returns)

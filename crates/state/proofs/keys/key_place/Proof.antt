@@ -10,7 +10,11 @@ pub key-place-spec : {M : Type 1} → statement M
 key-place-spec =
     tie.close
     (tie.spec
+    -- sub-result
     (λ c. let k = value (c .before .args .v) (c .before .pre) in omega arith)
+    -- sub-result-2
     (λ c. let k = value (c .before .args .v) (c .before .pre) in omega arith)
+    -- returns
     (λ c. search tests)
+    -- returns-2
     (λ c. search tests))

@@ -10,7 +10,11 @@ unfolding overfull
 overfull-spec =
     tie.close
     (tie.spec
+    -- clean-key-requires
     (λ c κs. search needs)
+    -- set-key-requires
     (λ c κs. search needs)
+    -- key-bytes-requires
     (λ c κs. search needs)
+    -- returns
     (λ c. rw (c .key-bytes .ensures, c .before .set-key .ensures, c .before .before .clean-key .ensures)))

@@ -12,7 +12,13 @@ pub set-key-spec : {M : Type 1} → statement M
 set-key-spec =
     tie.close
     (tie.spec
+    -- mul-t
     (λ c. search needs)
+    -- array-set-from-t
     (λ c. search needs)
+    -- returns
     (λ c. search needs)
-    (λ c. let e : length (c .before .args .keys) ≡ 32 = search needs in sym (set-out (c .before .args .keys) (c .before .args .n) (c .before .args .k) (omega (arith, e, c .if1 .left)))))
+    -- returns-2
+    (λ c.
+    let e : length (c .before .args .keys) ≡ 32 = search needs in
+    sym (set-out (c .before .args .keys) (c .before .args .n) (c .before .args .k) (omega (arith, e, c .if1 .left)))))

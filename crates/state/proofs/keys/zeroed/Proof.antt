@@ -38,4 +38,18 @@ returns c =
 pub zeroed-spec : {M : Type 1} → statement M
 zeroed-spec =
     tie.close
-    (tie.spec Inv-loop μ-loop loop-holds (λ c. search needs) (λ c. search needs) (λ c. search needs) loop-again returns)
+    (tie.spec
+    Inv-loop
+    μ-loop
+    -- loop-holds
+    loop-holds
+    -- array-write-t
+    (λ c. search needs)
+    -- add-i
+    (λ c. search needs)
+    -- loop-less
+    (λ c. search needs)
+    -- loop-again
+    loop-again
+    -- returns
+    returns)

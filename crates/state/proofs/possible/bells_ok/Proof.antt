@@ -10,4 +10,5 @@ pub bells-ok-spec : {M : Type 1} → statement M
 bells-ok-spec =
     tie.close
     (tie.spec
+    -- returns
     (λ c. sym (lt-ltb (c .args .n) 256 (omega arith))))

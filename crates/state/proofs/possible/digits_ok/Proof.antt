@@ -9,6 +9,9 @@ pub digits-ok-spec : {M : Type 1} → statement M
 digits-ok-spec =
     tie.close
     (tie.spec
+    -- returns
     (λ c. rw (lt-leb (c .before .args .n) (c .before .args .most) (c .if1 .taken)))
+    -- power-of-ten-requires
     (λ c κs. search needs)
+    -- returns-2
     (λ c. rw (c .power-of-ten .ensures, le-leb (c .before .before .args .n) (c .before .before .args .most) (c .before .if1 .left))))

@@ -14,18 +14,46 @@ unfolding featuresOk
 features-ok-spec =
     tie.close
     (tie.spec
+    -- array-read-feature-place
     (λ c. search needs)
+    -- feature-place-requires
     (λ c κs. search needs)
+    -- array-read-feature-place-2
     (λ c. search needs)
+    -- feature-place-requires-2
     (λ c κs. search needs)
+    -- array-read-feature-place-3
     (λ c. search needs)
+    -- feature-place-requires-3
     (λ c κs. search needs)
+    -- and-requires
     (λ c κs. search needs)
+    -- array-read-feature-place-4
     (λ c. search needs)
+    -- feature-place-requires-4
     (λ c κs. search needs)
+    -- array-read-feature-place-5
     (λ c. search needs)
+    -- feature-place-requires-5
     (λ c κs. search needs)
+    -- and-requires-2
     (λ c κs. search needs)
+    -- and-requires-3
     (λ c κs. search needs)
+    -- and-requires-4
     (λ c κs. search needs)
-    (λ c. let e : length (c .before .before .before .before .before .before .before .before .before .args .t1) ≡ 5 = search needs in c .and4 .ensures ∙ rw (c .before .and3 .ensures, c .before .before .and2 .ensures, c .before .before .before .before .before .and .ensures, c .before .before .before .before .before .before .before .before .feature-place .ensures, c .before .before .before .before .before .before .before .feature-place2 .ensures, c .before .before .before .before .before .before .feature-place3 .ensures, c .before .before .before .before .feature-place4 .ensures, c .before .before .before .feature-place5 .ensures, elements 5 (c .before .before .before .before .before .before .before .before .before .args .t1) e, both-true)))
+    -- returns
+    (λ c.
+    let e : length (c .before .before .before .before .before .before .before .before .before .args .t1) ≡ 5 = search needs in
+    c .and4 .ensures ∙ rw (
+      c .before .and3 .ensures,
+      c .before .before .and2 .ensures,
+      c .before .before .before .before .before .and .ensures,
+      c .before .before .before .before .before .before .before .before .feature-place .ensures,
+      c .before .before .before .before .before .before .before .feature-place2 .ensures,
+      c .before .before .before .before .before .before .feature-place3 .ensures,
+      c .before .before .before .before .feature-place4 .ensures,
+      c .before .before .before .feature-place5 .ensures,
+      elements 5 (c .before .before .before .before .before .before .before .before .before .args .t1) e,
+      both-true,
+    )))

@@ -11,8 +11,13 @@ unfolding isAttribute
 is-attribute-spec =
     tie.close
     (tie.spec
+    -- among-requires
     (λ c κs. search needs)
+    -- among-requires-2
     (λ c κs. search needs)
+    -- or-requires
     (λ c κs. search needs)
+    -- or-requires-2
     (λ c κs. search needs)
+    -- returns
     (λ c. c .or2 .ensures ∙ rw (c .before .or .ensures, c .before .before .among2 .ensures, c .before .before .before .among .ensures)))

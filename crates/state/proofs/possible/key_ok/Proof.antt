@@ -11,6 +11,9 @@ unfolding keyOk
 key-ok-spec =
     tie.close
     (tie.spec
+    -- returns
     (λ c. rw (lt-leb (c .before .before .before .args .k .len) 8 (c .if1 .taken)))
+    -- text-ok-requires
     (λ c κs. search needs)
+    -- returns-2
     (λ c. rw (c .text-ok .ensures, le-leb (c .before .before .before .before .args .k .len) 8 (c .before .if1 .left))))

@@ -48,12 +48,21 @@ keys-ok-spec =
     (tie.spec
     Inv-loop
     μ-loop
+    -- loop-holds
     (λ c. search needs)
+    -- mul-k
     (λ c. search needs)
+    -- array-copy-out-k
     (λ c. search needs)
+    -- key-ok-requires
     (λ c κs. search needs)
+    -- returns
     returns
+    -- add-i
     (λ c. search needs)
+    -- loop-less
     (λ c. search needs)
+    -- loop-again
     loop-again
+    -- returns-2
     returns-2)

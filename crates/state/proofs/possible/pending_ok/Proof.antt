@@ -11,54 +11,109 @@ unfolding pendingOk
 pending-ok-spec =
     tie.close
     (tie.spec
+    -- enum-told
     (λ c. search needs)
+    -- enum-told-2
     (λ c. search needs)
+    -- enum-told-3
     (λ c. search needs)
+    -- enum-known-p
     (λ c. search needs)
+    -- enum-told-4
     (λ c. search needs)
+    -- enum-known-p-2
     (λ c. search needs)
+    -- enum-known-p-3
     (λ c. search needs)
+    -- and-requires
     (λ c κs. search needs)
+    -- enum-known-p-4
     (λ c. search needs)
+    -- cast-digits-ok
     (λ c. search needs)
+    -- digits-ok-requires
     (λ c κs. search needs)
+    -- enum-known-p-5
     (λ c. search needs)
+    -- digits-ok-requires-2
     (λ c κs. search needs)
+    -- and-requires-2
     (λ c κs. search needs)
+    -- enum-told-5
     (λ c. search needs)
+    -- enum-told-6
     (λ c. search needs)
+    -- enum-told-7
     (λ c. search needs)
+    -- enum-told-8
     (λ c. search needs)
+    -- enum-told-9
     (λ c. search needs)
+    -- enum-told-10
     (λ c. search needs)
+    -- enum-told-11
     (λ c. search needs)
+    -- enum-told-12
     (λ c. search needs)
+    -- enum-known-p-6
     (λ c. search needs)
+    -- enum-told-13
     (λ c. search needs)
+    -- enum-known-p-7
     (λ c. search needs)
+    -- is-key-requires
     (λ c κs. search needs)
+    -- key-ok-requires
     (λ c κs. search needs)
+    -- and-requires-3
     (λ c κs. search needs)
+    -- enum-known-p-8
     (λ c. search needs)
+    -- is-key-requires-2
     (λ c κs. search needs)
+    -- returns
     (λ c. rw (c .enum-told .given .1))
+    -- returns-2
     (λ c. rw (c .enum-told2 .given .1))
+    -- returns-3
     (λ c. rw (c .enum-told3 .given .1))
+    -- returns-4
     (λ c. rw (c .before .p .given .1))
+    -- returns-5
     (λ c. rw (c .enum-told4 .given .1))
+    -- returns-6
     (λ c. rw (c .before .p2 .given .1))
+    -- returns-7
     (λ c. c .and .ensures ∙ rw (c .before .before .p3 .given .1))
+    -- returns-8
     (λ c. c .digits-ok .ensures ∙ rw (c .before .before .p4 .given .1))
+    -- returns-9
     (λ c. c .and2 .ensures ∙ rw (c .before .digits-ok2 .ensures, c .before .before .before .p5 .given .1))
+    -- returns-10
     (λ c. rw (c .enum-told5 .given .1))
+    -- returns-11
     (λ c. rw (c .enum-told6 .given .1))
+    -- returns-12
     (λ c. rw (c .enum-told7 .given .1))
+    -- returns-13
     (λ c. rw (c .enum-told8 .given .1))
+    -- returns-14
     (λ c. rw (c .enum-told9 .given .1))
+    -- returns-15
     (λ c. rw (c .enum-told10 .given .1))
+    -- returns-16
     (λ c. rw (c .enum-told11 .given .1))
+    -- returns-17
     (λ c. rw (c .enum-told12 .given .1))
+    -- returns-18
     (λ c. rw (c .before .p6 .given .1))
+    -- returns-19
     (λ c. rw (c .enum-told13 .given .1))
-    (λ c. c .and3 .ensures ∙ rw (c .before .key-ok .ensures, c .before .before .is-key .ensures, c .before .before .before .before .p7 .given .1))
+    -- returns-20
+    (λ c. c .and3 .ensures ∙ rw (
+      c .before .key-ok .ensures,
+      c .before .before .is-key .ensures,
+      c .before .before .before .before .p7 .given .1,
+    ))
+    -- returns-21
     (λ c. c .is-key2 .ensures ∙ rw (c .before .before .p8 .given .1)))

@@ -10,7 +10,11 @@ pub power-of-ten-spec : {M : Type 1} → statement M
 power-of-ten-spec =
     tie.close
     (tie.spec
+    -- returns
     (λ c. sym (ap (λ (n : ℕ). 10 ^ n) (c .match .keys1)))
+    -- returns-2
     (λ c. sym (ap (λ (n : ℕ). 10 ^ n) (c .match .keys2)))
+    -- returns-3
     (λ c. sym (ap (λ (n : ℕ). 10 ^ n) (c .match .keys3)))
+    -- returns-4
     (λ c. let e : c .before .args .n ≡ 3 = omega (arith, c .match .rest) in sym (ap (λ (n : ℕ). 10 ^ n) e)))

@@ -13,7 +13,11 @@ unfolding screenOk
 screen-ok-spec =
     tie.close
     (tie.spec
+    -- unsplit-ok-requires
     (λ c κs. search needs)
+    -- split-ok-requires
     (λ c κs. search needs)
+    -- returns
     (λ c. c .unsplit-ok .ensures ∙ sym (pick-true _ (eq-eqb _ _ (c .before .if1 .taken))))
+    -- returns-2
     (λ c. c .split-ok .ensures ∙ sym (pick-false _ (ne-eqb _ _ (c .before .if1 .left)))))

@@ -11,12 +11,26 @@ unfolding splitOk
 split-ok-spec =
     tie.close
     (tie.spec
+    -- sub-at
     (λ c. search needs)
+    -- cast-at
     (λ c. search needs)
+    -- mul-at
     (λ c. search needs)
+    -- and-requires
     (λ c κs. search needs)
+    -- and-requires-2
     (λ c κs. search needs)
+    -- and-requires-3
     (λ c κs. search needs)
+    -- and-requires-4
     (λ c κs. search needs)
+    -- and-requires-5
     (λ c κs. search needs)
-    (λ c. c .and5 .ensures ∙ rw (c .before .and4 .ensures, c .before .before .and3 .ensures, c .before .before .before .before .before .before .and2 .ensures, c .before .before .before .before .before .before .before .and .ensures)))
+    -- returns
+    (λ c. c .and5 .ensures ∙ rw (
+      c .before .and4 .ensures,
+      c .before .before .and3 .ensures,
+      c .before .before .before .before .before .before .and2 .ensures,
+      c .before .before .before .before .before .before .before .and .ensures,
+    )))

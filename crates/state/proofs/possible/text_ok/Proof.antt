@@ -49,10 +49,17 @@ text-ok-spec =
     (tie.spec
     Inv-loop
     μ-loop
+    -- loop-holds
     (λ c. search needs)
+    -- array-read-if1
     (λ c. search needs)
+    -- returns
     returns
+    -- add-i
     (λ c. search needs)
+    -- loop-less
     (λ c. search needs)
+    -- loop-again
     loop-again
+    -- returns-2
     returns-2)

@@ -11,6 +11,9 @@ unfolding unsplitOk
 unsplit-ok-spec =
     tie.close
     (tie.spec
+    -- and-requires
     (λ c κs. search needs)
+    -- and-requires-2
     (λ c κs. search needs)
+    -- returns
     (λ c. c .and2 .ensures ∙ rw (c .before .and .ensures)))

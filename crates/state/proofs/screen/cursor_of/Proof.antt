@@ -10,5 +10,7 @@ unfolding cursorOf
 cursor-of-spec =
     tie.close
     (tie.spec
+    -- returns
     (λ c. search tests)
+    -- returns-2
     (λ c. search tests))

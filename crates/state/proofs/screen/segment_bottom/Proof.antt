@@ -11,8 +11,13 @@ unfolding segmentBottom
 segment-bottom-spec =
     tie.close
     (tie.spec
+    -- returns
     (λ c. search tests)
+    -- sub-result
     (λ c. search needs)
+    -- cast-result
     (λ c. search needs)
+    -- returns-2
     (λ c. search tests)
+    -- returns-3
     (λ c. search tests))

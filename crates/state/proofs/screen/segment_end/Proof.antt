@@ -10,6 +10,9 @@ pub segment-end-spec : {M : Type 1} → statement M
 segment-end-spec =
     tie.close
     (tie.spec
+    -- segment-bottom-requires
     (λ c κs. search needs)
+    -- mul-result
     (λ c. omega (arith, c .segment-bottom .ensures, bottom-most (c .before .args .x)))
+    -- returns
     (λ c. search needs))

@@ -10,6 +10,9 @@ pub segment-start-spec : {M : Type 1} → statement M
 segment-start-spec =
     tie.close
     (tie.spec
+    -- segment-top-requires
     (λ c κs. search needs)
+    -- mul-result
     (λ c. omega (arith, c .segment-top .ensures, top-most (c .before .args .x)))
+    -- returns
     (λ c. search needs))

@@ -15,8 +15,15 @@ unfolding segmentTop
 segment-top-spec =
     tie.close
     (tie.spec
+    -- returns
     (λ c. search tests)
-    (λ c. let e : 0 ≡ c .before .before .before .before .args .x .split - 1 = omega (arith, c .if2 .taken) in e ∙ sym (pick-false _ (ne-eqb _ _ (c .before .before .if1 .left))))
+    -- returns-2
+    (λ c.
+    let e : 0 ≡ c .before .before .before .before .args .x .split - 1 = omega (arith, c .if2 .taken) in
+    e ∙ sym (pick-false _ (ne-eqb _ _ (c .before .before .if1 .left))))
+    -- sub-result
     (λ c. search needs)
+    -- cast-result
     (λ c. search needs)
+    -- returns-3
     (λ c. search tests))

@@ -12,6 +12,11 @@ pub set-attribute-spec : {M : Type 1} → statement M
 set-attribute-spec =
     tie.close
     (tie.spec
+    -- array-write-t
     (λ c. search needs)
+    -- returns
     (λ c. search needs)
-    (λ c. let e : length (c .before .args .attributes) ≡ 4 = search needs in sym (set-out (c .before .args .attributes) (c .before .args .n) (c .before .args .a) (omega (arith, e, c .if1 .left)))))
+    -- returns-2
+    (λ c.
+    let e : length (c .before .args .attributes) ≡ 4 = search needs in
+    sym (set-out (c .before .args .attributes) (c .before .args .n) (c .before .args .a) (omega (arith, e, c .if1 .left)))))

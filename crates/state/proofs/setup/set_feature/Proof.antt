@@ -12,6 +12,11 @@ pub set-feature-spec : {M : Type 1} → statement M
 set-feature-spec =
     tie.close
     (tie.spec
+    -- array-write-t
     (λ c. search needs)
+    -- returns
     (λ c. search needs)
-    (λ c. let e : length (c .before .args .features) ≡ 5 = search needs in sym (set-out (c .before .args .features) (c .before .args .n) (c .before .args .f) (omega (arith, e, c .if1 .left)))))
+    -- returns-2
+    (λ c.
+    let e : length (c .before .args .features) ≡ 5 = search needs in
+    sym (set-out (c .before .args .features) (c .before .args .n) (c .before .args .f) (omega (arith, e, c .if1 .left)))))

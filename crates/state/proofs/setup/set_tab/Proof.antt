@@ -12,6 +12,11 @@ pub set-tab-spec : {M : Type 1} → statement M
 set-tab-spec =
     tie.close
     (tie.spec
+    -- array-write-t
     (λ c. search needs)
+    -- returns
     (λ c. search needs)
-    (λ c. let e : length (c .before .args .tabs) ≡ 80 = search needs in sym (set-out (c .before .args .tabs) (c .before .args .n) (c .before .args .b) (omega (arith, e, c .if1 .left)))))
+    -- returns-2
+    (λ c.
+    let e : length (c .before .args .tabs) ≡ 80 = search needs in
+    sym (set-out (c .before .args .tabs) (c .before .args .n) (c .before .args .b) (omega (arith, e, c .if1 .left)))))
