@@ -18,12 +18,21 @@ move-to-front-spec =
     (tie.spec
     Inv-loop
     μ-loop
+    -- loop-holds
     (λ c. omega arith)
+    -- slice-read-input
     (λ c. omega arith)
+    -- slice-write-input
     (λ c. omega arith)
+    -- add-i
     (λ c. omega arith)
+    -- add-j
     (λ c. omega arith)
+    -- loop-less
     (λ c. omega arith)
+    -- loop-again
     (λ c. simp length-set (omega arith))
+    -- same-length
     (λ c. omega arith)
+    -- returns
     (λ c. tt))

@@ -9,23 +9,43 @@ pub piece-spec : {M : Type 1} → statement M
 piece-spec =
     tie.close
     (tie.spec
+    -- within-requires
     (λ c κs. search needs)
+    -- sub-read
     (λ c. search needs)
+    -- part-read-start
     (λ c. search needs)
+    -- part-read-end
     (λ c. search needs)
+    -- read-requires
     (λ c κs. search needs)
+    -- slice-reshare-prefix-end
     (λ c. search needs)
+    -- slice-aggregate-end
     (λ c. simp length-take (omega arith))
+    -- end-requires
     (λ c κs. search needs)
+    -- same-length
     (λ c. search needs)
+    -- same-length-2
     (λ c. search needs)
+    -- same-length-3
     (λ c. search needs)
+    -- same-length-4
     (λ c. search needs)
+    -- returns
     (λ c. search needs)
+    -- add-filled
     (λ c. search needs)
+    -- filled-requires
     (λ c κs. search needs)
+    -- same-length-5
     (λ c. search needs)
+    -- same-length-6
     (λ c. search needs)
+    -- same-length-7
     (λ c. search needs)
+    -- same-length-8
     (λ c. search needs)
+    -- returns-2
     (λ c. search needs))

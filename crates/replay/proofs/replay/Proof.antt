@@ -6,7 +6,8 @@ use Rattle.replay.proofs.replay.Statement.{statement}
 use Rattle.replay.proofs.replay.Tie as tie
 
 abbrev Inv-loop : tie.InvT-loop
-Inv-loop input₀ page₀ bytes₀ out₀ s₀ pieces₀ input page bytes out s pieces = (length input ≡ length input₀) × (length page ≡ length page₀) × (length bytes ≡ length bytes₀) × (length out ≡ length out₀)
+Inv-loop input₀ page₀ bytes₀ out₀ s₀ pieces₀ input page bytes out s pieces =
+    (length input ≡ length input₀) × (length page ≡ length page₀) × (length bytes ≡ length bytes₀) × (length out ≡ length out₀)
 
 abbrev μ-loop : tie.MeasureT-loop
 μ-loop input₀ page₀ bytes₀ out₀ s₀ pieces₀ input page bytes out s pieces = pieces
@@ -17,15 +18,27 @@ replay-spec =
     (tie.spec
     Inv-loop
     μ-loop
+    -- start-requires
     (λ c κs. tt)
+    -- loop-holds
     (λ c. omega arith)
+    -- piece-requires
     (λ c κs. tt)
+    -- left-requires
     (λ c κs. omega arith)
+    -- loop-less
     (λ c. omega arith)
+    -- loop-again
     (λ c. omega arith)
+    -- flush-requires
     (λ c κs. tt)
+    -- same-length
     (λ c. omega arith)
+    -- same-length-2
     (λ c. omega arith)
+    -- same-length-3
     (λ c. omega arith)
+    -- same-length-4
     (λ c. omega arith)
+    -- returns
     (λ c. tt))

@@ -9,5 +9,7 @@ pub within-spec : {M : Type 1} → statement M
 within-spec =
     tie.close
     (tie.spec
+    -- least-requires
     (λ c κs. search needs)
+    -- returns
     (λ c. (omega arith, simp length-take (omega arith))))

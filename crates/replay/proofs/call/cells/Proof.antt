@@ -18,14 +18,25 @@ cells-spec =
     (tie.spec
     Inv-loop
     μ-loop
+    -- loop-holds
     (λ c. omega arith)
+    -- comma-requires
     (λ c κs. tt)
+    -- mul-wide
     (λ c. omega arith)
+    -- shared-slice-read-wide
     (λ c. omega arith)
+    -- wide-requires
     (λ c κs. tt)
+    -- decimal-requires
     (λ c κs. tt)
+    -- add-i
     (λ c. omega arith)
+    -- loop-less
     (λ c. omega arith)
+    -- loop-again
     (λ c. omega arith)
+    -- same-length
     (λ c. omega arith)
+    -- returns
     (λ c. tt))

@@ -8,10 +8,21 @@ pub press-spec : {M : Type 1} → statement M
 press-spec =
     tie.close
     (tie.spec
+    -- press-requires
     (λ c κs. search needs)
+    -- slice-aggregate-opening
     (λ c. search needs)
+    -- opening-requires
     (λ c κs. search needs)
-    (λ c κs. omega (arith, c .before .before .before .before .before .before .before .before .before .press .ensures .fits, c .before .before .before .before .before .before .before .before .before .press .kept))
+    -- closing-requires
+    (λ c κs. omega (
+      arith,
+      c .before .before .before .before .before .before .before .before .before .press .ensures .fits,
+      c .before .before .before .before .before .before .before .before .before .press .kept,
+    ))
+    -- same-length
     (λ c. omega (arith, c .before .before .before .before .before .before .before .before .before .before .before .before .press .kept))
+    -- same-length-2
     (λ c. omega (arith, c .before .before .before .before .before .before .before .before .before .before .before .before .press .kept))
+    -- returns
     (λ c. search needs))

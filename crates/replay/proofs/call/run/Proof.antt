@@ -8,12 +8,31 @@ pub run-spec : {M : Type 1} → statement M
 run-spec =
     tie.close
     (tie.spec
+    -- run-requires
     (λ c κs. search needs)
+    -- slice-aggregate-opening
     (λ c. search needs)
+    -- opening-requires
     (λ c κs. search needs)
+    -- counts-requires
     (λ c κs. search needs)
-    (λ c κs. omega (arith, c .before .before .before .before .before .before .before .before .before .before .before .before .before .before .before .before .before .run .ensures .fits, c .before .before .before .before .before .before .before .before .before .before .before .before .before .before .before .before .before .run .kept))
-    (λ c. omega (arith, c .before .before .before .before .before .before .before .before .before .before .before .before .before .before .before .before .before .before .before .before .run .kept))
-    (λ c. omega (arith, c .before .before .before .before .before .before .before .before .before .before .before .before .before .before .before .before .before .before .before .before .run .kept))
+    -- closing-requires
+    (λ c κs. omega (
+      arith,
+      c .before .before .before .before .before .before .before .before .before .before .before .before .before .before .before .before .before .run .ensures .fits,
+      c .before .before .before .before .before .before .before .before .before .before .before .before .before .before .before .before .before .run .kept,
+    ))
+    -- same-length
+    (λ c. omega (
+      arith,
+      c .before .before .before .before .before .before .before .before .before .before .before .before .before .before .before .before .before .before .before .before .run .kept,
+    ))
+    -- same-length-2
+    (λ c. omega (
+      arith,
+      c .before .before .before .before .before .before .before .before .before .before .before .before .before .before .before .before .before .before .before .before .run .kept,
+    ))
+    -- same-length-3
     (λ c. search needs)
+    -- returns
     (λ c. search needs))

@@ -18,11 +18,19 @@ fill-spec =
     (tie.spec
     Inv-loop
     μ-loop
+    -- loop-holds
     (λ c. omega arith)
+    -- mul-cells
     (λ c. omega arith)
+    -- slice-write-cells
     (λ c. omega arith)
+    -- add-i
     (λ c. omega arith)
+    -- loop-less
     (λ c. omega arith)
+    -- loop-again
     (λ c. simp length-set (omega arith))
+    -- same-length
     (λ c. omega arith)
+    -- returns
     (λ c. tt))

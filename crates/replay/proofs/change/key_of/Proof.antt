@@ -16,10 +16,17 @@ key-of-spec =
     (tie.spec
     Inv-loop
     μ-loop
+    -- loop-holds
     (λ c. omega arith)
+    -- byte-or-zero-requires
     (λ c κs. tt)
+    -- array-write-kept
     (λ c. omega arith)
+    -- add-i
     (λ c. omega arith)
+    -- loop-less
     (λ c. omega arith)
+    -- loop-again
     (λ c. omega arith)
+    -- returns
     (λ c. tt))

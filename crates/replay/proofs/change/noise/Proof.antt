@@ -18,14 +18,25 @@ noise-spec =
     (tie.spec
     Inv-loop
     μ-loop
+    -- loop-holds
     (λ c. omega arith)
+    -- next-requires
     (λ c κs. tt)
+    -- next-requires-2
     (λ c κs. tt)
+    -- noise-cell-requires
     (λ c κs. tt)
+    -- mul-page
     (λ c. omega arith)
+    -- slice-write-page
     (λ c. omega arith)
+    -- add-i
     (λ c. omega arith)
+    -- loop-less
     (λ c. omega arith)
+    -- loop-again
     (λ c. simp length-set (omega arith))
+    -- same-length
     (λ c. omega arith)
+    -- returns
     (λ c. tt))

@@ -18,11 +18,19 @@ of-spec =
     (tie.spec
     Inv-loop
     μ-loop
+    -- loop-holds
     (λ c. digest-start _)
+    -- mul-with-cell
     (λ c. omega arith)
+    -- shared-slice-read-with-cell
     (λ c. omega arith)
+    -- with-cell-requires
     (λ c κs. tt)
+    -- add-i
     (λ c. omega arith)
+    -- loop-less
     (λ c. omega arith)
+    -- loop-again
     (λ c. digest-on (c .before .before .before .loop .inv) (c .before .before .loop-test .taken) (c .with-cell .ensures))
+    -- returns
     (λ c. digest-end (c .before .loop .inv) (c .loop-test .left)))

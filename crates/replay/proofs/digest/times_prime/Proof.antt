@@ -8,10 +8,21 @@ pub times-prime-spec : {M : Type 1} → statement M
 times-prime-spec =
     tie.close
     (tie.spec
+    -- wrapping-add-u64-requires
     (λ c κs. search needs)
+    -- wrapping-add-u64-requires-2
     (λ c κs. search needs)
+    -- wrapping-add-u64-requires-3
     (λ c κs. search needs)
+    -- wrapping-add-u64-requires-4
     (λ c κs. search needs)
+    -- wrapping-add-u64-requires-5
     (λ c κs. search needs)
+    -- wrapping-add-u64-requires-6
     (λ c κs. search needs)
-    (λ c. product (c .before .before .before .before .before .before .args .h) (c .before .before .before .before .before .before .fits .h .fits) (c .before .before .before .before .before .wrapping-add-u64 .ensures) (c .before .before .before .before .wrapping-add-u642 .ensures) (c .before .before .before .wrapping-add-u643 .ensures) (c .before .before .wrapping-add-u644 .ensures) (c .before .wrapping-add-u645 .ensures) (c .wrapping-add-u646 .ensures)))
+    -- returns
+    (λ c. product (c .before .before .before .before .before .before .args .h)
+    (c .before .before .before .before .before .before .fits .h .fits)
+    (c .before .before .before .before .before .wrapping-add-u64 .ensures)
+    (c .before .before .before .before .wrapping-add-u642 .ensures) (c .before .before .before .wrapping-add-u643 .ensures)
+    (c .before .before .wrapping-add-u644 .ensures) (c .before .wrapping-add-u645 .ensures) (c .wrapping-add-u646 .ensures)))

@@ -11,6 +11,9 @@ unfolding withCell
 with-cell-spec =
     tie.close
     (tie.spec
+    -- with-byte-requires
     (λ c κs. search needs)
+    -- with-byte-requires-2
     (λ c κs. search needs)
+    -- returns
     (λ c. c .with-byte2 .ensures ∙ ap (λ (k : ℕ). withByte k (c .before .before .args .v / 256)) (c .before .with-byte .ensures)))

@@ -9,10 +9,17 @@ pub before-plus-spec : {M : Type 1} → statement M
 before-plus-spec =
     tie.close
     (tie.spec
+    -- returns
     (λ c. search needs)
+    -- sub-if2
     (λ c. search needs)
+    -- shared-slice-read-if2
     (λ c. search needs)
+    -- sub-result
     (λ c. search needs)
+    -- slice-aggregate-result
     (λ c. simp length-take (omega arith))
+    -- returns-2
     (λ c. search needs)
+    -- returns-3
     (λ c. search needs))

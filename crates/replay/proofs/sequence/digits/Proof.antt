@@ -16,12 +16,21 @@ digits-spec =
     (tie.spec
     Inv-loop
     μ-loop
+    -- loop-holds
     (λ c. omega arith)
+    -- sub-i
     (λ c. omega arith)
+    -- cast-b
     (λ c. omega arith)
+    -- add-b
     (λ c. omega arith)
+    -- add-b-2
     (λ c. omega arith)
+    -- array-write-b
     (λ c. omega arith)
+    -- loop-less
     (λ c. omega arith)
+    -- loop-again
     (λ c. omega arith)
+    -- returns
     (λ c. tt))

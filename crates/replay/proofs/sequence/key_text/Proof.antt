@@ -16,14 +16,25 @@ key-text-spec =
     (tie.spec
     Inv-loop
     μ-loop
+    -- few-requires
     (λ c κs. omega arith)
+    -- loop-holds
     (λ c. omega arith)
+    -- array-read-bytes
     (λ c. omega arith)
+    -- add-bytes
     (λ c. omega arith)
+    -- array-write-bytes
     (λ c. omega arith)
+    -- add-i
     (λ c. omega arith)
+    -- loop-less
     (λ c. omega arith)
+    -- loop-again
     (λ c. omega arith)
+    -- shown-requires
     (λ c κs. omega arith)
+    -- add-t15
     (λ c. omega arith)
+    -- returns
     (λ c. tt))

@@ -18,17 +18,31 @@ keys-spec =
     (tie.spec
     Inv-loop
     μ-loop
+    -- loop-holds
     (λ c. omega arith)
+    -- mul-k
     (λ c. omega arith)
+    -- array-copy-out-k
     (λ c. omega arith)
+    -- key-requires
     (λ c κs. tt)
+    -- programmed-requires
     (λ c κs. tt)
+    -- add-found
     (λ c. omega arith)
+    -- add-i
     (λ c. omega arith)
+    -- loop-less
     (λ c. omega arith)
+    -- loop-again
     (λ c. omega arith)
+    -- put-requires
     (λ c κs. tt)
+    -- same-length
     (λ c. omega arith)
+    -- returns
     (λ c. tt)
+    -- same-length-2
     (λ c. omega arith)
+    -- returns-2
     (λ c. tt))

@@ -18,27 +18,51 @@ tabs-spec =
     (tie.spec
     Inv-loop
     μ-loop
+    -- loop-holds
     (λ c. omega arith)
+    -- array-read-bit
     (λ c. omega arith)
+    -- bit-requires
     (λ c κs. omega arith)
+    -- mul-high
     (λ c. omega arith)
+    -- add-bit
     (λ c. omega arith)
+    -- array-read-bit-2
     (λ c. omega arith)
+    -- bit-requires-2
     (λ c κs. omega arith)
+    -- add-high
     (λ c. omega arith)
+    -- add-bit-2
     (λ c. omega arith)
+    -- array-read-bit-3
     (λ c. omega arith)
+    -- bit-requires-3
     (λ c κs. omega arith)
+    -- mul-low
     (λ c. omega arith)
+    -- add-bit-3
     (λ c. omega arith)
+    -- array-read-bit-4
     (λ c. omega arith)
+    -- bit-requires-4
     (λ c κs. omega arith)
+    -- add-low
     (λ c. omega arith)
+    -- mul-hex-digit
     (λ c. omega arith)
+    -- add-hex-digit
     (λ c. omega arith)
+    -- hex-digit-requires
     (λ c κs. omega arith)
+    -- add-i
     (λ c. omega arith)
+    -- loop-less
     (λ c. omega arith)
+    -- loop-again
     (λ c. omega arith)
+    -- same-length
     (λ c. omega arith)
+    -- returns
     (λ c. tt))

@@ -8,7 +8,11 @@ pub decimal-digit-spec : {M : Type 1} → statement M
 decimal-digit-spec =
     tie.close
     (tie.spec
+    -- returns
     (λ c. digit-below _ (c .if1 .taken))
+    -- returns-2
     (λ c. digit-above _ (c .if2 .taken))
+    -- cast-result
     (λ c. search needs)
+    -- returns-3
     (λ c. digit-is _ (c .before .if1 .left) (c .if2 .left)))

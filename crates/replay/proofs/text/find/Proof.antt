@@ -18,10 +18,17 @@ find-spec =
     (tie.spec
     Inv-loop
     μ-loop
+    -- loop-holds
     (λ c. search-start _ _)
+    -- shared-slice-read-if1
     (λ c. omega arith)
+    -- returns
     (λ c. search-here (c .before .before .before .loop .inv) (c .before .before .loop-test .taken) (c .if1 .taken))
+    -- add-i
     (λ c. omega arith)
+    -- loop-less
     (λ c. omega arith)
+    -- loop-again
     (λ c. search-on (c .before .before .before .loop .inv) (c .before .before .loop-test .taken) (c .if1 .left))
+    -- returns-2
     (λ c. search-end (c .before .loop .inv) (c .loop-test .left)))

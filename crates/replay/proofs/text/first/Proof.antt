@@ -11,6 +11,9 @@ pub first-spec : {M : Type 1} → statement M
 first-spec =
     tie.close
     (tie.spec
+    -- find-requires
     (λ c κs. search needs)
+    -- slice-aggregate-result
     (λ c. simp length-take (omega arith))
+    -- returns
     (λ c. ap (λ (k : ℕ). take k (c .before .before .before .args .line .now)) (c .before .find .ensures .first)))

@@ -8,11 +8,19 @@ pub hex-digit-spec : {M : Type 1} → statement M
 hex-digit-spec =
     tie.close
     (tie.spec
+    -- returns
     (λ c. hex-below _ (c .if1 .taken))
+    -- cast-result
     (λ c. search needs)
+    -- returns-2
     (λ c. hex-decimal _ (c .before .if1 .left) (c .if2 .taken))
+    -- returns-3
     (λ c. hex-between _ (c .before .if2 .left) (c .if3 .taken))
+    -- returns-4
     (λ c. hex-above _ (c .if4 .taken))
+    -- cast-result-2
     (λ c. search needs)
+    -- add-result
     (λ c. search needs)
+    -- returns-5
     (λ c. hex-letter _ (c .before .if3 .left) (c .if4 .left)))

@@ -18,15 +18,30 @@ number-spec =
     (tie.spec
     Inv-loop
     μ-loop
+    -- returns
     (λ c. read-none (c .before .before .args .word .now) (c .if1 .taken))
+    -- loop-holds
     (λ c. read-start _)
+    -- shared-slice-read-decimal-digit
     (λ c. omega arith)
+    -- decimal-digit-requires
     (λ c κs. tt)
-    (λ c. read-bad (c .before .before .before .before .loop .inv) (c .before .before .before .loop-test .taken) (c .before .decimal-digit .ensures) (c .if2 .taken))
+    -- returns-2
+    (λ c. read-bad (c .before .before .before .before .loop .inv) (c .before .before .before .loop-test .taken)
+    (c .before .decimal-digit .ensures) (c .if2 .taken))
+    -- mul-n
     (λ c. omega arith)
+    -- add-n
     (λ c. omega arith)
-    (λ c. read-large (c .before .before .before .before .before .loop .inv) (c .before .before .before .before .loop-test .taken) (c .before .before .decimal-digit .ensures) (c .if3 .taken))
+    -- returns-3
+    (λ c. read-large (c .before .before .before .before .before .loop .inv) (c .before .before .before .before .loop-test .taken)
+    (c .before .before .decimal-digit .ensures) (c .if3 .taken))
+    -- add-i
     (λ c. omega arith)
+    -- loop-less
     (λ c. omega arith)
-    (λ c. read-on (c .before .before .before .before .before .loop .inv) (c .before .before .before .before .loop-test .taken) (c .before .before .decimal-digit .ensures) (c .before .if2 .left) (c .if3 .left))
+    -- loop-again
+    (λ c. read-on (c .before .before .before .before .before .loop .inv) (c .before .before .before .before .loop-test .taken)
+    (c .before .before .decimal-digit .ensures) (c .before .if2 .left) (c .if3 .left))
+    -- returns-4
     (λ c. read-end (c .before .loop .inv) (omega arith) (c .loop-test .left)))

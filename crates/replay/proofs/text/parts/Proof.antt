@@ -8,5 +8,7 @@ pub parts-spec : {M : Type 1} → statement M
 parts-spec =
     tie.close
     (tie.spec
+    -- returns
     (λ c. (rw (eq-eqb (c .before .args .c) 0x20 (c .if1 .taken)), omega arith))
+    -- returns-2
     (λ c. (rw (ne-eqb (c .before .args .c) 0x20 (c .if1 .left)), omega arith)))

@@ -18,11 +18,20 @@ word-count-spec =
     (tie.spec
     Inv-loop
     μ-loop
+    -- loop-holds
     (λ c. count-start _)
+    -- shared-slice-read-parts
     (λ c. omega arith)
+    -- parts-requires
     (λ c κs. tt)
+    -- add-n
     (λ c. omega arith)
+    -- add-i
     (λ c. omega arith)
+    -- loop-less
     (λ c. omega arith)
-    (λ c. count-on (c .before .before .before .loop .inv) (c .before .before .loop-test .taken) (c .parts .ensures .0) (c .parts .ensures .1))
+    -- loop-again
+    (λ c. count-on (c .before .before .before .loop .inv) (c .before .before .loop-test .taken) (c .parts .ensures .0)
+    (c .parts .ensures .1))
+    -- returns
     (λ c. count-end (c .before .loop .inv) (c .loop-test .left)))

@@ -18,11 +18,19 @@ text-spec =
     (tie.spec
     Inv-loop
     μ-loop
+    -- loop-holds
     (λ c. omega arith)
+    -- shared-slice-read-put
     (λ c. omega arith)
+    -- put-requires
     (λ c κs. tt)
+    -- add-i
     (λ c. omega arith)
+    -- loop-less
     (λ c. omega arith)
+    -- loop-again
     (λ c. omega arith)
+    -- same-length
     (λ c. omega arith)
+    -- returns
     (λ c. tt))
