@@ -46,6 +46,6 @@ install: $(LIB)
 	sed -e 's|@PREFIX@|$(PREFIX)|' -e "s|@VERSION@|$$(cat VERSION)|" wy50.pc.in > $(DESTDIR)$(PREFIX)/lib/pkgconfig/wy50.pc
 
 bench: $(LIB)
-	@pkg-config --exists vterm || { echo 'make bench needs libvterm: apt-get install -y libvterm-dev'; exit 1; }
+	@echo '#include <vterm.h>' | $(CC) -E - >/dev/null 2>&1 || { echo 'make bench needs libvterm: apt-get install -y libvterm-dev'; exit 1; }
 	@CARGO_TARGET_DIR=target/bench cargo build --release --offline --quiet --manifest-path tests/bench/Cargo.toml
 	@target/bench/release/bench docs/BENCHMARKS.md

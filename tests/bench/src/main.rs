@@ -181,7 +181,7 @@ fn introduction(out: &mut String) {
         "| libvterm | {}, with its screen layer, damage merged by scrolls |",
         said("dpkg-query", &["-W", "-f", "${Version}", "libvterm-dev"])
     );
-    line!(out, "| C floor | `tests/bench/floor.c`, {}, -O3 |", said("cc", &["-dumpfullversion"]));
+    line!(out, "| C floor | `tests/bench/floor.c`, {}, -O3 |", said("cc", &["--version"]));
     line!(out, "| fed | reads of {READ} bytes, a reply room of {READ} |");
     line!(out, "| memory | a page of {} bytes and a state of {} bytes, nothing allocated |", 2 * CELLS, std::mem::size_of::<State>());
     line!(out);

@@ -29,7 +29,7 @@ pub const WORKLOADS: [Workload; 4] = [
     },
     Workload {
         name: "edits",
-        what: "ESC =, an edit (ESC Q W E R), a clear (ESC T Y t y ; :) or a split (ESC x J), and 4 to 20 characters",
+        what: "ESC =, then an edit (ESC Q W E R), a clear (ESC T Y t y ; :), a split (ESC x) or the other segment (ESC J), and 4 to 20 characters",
         translated: false,
         start: nothing,
         round: edit,
