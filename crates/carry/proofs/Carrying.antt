@@ -1,12 +1,14 @@
 -- A plan carried out: what the parts give is what the rules say.
+--     carried-is      the effect by another name
+--     no-room         the reply is longer than the room
+--     carried-out     it fits
 -- Assumes nothing.
 use mathlib.Core.Path.{_≡_, refl, sym, ap, subst, _∙_}
 use mathlib.Core.Bool.{false≢true}
-use mathlib.Core.List.{List, []}
+use mathlib.Core.List.{List}
 use Prim.Native.Nat.{ℕ, zero-le, _<_, _≤_}
 use borrow.Author.Tests.{le-leb, lt-leb}
 use lib.ListN.{length}
-use Rattle.rules.specs.Cell.{pick}
 use Rattle.rules.specs.Search.{guardedAt}
 use Rattle.rules.specs.Carry.{Effect, quiet, applied, replied, landed, done, carried}
 use Rattle.rules.specs.Room.{over}
@@ -21,7 +23,8 @@ pub carried-is : {e e′ : Effect} {r : CoreResult} {p w w′ : List ℕ} → e 
 carried-is {e} {e′} {r} {p} {w} {w′} h k = subst (λ (x : Effect). Carried x r p w w′) (sym h) k
 
 module _ (p : List ℕ) (c : Core) (x : Plan) (w : List ℕ) {n : ℕ} (e : n ≡ length (replied (c .modes .protect) p (x .reply))) where
-  pub no-room : length w < n → Carried (carried p c x (length w)) (record { answer = Answer.NoRoom; replied = 0; core = x .next; change = SetupChange.Nothing }) p w w
+  pub no-room : length w < n
+      → Carried (carried p c x (length w)) (record { answer = Answer.NoRoom; replied = 0; core = x .next; change = SetupChange.Nothing }) p w w
   unfolding carried over
   no-room h =
       carried-is {e′ = quiet 6 c p} (rw (← e, lt-leb n (length w) h))

@@ -1,6 +1,5 @@
 -- `carry::replies::put_bytes` meets its contract. The loop: putting the bytes to come makes of the room what all of them make of the first.
-use mathlib.Core.Path.{_≡_, sym, ap, _∙_}
-use mathlib.Core.List.{List}
+use mathlib.Core.Path.{_≡_, _∙_}
 use Prim.Native.Nat.{_-_, _≤_}
 use native.Mathlib.Omega.{arith}
 use borrow.Author.Needs.{needs}
@@ -24,17 +23,26 @@ put-bytes-spec =
     (tie.spec
     Inv-loop
     μ-loop
+    -- loop-holds
     (λ c. search needs)
+    -- shared-slice-read-room
     (λ c. search needs)
+    -- slice-write-room
     (λ c. omega arith)
+    -- add-i
     (λ c. search needs)
+    -- loop-less
     (λ c. search needs)
+    -- loop-again
     (λ c.
     let x = c .before .before .before .args in
     let l = c .before .before .loop in
     (omega arith, (length-set (l .room) (l .i) _ ∙ l .inv .1 .0, bytes-put (now (x .bytes)) (l .i) (l .room) (omega arith) ∙ l .inv .1 .1)))
+    -- same-length
     (λ c. search needs)
+    -- returns
     (λ c.
     let x = c .before .before .args in
     let l = c .before .loop in
-    unstored (l .i) (bytes-none (now (x .bytes)) (l .i) (omega arith)) (l .inv .1 .1) ∙ stored-over (now (x .bytes)) (now (x .room)) (c .before .before .pre)))
+    unstored (l .i) (bytes-none (now (x .bytes)) (l .i) (omega arith)) (l .inv .1 .1)
+    ∙ stored-over (now (x .bytes)) (now (x .room)) (c .before .before .pre)))

@@ -1,19 +1,12 @@
-use mathlib.Core.Path.{_≡_, refl, sym, ap, subst, _∙_}
-use native.Mathlib.Omega.{arith}
-use Prim.Native.Nat.{ℕ, _+_, _-_, _*_, _<_, _≤_}
-use denote.Ref.{now}
-use lib.ListN.{length}
-use Rattle.rules.specs.Good.{GoodWrite, GoodReply, GoodLand}
+-- `carry::replies::put_reply` meets its contract. In each arm the reply is the one that the match told.
+use mathlib.Core.Path.{refl}
 use mathlib.Core.Logic.{inl}
-use Rattle.rules.specs.declared.Reply.{Reply}
-use Rattle.rules.specs.Carry.{replied, textOf}
-use Rattle.carry.proofs.Bytes.{put-after, length-after, room-after}
-use mathlib.Core.Bool.{false}
-use Rattle.rules.specs.Cell.{pick}
-use Rattle.rules.specs.Row.{width}
-use Rattle.rules.specs.Room.{over}
-use Rattle.page.proofs.Room.{stored-over}
+use native.Mathlib.Omega.{arith}
 use borrow.Author.Needs.{needs}
+use denote.Ref.{now}
+use Rattle.rules.specs.Carry.{replied}
+use Rattle.rules.specs.Room.{over}
+use Rattle.carry.proofs.Bytes.{cell-put, text-fits, text-put}
 use Rattle.carry.proofs.replies.put_reply.Statement.{statement}
 use Rattle.carry.proofs.replies.put_reply.Tie as tie
 
@@ -22,44 +15,108 @@ unfolding replied over
 put-reply-spec =
     tie.close
     (tie.spec
+    -- enum-told
     (λ c. search needs)
+    -- enum-told-2
     (λ c. search needs)
+    -- slice-aggregate-put-bytes
     (λ c. search needs)
-    (λ c κs. let k = subst GoodReply (c .before .before .enum-told2 .given .1) (c .before .before .before .before .before .before .pre .1 .0) in let m = subst (λ (y : Reply). length (replied (c .before .before .before .before .before .before .args .on) (now (c .before .before .before .before .before .before .args .page)) y) ≤ length (now (c .before .before .before .before .before .before .args .room))) (c .before .before .enum-told2 .given .1) (c .before .before .before .before .before .before .pre .1 .1) in m)
+    -- put-bytes-requires
+    (λ c κs. rw (c .before .before .enum-told2 .given .1) at (c .before .before .before .before .before .before .pre .1 .1))
+    -- enum-told-3
     (λ c. search needs)
+    -- slice-aggregate-put-bytes-2
     (λ c. search needs)
-    (λ c κs. let k = subst GoodReply (c .before .before .enum-told3 .given .1) (c .before .before .before .before .before .before .pre .1 .0) in let m = subst (λ (y : Reply). length (replied (c .before .before .before .before .before .before .args .on) (now (c .before .before .before .before .before .before .args .page)) y) ≤ length (now (c .before .before .before .before .before .before .args .room))) (c .before .before .enum-told3 .given .1) (c .before .before .before .before .before .before .pre .1 .1) in m)
+    -- put-bytes-requires-2
+    (λ c κs. rw (c .before .before .enum-told3 .given .1) at (c .before .before .before .before .before .before .pre .1 .1))
+    -- enum-known-x
     (λ c. search needs)
+    -- slice-aggregate-put-bytes-3
     (λ c. search needs)
-    (λ c κs. let k = subst GoodReply (c .before .before .before .x .given .1) (c .before .before .before .before .before .before .before .pre .1 .0) in let m = subst (λ (y : Reply). length (replied (c .before .before .before .before .before .before .before .args .on) (now (c .before .before .before .before .before .before .before .args .page)) y) ≤ length (now (c .before .before .before .before .before .before .before .args .room))) (c .before .before .before .x .given .1) (c .before .before .before .before .before .before .before .pre .1 .1) in m)
+    -- put-bytes-requires-3
+    (λ c κs. rw (c .before .before .before .x .given .1) at (c .before .before .before .before .before .before .before .pre .1 .1))
+    -- enum-known-x-2
     (λ c. search needs)
+    -- slice-aggregate-put-bytes-4
     (λ c. search needs)
-    (λ c κs. let k = subst GoodReply (c .before .before .before .x2 .given .1) (c .before .before .before .before .before .before .before .pre .1 .0) in let m = subst (λ (y : Reply). length (replied (c .before .before .before .before .before .before .before .args .on) (now (c .before .before .before .before .before .before .before .args .page)) y) ≤ length (now (c .before .before .before .before .before .before .before .args .room))) (c .before .before .before .x2 .given .1) (c .before .before .before .before .before .before .before .pre .1 .1) in m)
+    -- put-bytes-requires-4
+    (λ c κs. rw (c .before .before .before .x2 .given .1) at (c .before .before .before .before .before .before .before .pre .1 .1))
+    -- enum-known-x-3
     (λ c. search needs)
-    (λ c κs. let k = subst GoodReply (c .before .before .x3 .given .1) (c .before .before .before .before .before .before .pre .1 .0) in let m = subst (λ (y : Reply). length (replied (c .before .before .before .before .before .before .args .on) (now (c .before .before .before .before .before .before .args .page)) y) ≤ length (now (c .before .before .before .before .before .before .args .room))) (c .before .before .x3 .given .1) (c .before .before .before .before .before .before .pre .1 .1) in m)
+    -- put-decimal-requires
+    (λ c κs. rw (c .before .before .x3 .given .1) at (c .before .before .before .before .before .before .pre .1 .1))
+    -- enum-known-x-4
     (λ c. search needs)
+    -- cast-put-text
     (λ c. search needs)
+    -- cast-put-text-2
     (λ c. search needs)
+    -- add-put-text
     (λ c. search needs)
-    (λ c κs. let k = subst GoodReply (c .before .before .x4 .given .1) (c .before .before .before .before .before .before .pre .1 .0) in let m = subst (λ (y : Reply). length (replied (c .before .before .before .before .before .before .args .on) (now (c .before .before .before .before .before .before .args .page)) y) ≤ length (now (c .before .before .before .before .before .before .args .room))) (c .before .before .x4 .given .1) (c .before .before .before .before .before .before .pre .1 .1) in (inl refl, (omega arith, (omega (arith, k, c .before .before .before .before .before .before .pre .0), (c .before .before .before .before .before .before .pre .0, m)))))
+    -- put-text-requires
+    (λ c κs.
+    let told = c .before .before .x4 .given .1 in
+    let pre = c .before .before .before .before .before .before .pre in
+    (inl refl, (omega arith, (omega (arith, rw told at (pre .1 .0)), (pre .0, rw told at (pre .1 .1))))))
+    -- enum-known-x-5
     (λ c. search needs)
+    -- leaves-out-requires
     (λ c κs. search needs)
+    -- cast-put-text-3
     (λ c. search needs)
+    -- cast-put-text-4
     (λ c. search needs)
-    (λ c κs. let k = subst GoodReply (c .before .before .before .x5 .given .1) (c .before .before .before .before .before .before .before .pre .1 .0) in let m = subst (λ (y : Reply). length (replied (c .before .before .before .before .before .before .before .args .on) (now (c .before .before .before .before .before .before .before .args .page)) y) ≤ length (now (c .before .before .before .before .before .before .before .args .room))) (c .before .before .before .x5 .given .1) (c .before .before .before .before .before .before .before .pre .1 .1) in (inl refl, (k .0, (omega (arith, k .1, c .before .before .before .before .before .before .before .pre .0), (c .before .before .before .before .before .before .before .pre .0, rw (c .leaves-out .ensures) (omega (arith, room-after (textOf width (pick (c .before .before .before .x5 .given .0 .0) false (c .before .before .before .before .before .before .before .args .on)) (now (c .before .before .before .before .before .before .before .args .page)) (c .before .before .before .x5 .given .0 .1 .0) (c .before .before .before .x5 .given .0 .1 .1 .0)) 0x0d m)))))))
-    (λ c. let k = subst GoodReply (c .before .before .before .before .before .before .x5 .given .1) (c .before .before .before .before .before .before .before .before .before .before .pre .1 .0) in let m = subst (λ (y : Reply). length (replied (c .before .before .before .before .before .before .before .before .before .before .args .on) (now (c .before .before .before .before .before .before .before .before .before .before .args .page)) y) ≤ length (now (c .before .before .before .before .before .before .before .before .before .before .args .room))) (c .before .before .before .before .before .before .x5 .given .1) (c .before .before .before .before .before .before .before .before .before .before .pre .1 .1) in let r = room-after (textOf width (pick (c .before .before .before .before .before .before .x5 .given .0 .0) false (c .before .before .before .before .before .before .before .before .before .before .args .on)) (now (c .before .before .before .before .before .before .before .before .before .before .args .page)) (c .before .before .before .before .before .before .x5 .given .0 .1 .0) (c .before .before .before .before .before .before .x5 .given .0 .1 .1 .0)) 0x0d m in omega (arith, r, rw (c .before .before .before .leaves-out .ensures) at (c .before .before .put-text2 .ensures .0), c .before .before .put-text2 .kept))
-    (λ c. sym (ap (λ (y : Reply). over (replied (c .before .before .before .before .args .on) (now (c .before .before .before .before .args .page)) y) (now (c .before .before .before .before .args .room))) (c .enum-told .given .1)))
+    -- put-text-requires-2
+    (λ c κs.
+    let told = c .before .before .before .x5 .given .1 in
+    let s = c .before .before .before .before .before .before .before in
+    let x = s .args in
+    let good = rw told at (s .pre .1 .0) in
+    let fits = text-fits (x .on) (now (x .page)) told (c .leaves-out .ensures) (now (x .room)) (s .pre .1 .1) in
+    (inl refl, (good .0, (omega (arith, good), (s .pre .0, omega (arith, fits))))))
+    -- slice-write-room
+    (λ c.
+    let l = c .before .before .before in
+    let s = l .before .before .before .before .before .before .before in
+    let x = s .args in
+    let fits = text-fits (x .on) (now (x .page)) (l .before .before .before .x5 .given .1) (l .leaves-out .ensures) (now (x .room)) (s .pre .1 .1) in
+    omega (arith, fits, c .before .before .put-text2 .ensures .0, c .before .before .put-text2 .kept))
+    -- returns
+    (λ c. rw (c .enum-told .given .1))
+    -- same-length
     (λ c. search needs)
-    (λ c. c .before .before .put-bytes .ensures ∙ sym (ap (λ (y : Reply). over (replied (c .before .before .before .before .before .before .before .before .before .args .on) (now (c .before .before .before .before .before .before .before .before .before .args .page)) y) (now (c .before .before .before .before .before .before .before .before .before .args .room))) (c .before .before .before .before .before .enum-told2 .given .1)))
+    -- returns-2
+    (λ c. rw (c .before .before .before .before .before .enum-told2 .given .1) (c .before .before .put-bytes .ensures))
+    -- same-length-2
     (λ c. search needs)
-    (λ c. c .before .before .put-bytes2 .ensures ∙ sym (ap (λ (y : Reply). over (replied (c .before .before .before .before .before .before .before .before .before .args .on) (now (c .before .before .before .before .before .before .before .before .before .args .page)) y) (now (c .before .before .before .before .before .before .before .before .before .args .room))) (c .before .before .before .before .before .enum-told3 .given .1)))
+    -- returns-3
+    (λ c. rw (c .before .before .before .before .before .enum-told3 .given .1) (c .before .before .put-bytes2 .ensures))
+    -- same-length-3
     (λ c. search needs)
-    (λ c. c .before .before .put-bytes3 .ensures ∙ sym (ap (λ (y : Reply). over (replied (c .before .before .before .before .before .before .before .before .before .before .args .on) (now (c .before .before .before .before .before .before .before .before .before .before .args .page)) y) (now (c .before .before .before .before .before .before .before .before .before .before .args .room))) (c .before .before .before .before .before .before .x .given .1)))
+    -- returns-4
+    (λ c. rw (c .before .before .before .before .before .before .x .given .1) (c .before .before .put-bytes3 .ensures))
+    -- same-length-4
     (λ c. search needs)
-    (λ c. c .before .before .put-bytes4 .ensures ∙ sym (ap (λ (y : Reply). over (replied (c .before .before .before .before .before .before .before .before .before .before .args .on) (now (c .before .before .before .before .before .before .before .before .before .before .args .page)) y) (now (c .before .before .before .before .before .before .before .before .before .before .args .room))) (c .before .before .before .before .before .before .x2 .given .1)))
+    -- returns-5
+    (λ c. rw (c .before .before .before .before .before .before .x2 .given .1) (c .before .before .put-bytes4 .ensures))
+    -- same-length-5
     (λ c. search needs)
-    (λ c. c .before .before .put-decimal .ensures ∙ sym (ap (λ (y : Reply). over (replied (c .before .before .before .before .before .before .before .before .before .args .on) (now (c .before .before .before .before .before .before .before .before .before .args .page)) y) (now (c .before .before .before .before .before .before .before .before .before .args .room))) (c .before .before .before .before .before .x3 .given .1)))
+    -- returns-6
+    (λ c. rw (c .before .before .before .before .before .x3 .given .1) (c .before .before .put-decimal .ensures))
+    -- same-length-6
     (λ c. search needs)
-    (λ c. let k = subst GoodReply (c .before .before .before .before .before .x4 .given .1) (c .before .before .before .before .before .before .before .before .before .pre .1 .0) in let m = subst (λ (y : Reply). length (replied (c .before .before .before .before .before .before .before .before .before .args .on) (now (c .before .before .before .before .before .before .before .before .before .args .page)) y) ≤ length (now (c .before .before .before .before .before .before .before .before .before .args .room))) (c .before .before .before .before .before .x4 .given .1) (c .before .before .before .before .before .before .before .before .before .pre .1 .1) in c .before .before .put-text .ensures .1 ∙ stored-over _ _ m ∙ sym (ap (λ (y : Reply). over (replied (c .before .before .before .before .before .before .before .before .before .args .on) (now (c .before .before .before .before .before .before .before .before .before .args .page)) y) (now (c .before .before .before .before .before .before .before .before .before .args .room))) (c .before .before .before .before .before .x4 .given .1)))
+    -- returns-7
+    (λ c.
+    let s = c .before .before .before .before .before .before .before .before .before in
+    let x = s .args in
+    let told = c .before .before .before .before .before .x4 .given .1 in
+    cell-put (x .on) (now (x .page)) told (now (x .room)) (s .pre .1 .1) (c .before .before .put-text .ensures .1))
+    -- same-length-7
     (λ c. search needs)
-    (λ c. let k = subst GoodReply (c .before .before .before .before .before .before .x5 .given .1) (c .before .before .before .before .before .before .before .before .before .before .pre .1 .0) in let m = subst (λ (y : Reply). length (replied (c .before .before .before .before .before .before .before .before .before .before .args .on) (now (c .before .before .before .before .before .before .before .before .before .before .args .page)) y) ≤ length (now (c .before .before .before .before .before .before .before .before .before .before .args .room))) (c .before .before .before .before .before .before .x5 .given .1) (c .before .before .before .before .before .before .before .before .before .before .pre .1 .1) in put-after (textOf width (pick (c .before .before .before .before .before .before .x5 .given .0 .0) false (c .before .before .before .before .before .before .before .before .before .before .args .on)) (now (c .before .before .before .before .before .before .before .before .before .before .args .page)) (c .before .before .before .before .before .before .x5 .given .0 .1 .0) (c .before .before .before .before .before .before .x5 .given .0 .1 .1 .0)) (now (c .before .before .before .before .before .before .before .before .before .before .args .room)) 0x0d (rw (c .before .before .before .leaves-out .ensures) at (c .before .before .put-text2 .ensures .0)) (rw (c .before .before .before .leaves-out .ensures) at (c .before .before .put-text2 .ensures .1)) (room-after (textOf width (pick (c .before .before .before .before .before .before .x5 .given .0 .0) false (c .before .before .before .before .before .before .before .before .before .before .args .on)) (now (c .before .before .before .before .before .before .before .before .before .before .args .page)) (c .before .before .before .before .before .before .x5 .given .0 .1 .0) (c .before .before .before .before .before .before .x5 .given .0 .1 .1 .0)) 0x0d m) ∙ sym (ap (λ (y : Reply). over (replied (c .before .before .before .before .before .before .before .before .before .before .args .on) (now (c .before .before .before .before .before .before .before .before .before .before .args .page)) y) (now (c .before .before .before .before .before .before .before .before .before .before .args .room))) (c .before .before .before .before .before .before .x5 .given .1))))
+    -- returns-8
+    (λ c.
+    let l = c .before .before .before in
+    let s = l .before .before .before .before .before .before .before in
+    let x = s .args in
+    text-put (x .on) (now (x .page)) (l .before .before .before .x5 .given .1) (l .leaves-out .ensures) (now (x .room)) (s .pre .1 .1)
+    (c .before .before .put-text2 .ensures .0) (c .before .before .put-text2 .ensures .1)))

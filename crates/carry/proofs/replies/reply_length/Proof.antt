@@ -1,18 +1,12 @@
-use mathlib.Core.Path.{_≡_, refl, sym, ap, subst, _∙_}
-use native.Mathlib.Omega.{arith}
-use Prim.Native.Nat.{ℕ, _+_, _-_, _*_, _<_, _≤_}
-use denote.Ref.{now}
-use lib.ListN.{length}
-use Rattle.rules.specs.Good.{GoodWrite, GoodReply, GoodLand}
+-- `carry::replies::reply_length` meets its contract. In each arm the reply is the one that the match told.
+use mathlib.Core.Path.{refl}
 use mathlib.Core.Logic.{inl}
-use Rattle.rules.specs.declared.Reply.{Reply}
-use Rattle.rules.specs.Carry.{replied, textOf}
-use Rattle.carry.proofs.Bytes.{put-after, length-after, room-after}
-use mathlib.Core.Bool.{false}
-use Rattle.rules.specs.Cell.{pick}
-use Rattle.rules.specs.Row.{width}
-use Rattle.rules.proofs.Bound.{part-bound}
+use native.Mathlib.Omega.{arith}
 use borrow.Author.Needs.{needs}
+use denote.Ref.{now}
+use Rattle.rules.specs.Carry.{replied}
+use Rattle.rules.proofs.Bound.{part-bound}
+use Rattle.carry.proofs.Bytes.{text-counted}
 use Rattle.carry.proofs.replies.reply_length.Statement.{statement}
 use Rattle.carry.proofs.replies.reply_length.Tie as tie
 
@@ -21,28 +15,67 @@ unfolding replied
 reply-length-spec =
     tie.close
     (tie.spec
+    -- enum-told
     (λ c. search needs)
+    -- enum-told-2
     (λ c. search needs)
+    -- enum-told-3
     (λ c. search needs)
+    -- enum-told-4
     (λ c. search needs)
+    -- enum-told-5
     (λ c. search needs)
+    -- enum-told-6
     (λ c. search needs)
+    -- enum-known-x
     (λ c. search needs)
+    -- cast-text-length
     (λ c. search needs)
+    -- cast-text-length-2
     (λ c. search needs)
+    -- add-text-length
     (λ c. search needs)
-    (λ c κs. let k = subst GoodReply (c .before .x .given .1) (c .before .before .before .before .pre .1) in (inl refl, (omega arith, (omega (arith, k, c .before .before .before .before .pre .0), c .before .before .before .before .pre .0))))
+    -- text-length-requires
+    (λ c κs.
+    let s = c .before .before .before .before in
+    (inl refl, (omega arith, (omega (arith, rw (c .before .x .given .1) at (s .pre .1)), s .pre .0))))
+    -- enum-known-x-2
     (λ c. search needs)
+    -- leaves-out-requires
     (λ c κs. search needs)
+    -- cast-text-length-3
     (λ c. search needs)
+    -- cast-text-length-4
     (λ c. search needs)
-    (λ c κs. let k = subst GoodReply (c .before .before .x2 .given .1) (c .before .before .before .before .before .pre .1) in (inl refl, (k .0, (omega (arith, k .1, c .before .before .before .before .before .pre .0), c .before .before .before .before .before .pre .0))))
-    (λ c. let k = subst GoodReply (c .before .before .before .x2 .given .1) (c .before .before .before .before .before .before .pre .1) in omega (arith, c .text-length2 .ensures, part-bound (c .before .leaves-out .result) (now (c .before .before .before .before .before .before .args .page)) (c .before .before .before .x2 .given .0 .1 .0) (c .before .before .before .x2 .given .0 .1 .1 .0) (k .0) (k .1)))
-    (λ c. sym (ap (λ (y : Reply). length (replied (c .before .before .before .args .on) (now (c .before .before .before .args .page)) y)) (c .enum-told .given .1)))
-    (λ c. sym (ap (λ (y : Reply). length (replied (c .before .before .before .args .on) (now (c .before .before .before .args .page)) y)) (c .enum-told2 .given .1)))
-    (λ c. sym (ap (λ (y : Reply). length (replied (c .before .before .before .args .on) (now (c .before .before .before .args .page)) y)) (c .enum-told3 .given .1)))
-    (λ c. sym (ap (λ (y : Reply). length (replied (c .before .before .before .args .on) (now (c .before .before .before .args .page)) y)) (c .enum-told4 .given .1)))
-    (λ c. sym (ap (λ (y : Reply). length (replied (c .before .before .before .args .on) (now (c .before .before .before .args .page)) y)) (c .enum-told5 .given .1)))
-    (λ c. sym (ap (λ (y : Reply). length (replied (c .before .before .before .args .on) (now (c .before .before .before .args .page)) y)) (c .enum-told6 .given .1)))
-    (λ c. c .text-length .ensures ∙ sym (ap (λ (y : Reply). length (replied (c .before .before .before .before .before .args .on) (now (c .before .before .before .before .before .args .page)) y)) (c .before .before .x .given .1)))
-    (λ c. ap (λ (n : ℕ). n + 1) (c .text-length2 .ensures ∙ rw (c .before .leaves-out .ensures)) ∙ sym (length-after (textOf width (pick (c .before .before .before .x2 .given .0 .0) false (c .before .before .before .before .before .before .args .on)) (now (c .before .before .before .before .before .before .args .page)) (c .before .before .before .x2 .given .0 .1 .0) (c .before .before .before .x2 .given .0 .1 .1 .0)) 0x0d) ∙ sym (ap (λ (y : Reply). length (replied (c .before .before .before .before .before .before .args .on) (now (c .before .before .before .before .before .before .args .page)) y)) (c .before .before .before .x2 .given .1))))
+    -- text-length-requires-2
+    (λ c κs.
+    let s = c .before .before .before .before .before in
+    let good = rw (c .before .before .x2 .given .1) at (s .pre .1) in
+    (inl refl, (good .0, (omega (arith, good), s .pre .0))))
+    -- add-result
+    (λ c.
+    let s = c .before .before .before .before .before .before in
+    let told = c .before .before .before .x2 in
+    let good = rw (told .given .1) at (s .pre .1) in
+    let a = told .given .0 .1 .0 in
+    let e = told .given .0 .1 .1 .0 in
+    omega (arith, c .text-length2 .ensures, part-bound (c .before .leaves-out .result) (now (s .args .page)) a e (good .0) (good .1)))
+    -- returns
+    (λ c. rw (c .enum-told .given .1))
+    -- returns-2
+    (λ c. rw (c .enum-told2 .given .1))
+    -- returns-3
+    (λ c. rw (c .enum-told3 .given .1))
+    -- returns-4
+    (λ c. rw (c .enum-told4 .given .1))
+    -- returns-5
+    (λ c. rw (c .enum-told5 .given .1))
+    -- returns-6
+    (λ c. rw (c .enum-told6 .given .1))
+    -- returns-7
+    (λ c. rw (c .before .before .x .given .1) (c .text-length .ensures))
+    -- returns-8
+    (λ c.
+    let x = c .before .before .before .before .before .before .args in
+    let told = c .before .before .before .x2 .given .1 in
+    text-counted (x .on) (now (x .page)) told (c .before .leaves-out .ensures) (c .text-length2 .ensures)))
