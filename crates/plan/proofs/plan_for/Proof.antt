@@ -1,4 +1,4 @@
--- `plan_for` meets its contract.
+-- `plan::plan_for` meets its contract.
 use mathlib.Core.Path.{_∙_}
 use borrow.Author.Needs.{needs}
 use Rattle.rules.specs.Plan.{planRule}
@@ -11,50 +11,119 @@ unfolding planRule
 plan-for-spec =
     tie.close
     (tie.spec
+    -- enum-told
     (λ c. search needs)
+    -- idle-requires
     (λ c κs. search needs)
+    -- plain-requires
     (λ c κs. search needs)
+    -- enum-known-d
     (λ c. search needs)
-    (λ c κs. (c .before .before .before .before .pre .0, screen-inside _ (c .before .before .before .before .pre .1)))
+    -- plan-move-requires
+    (λ c κs. let s = c .before .before .before .before in (s .pre .0, screen-inside _ (s .pre .1)))
+    -- enum-known-d-2
     (λ c. search needs)
+    -- plan-window-requires
     (λ c κs. search needs)
+    -- enum-known-d-3
     (λ c. search needs)
-    (λ c κs. (c .before .before .before .before .pre .0, screen-inside _ (c .before .before .before .before .pre .1)))
+    -- plan-store-requires
+    (λ c κs. let s = c .before .before .before .before in (s .pre .0, screen-inside _ (s .pre .1)))
+    -- enum-known-d-4
     (λ c. search needs)
-    (λ c κs. (c .before .before .before .before .pre .0, screen-inside _ (c .before .before .before .before .pre .1)))
+    -- plan-edit-requires
+    (λ c κs. let s = c .before .before .before .before in (s .pre .0, screen-inside _ (s .pre .1)))
+    -- enum-known-d-5
     (λ c. search needs)
+    -- plan-clear-requires
     (λ c κs. screen-inside _ (c .before .before .before .before .pre .1))
+    -- enum-known-d-6
     (λ c. search needs)
+    -- idle-requires-2
     (λ c κs. search needs)
+    -- with-mode-requires
     (λ c κs. search needs)
+    -- with-modes-requires
     (λ c κs. search needs)
+    -- plain-requires-2
     (λ c κs. search needs)
+    -- enum-told-2
     (λ c. search needs)
+    -- idle-requires-3
     (λ c κs. search needs)
+    -- with-protect-requires
     (λ c κs. search needs)
+    -- with-modes-requires-2
     (λ c κs. search needs)
+    -- cursor-of-requires
     (λ c κs. search needs)
+    -- settling-requires
     (λ c κs. search needs)
+    -- enum-told-3
     (λ c. search needs)
+    -- idle-requires-4
     (λ c κs. search needs)
+    -- next-bell-requires
     (λ c κs. search needs)
+    -- with-bells-requires
     (λ c κs. search needs)
+    -- plain-requires-3
     (λ c κs. search needs)
+    -- enum-known-d-7
     (λ c. search needs)
+    -- plan-setting-requires
     (λ c κs. search needs)
+    -- enum-known-d-8
     (λ c. search needs)
+    -- plan-send-requires
     (λ c κs. search needs)
+    -- enum-known-d-9
     (λ c. search needs)
+    -- plan-excluded-requires
     (λ c κs. screen-inside _ (c .before .before .before .before .pre .1))
+    -- returns
     (λ c. c .plain .ensures ∙ rw (c .before .idle .ensures, c .before .before .enum-told .given .1))
+    -- returns-2
     (λ c. c .plan-move .ensures ∙ rw (c .before .before .d .given .1))
+    -- returns-3
     (λ c. c .plan-window .ensures ∙ rw (c .before .before .d2 .given .1))
+    -- returns-4
     (λ c. c .plan-store .ensures ∙ rw (c .before .before .d3 .given .1))
+    -- returns-5
     (λ c. c .plan-edit .ensures ∙ rw (c .before .before .d4 .given .1))
+    -- returns-6
     (λ c. c .plan-clear .ensures ∙ rw (c .before .before .d5 .given .1))
-    (λ c. c .plain2 .ensures ∙ rw (c .before .with-modes .ensures, c .before .before .with-mode .ensures, c .before .before .before .idle2 .ensures, c .before .before .before .before .before .d6 .given .1))
-    (λ c. c .settling .ensures ∙ rw (c .before .before .with-modes2 .ensures, c .before .before .before .with-protect .ensures, c .before .before .before .before .idle3 .ensures, c .before .cursor-of .ensures, c .before .before .before .before .before .enum-told2 .given .1))
-    (λ c. c .plain3 .ensures ∙ rw (c .before .with-bells .ensures, c .before .before .before .idle4 .ensures, c .before .before .next-bell .ensures, c .before .before .before .before .enum-told3 .given .1))
+    -- returns-7
+    (λ c.
+    c .plain2 .ensures
+    ∙ rw (
+      c .before .with-modes .ensures,
+      c .before .before .with-mode .ensures,
+      c .before .before .before .idle2 .ensures,
+      c .before .before .before .before .before .d6 .given .1,
+    ))
+    -- returns-8
+    (λ c.
+    c .settling .ensures
+    ∙ rw (
+      c .before .before .with-modes2 .ensures,
+      c .before .before .before .with-protect .ensures,
+      c .before .before .before .before .idle3 .ensures,
+      c .before .cursor-of .ensures,
+      c .before .before .before .before .before .enum-told2 .given .1,
+    ))
+    -- returns-9
+    (λ c.
+    c .plain3 .ensures
+    ∙ rw (
+      c .before .with-bells .ensures,
+      c .before .before .before .idle4 .ensures,
+      c .before .before .next-bell .ensures,
+      c .before .before .before .before .enum-told3 .given .1,
+    ))
+    -- returns-10
     (λ c. c .plan-setting .ensures ∙ rw (c .before .before .d7 .given .1))
+    -- returns-11
     (λ c. c .plan-send .ensures ∙ rw (c .before .before .d8 .given .1))
+    -- returns-12
     (λ c. c .plan-excluded .ensures ∙ rw (c .before .before .d9 .given .1)))

@@ -1,4 +1,4 @@
--- `at_top` meets its contract.
+-- `plan::moves::at_top` meets its contract.
 use borrow.Author.Needs.{needs}
 use Rattle.rules.specs.Plan.{atTop}
 use Rattle.plan.proofs.moves.at_top.Statement.{statement}
@@ -9,7 +9,11 @@ unfolding atTop
 at-top-spec =
     tie.close
     (tie.spec
+    -- cursor-of-requires
     (λ c κs. search needs)
+    -- segment-start-requires
     (λ c κs. search needs)
+    -- add-result
     (λ c. search needs)
+    -- returns
     (λ c. rw (c .before .cursor-of .ensures, c .segment-start .ensures)))

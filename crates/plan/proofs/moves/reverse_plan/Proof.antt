@@ -1,27 +1,64 @@
--- `reverse_plan` meets its contract.
-use mathlib.Core.Path.{sym, _∙_}
-use Prim.Native.Nat.{_+_}
+-- `plan::moves::reverse_plan` meets its contract.
+use mathlib.Core.Path.{_∙_}
 use native.Mathlib.Omega.{arith}
 use borrow.Author.Needs.{needs}
-use borrow.Author.Tests.{ltb-false}
-use Rattle.rules.specs.State.{segmentStart, cursorOf}
-use Rattle.rules.specs.Plan.{atTop, reversePlan}
+use Rattle.rules.specs.Plan.{reversePlan}
+use Rattle.plan.proofs.Ranges.{below-top}
 use Rattle.plan.proofs.moves.reverse_plan.Statement.{statement}
 use Rattle.plan.proofs.moves.reverse_plan.Tie as tie
 
 pub reverse-plan-spec : {M : Type 1} → statement M
-unfolding reversePlan atTop
+unfolding reversePlan
 reverse-plan-spec =
     tie.close
     (tie.spec
+    -- cursor-of-requires
     (λ c κs. search needs)
+    -- idle-requires
     (λ c κs. search needs)
+    -- at-top-requires
     (λ c κs. search needs)
+    -- settling-requires
     (λ c κs. search needs)
-    (λ c. c .settling .ensures ∙ rw (c .before .before .before .before .idle .ensures, c .before .before .before .before .before .cursor-of .ensures, ← c .before .before .before .at-top .ensures, c .before .before .if1 .taken, c .before .if2 .taken))
+    -- returns
+    (λ c.
+    let t = c .before .before .before in
+    c .settling .ensures
+    ∙ rw (
+      t .before .idle .ensures,
+      t .before .before .cursor-of .ensures,
+      ← t .at-top .ensures,
+      c .before .before .if1 .taken,
+      c .before .if2 .taken,
+    ))
+    -- scroll-requires
     (λ c κs. search needs)
+    -- writing-requires
     (λ c κs. search needs)
-    (λ c. c .writing .ensures ∙ rw (c .before .before .before .before .before .idle .ensures, c .before .scroll .ensures, c .before .before .before .before .before .before .cursor-of .ensures, ← c .before .before .before .before .at-top .ensures, c .before .before .before .if1 .taken, c .before .before .if2 .left))
-    (λ c. let x = c .before .before .before .before .before .args .core .screen in omega (arith, c .before .before .before .cursor-of .ensures, ltb-false (cursorOf x) (segmentStart x + 80) (sym (c .before .at-top .ensures) ∙ c .if1 .left)))
+    -- returns-2
+    (λ c.
+    let t = c .before .before .before .before in
+    c .writing .ensures
+    ∙ rw (
+      t .before .idle .ensures,
+      c .before .scroll .ensures,
+      t .before .before .cursor-of .ensures,
+      ← t .at-top .ensures,
+      c .before .before .before .if1 .taken,
+      c .before .before .if2 .left,
+    ))
+    -- sub-settling
+    (λ c.
+    let top = below-top (c .before .before .before .before .before .args .core .screen) (c .before .at-top .ensures) (c .if1 .left) in
+    omega (arith, top, c .before .before .before .cursor-of .ensures))
+    -- settling-requires-2
     (λ c κs. search needs)
-    (λ c. c .settling2 .ensures ∙ rw (c .before .before .before .idle .ensures, c .before .before .before .before .cursor-of .ensures, ← c .before .before .at-top .ensures, c .before .if1 .left)))
+    -- returns-3
+    (λ c.
+    c .settling2 .ensures
+    ∙ rw (
+      c .before .before .before .idle .ensures,
+      c .before .before .before .before .cursor-of .ensures,
+      ← c .before .before .at-top .ensures,
+      c .before .if1 .left,
+    )))

@@ -1,4 +1,4 @@
--- `scrolls` meets its contract.
+-- `plan::moves::scrolls` meets its contract.
 use Rattle.rules.specs.Plan.{scrolls}
 use Rattle.plan.proofs.moves.scrolls.Statement.{statement}
 use Rattle.plan.proofs.moves.scrolls.Tie as tie
@@ -8,5 +8,7 @@ unfolding scrolls
 scrolls-spec =
     tie.close
     (tie.spec
+    -- returns
     (λ c. rw (c .before .if1 .taken))
+    -- returns-2
     (λ c. rw (c .if1 .left)))

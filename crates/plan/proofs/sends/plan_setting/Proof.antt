@@ -1,4 +1,4 @@
--- `plan_setting` meets its contract.
+-- `plan::sends::plan_setting` meets its contract.
 use mathlib.Core.Path.{_∙_}
 use borrow.Author.Needs.{needs}
 use Rattle.rules.specs.Plan.{settingPlan}
@@ -10,18 +10,41 @@ unfolding settingPlan
 plan-setting-spec =
     tie.close
     (tie.spec
+    -- cursor-of-requires
     (λ c κs. search needs)
+    -- idle-requires
     (λ c κs. search needs)
+    -- enum-known-s
     (λ c. search needs)
+    -- changing-requires
     (λ c κs. search needs)
+    -- enum-told
     (λ c. search needs)
+    -- changing-requires-2
     (λ c κs. search needs)
+    -- enum-known-s-2
     (λ c. search needs)
+    -- changing-requires-3
     (λ c κs. search needs)
+    -- enum-known-s-3
     (λ c. search needs)
+    -- feature-place-requires
     (λ c κs. search needs)
+    -- changing-requires-4
     (λ c κs. search needs)
-    (λ c. c .changing .ensures ∙ rw (c .before .before .before .before .idle .ensures, c .before .before .before .before .before .cursor-of .ensures, c .before .before .s .given .1))
+    -- returns
+    (λ c.
+    c .changing .ensures
+    ∙ rw (
+      c .before .before .before .before .idle .ensures,
+      c .before .before .before .before .before .cursor-of .ensures,
+      c .before .before .s .given .1,
+    ))
+    -- returns-2
     (λ c. c .changing2 .ensures ∙ rw (c .before .before .before .idle .ensures, c .before .enum-told .given .1))
+    -- returns-3
     (λ c. c .changing3 .ensures ∙ rw (c .before .before .before .before .idle .ensures, c .before .before .s2 .given .1))
-    (λ c. c .changing4 .ensures ∙ rw (c .before .before .before .before .before .idle .ensures, c .before .feature-place .ensures, c .before .before .before .s3 .given .1)))
+    -- returns-4
+    (λ c.
+    c .changing4 .ensures
+    ∙ rw (c .before .before .before .before .before .idle .ensures, c .before .feature-place .ensures, c .before .before .before .s3 .given .1)))

@@ -1,4 +1,4 @@
--- `activate` meets its contract.
+-- `plan::windows::activate` meets its contract.
 use mathlib.Core.Path.{_∙_}
 use borrow.Author.Needs.{needs}
 use Rattle.rules.specs.Plan.{activate}
@@ -10,9 +10,22 @@ unfolding activate
 activate-spec =
     tie.close
     (tie.spec
+    -- activated-requires
     (λ c κs. search needs)
+    -- idle-requires
     (λ c κs. search needs)
+    -- with-screen-requires
     (λ c κs. search needs)
+    -- cursor-of-requires
     (λ c κs. search needs)
+    -- settling-requires
     (λ c κs. search needs)
-    (λ c. c .settling .ensures ∙ rw (c .before .before .with-screen .ensures, c .before .before .before .idle .ensures, c .before .cursor-of .ensures, c .before .before .before .before .activated .ensures)))
+    -- returns
+    (λ c.
+    c .settling .ensures
+    ∙ rw (
+      c .before .before .with-screen .ensures,
+      c .before .before .before .idle .ensures,
+      c .before .cursor-of .ensures,
+      c .before .before .before .before .activated .ensures,
+    )))

@@ -1,4 +1,4 @@
--- `other` meets its contract.
+-- `plan::windows::other` meets its contract.
 use mathlib.Core.Path.{_∙_}
 use native.Mathlib.Omega.{arith}
 use borrow.Author.Needs.{needs}
@@ -13,9 +13,15 @@ unfolding windowPlan
 other-spec =
     tie.close
     (tie.spec
+    -- idle-requires
     (λ c κs. search needs)
+    -- plain-requires
     (λ c κs. search needs)
+    -- returns
     (λ c. c .plain .ensures ∙ rw (c .before .idle .ensures, eq-eqb _ _ (c .before .before .if1 .taken)))
+    -- sub-activate
     (λ c. let s = c .before .before .before .before in omega (arith, active-most (s .args .core .screen) (s .pre)))
+    -- activate-requires
     (λ c κs. search needs)
+    -- returns-2
     (λ c. c .activate .ensures ∙ rw (ne-eqb _ _ (c .before .before .if1 .left))))

@@ -1,4 +1,4 @@
--- `second` meets its contract.
+-- `plan::windows::second` meets its contract.
 use mathlib.Core.Path.{_∙_}
 use borrow.Author.Needs.{needs}
 use borrow.Author.Tests.{eq-eqb, ne-eqb}
@@ -11,8 +11,13 @@ unfolding windowPlan
 second-spec =
     tie.close
     (tie.spec
+    -- idle-requires
     (λ c κs. search needs)
+    -- refusing-requires
     (λ c κs. search needs)
+    -- returns
     (λ c. c .refusing .ensures ∙ rw (c .before .idle .ensures, eq-eqb _ _ (c .before .before .if1 .taken)))
+    -- activate-requires
     (λ c κs. search needs)
+    -- returns-2
     (λ c. c .activate .ensures ∙ rw (ne-eqb _ _ (c .before .if1 .left))))

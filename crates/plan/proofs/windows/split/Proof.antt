@@ -1,5 +1,6 @@
--- `split` meets its contract.
+-- `plan::windows::split` meets its contract.
 use mathlib.Core.Path.{sym, _∙_}
+use Prim.Native.Nat.{_+_, _≤_, _<_}
 use native.Mathlib.Omega.{arith}
 use borrow.Author.Needs.{needs}
 use Rattle.rules.specs.Plan.{windowPlan}
@@ -7,17 +8,38 @@ use Rattle.rules.proofs.Tests.{among-parts}
 use Rattle.plan.proofs.windows.split.Statement.{statement}
 use Rattle.plan.proofs.windows.split.Tie as tie
 
+-- in the branch taken the row is one to split at
+row-there : (c : tie.Then1) → (0x21 ≤ c .before .before .before .args .r) × (c .before .before .before .args .r < 0x21 + 23)
+row-there c = among-parts 0x21 23 (c .before .before .before .args .r) (sym (c .before .among .ensures) ∙ c .if1 .taken)
+
 pub split-spec : {M : Type 1} → statement M
 unfolding windowPlan
 split-spec =
     tie.close
     (tie.spec
+    -- idle-requires
     (λ c κs. search needs)
+    -- among-requires
     (λ c κs. search needs)
-    (λ c. omega (arith, among-parts 0x21 23 (c .before .before .before .args .r) (sym (c .before .among .ensures) ∙ c .if1 .taken)))
-    (λ c κs. omega (arith, among-parts 0x21 23 (c .before .before .before .args .r) (sym (c .before .among .ensures) ∙ c .if1 .taken)))
+    -- sub-split-screen
+    (λ c. omega (arith, row-there c))
+    -- split-screen-requires
+    (λ c κs. omega (arith, row-there c))
+    -- with-screen-requires
     (λ c κs. search needs)
+    -- settling-requires
     (λ c κs. search needs)
-    (λ c. c .settling .ensures ∙ rw (c .before .with-screen .ensures, c .before .before .before .before .before .idle .ensures, c .before .before .split-screen .ensures, ← c .before .before .before .before .among .ensures, c .before .before .before .if1 .taken))
+    -- returns
+    (λ c.
+    c .settling .ensures
+    ∙ rw (
+      c .before .with-screen .ensures,
+      c .before .before .before .before .before .idle .ensures,
+      c .before .before .split-screen .ensures,
+      ← c .before .before .before .before .among .ensures,
+      c .before .before .before .if1 .taken,
+    ))
+    -- refusing-requires
     (λ c κs. search needs)
+    -- returns-2
     (λ c. c .refusing .ensures ∙ rw (c .before .before .before .idle .ensures, ← c .before .before .among .ensures, c .before .if1 .left)))

@@ -1,4 +1,4 @@
--- `edit_cells` meets its contract.
+-- `plan::writes::edit_cells` meets its contract.
 use mathlib.Core.Path.{_∙_}
 use borrow.Author.Needs.{needs}
 use Rattle.rules.specs.Plan.{unlessGuarded}
@@ -10,10 +10,31 @@ unfolding unlessGuarded
 edit-cells-spec =
     tie.close
     (tie.spec
+    -- cursor-of-requires
     (λ c κs. search needs)
+    -- idle-requires
     (λ c κs. search needs)
+    -- guarded-at-requires
     (λ c κs. search needs)
+    -- refusing-requires
     (λ c κs. search needs)
-    (λ c. c .refusing .ensures ∙ rw (c .before .before .before .idle .ensures, ← c .before .before .before .before .cursor-of .ensures, ← c .before .before .guarded-at .ensures, c .before .if1 .taken))
+    -- returns
+    (λ c.
+    c .refusing .ensures
+    ∙ rw (
+      c .before .before .before .idle .ensures,
+      ← c .before .before .before .before .cursor-of .ensures,
+      ← c .before .before .guarded-at .ensures,
+      c .before .if1 .taken,
+    ))
+    -- writing-requires
     (λ c κs. search needs)
-    (λ c. c .writing .ensures ∙ rw (c .before .before .before .idle .ensures, ← c .before .before .before .before .cursor-of .ensures, ← c .before .before .guarded-at .ensures, c .before .if1 .left)))
+    -- returns-2
+    (λ c.
+    c .writing .ensures
+    ∙ rw (
+      c .before .before .before .idle .ensures,
+      ← c .before .before .before .before .cursor-of .ensures,
+      ← c .before .before .guarded-at .ensures,
+      c .before .if1 .left,
+    )))

@@ -1,4 +1,4 @@
--- `edit_rows` meets its contract.
+-- `plan::writes::edit_rows` meets its contract.
 use mathlib.Core.Path.{_∙_}
 use borrow.Author.Needs.{needs}
 use Rattle.rules.specs.Plan.{rowEditPlan}
@@ -10,11 +10,26 @@ unfolding rowEditPlan
 edit-rows-spec =
     tie.close
     (tie.spec
+    -- cursor-of-requires
     (λ c κs. search needs)
+    -- idle-requires
     (λ c κs. search needs)
+    -- refusing-requires
     (λ c κs. search needs)
+    -- returns
     (λ c. c .refusing .ensures ∙ rw (c .before .before .idle .ensures, c .before .if1 .taken))
+    -- segment-bottom-requires
     (λ c κs. search needs)
+    -- sub-t10
     (λ c. search needs)
+    -- writing-requires
     (λ c κs. search needs)
-    (λ c. c .writing .ensures ∙ rw (c .before .before .before .idle .ensures, c .before .before .before .before .cursor-of .ensures, c .before .segment-bottom .ensures, c .before .before .if1 .left)))
+    -- returns-2
+    (λ c.
+    c .writing .ensures
+    ∙ rw (
+      c .before .before .before .idle .ensures,
+      c .before .before .before .before .cursor-of .ensures,
+      c .before .segment-bottom .ensures,
+      c .before .before .if1 .left,
+    )))

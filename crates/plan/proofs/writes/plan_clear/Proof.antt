@@ -1,4 +1,4 @@
--- `plan_clear` meets its contract.
+-- `plan::writes::plan_clear` meets its contract.
 use mathlib.Core.Path.{refl, _∙_}
 use mathlib.Core.Logic.{inl}
 use native.Mathlib.Omega.{arith}
@@ -13,27 +13,87 @@ unfolding clearPlan rowEnd
 plan-clear-spec =
     tie.close
     (tie.spec
+    -- cursor-of-requires
     (λ c κs. search needs)
+    -- segment-start-requires
     (λ c κs. search needs)
+    -- segment-end-requires
     (λ c κs. search needs)
+    -- cast-row-end
     (λ c. search needs)
+    -- row-end-requires
     (λ c κs. (inl refl, omega (arith, c .before .before .cursor-of .ensures, c .before .before .before .before .pre)))
+    -- cast-row
     (λ c. omega (arith, c .row-end .ensures, c .before .before .before .cursor-of .ensures, c .before .before .before .before .before .pre))
+    -- idle-requires
     (λ c κs. search needs)
+    -- enum-known-x
     (λ c. search needs)
+    -- fill-requires
     (λ c κs. search needs)
+    -- writing-requires
     (λ c κs. search needs)
+    -- enum-known-x-2
     (λ c. search needs)
+    -- fill-requires-2
     (λ c κs. search needs)
+    -- writing-requires-2
     (λ c κs. search needs)
+    -- enum-known-x-3
     (λ c. search needs)
+    -- fill-requires-3
     (λ c κs. search needs)
+    -- writing-requires-3
     (λ c κs. search needs)
+    -- enum-told
     (λ c. search needs)
+    -- segment-top-requires
     (λ c κs. search needs)
+    -- segment-bottom-requires
     (λ c κs. search needs)
+    -- writing-requires-4
     (λ c κs. search needs)
-    (λ c. c .writing .ensures ∙ rw (c .before .before .before .x .given .1, c .before .before .before .before .before .idle .ensures, c .before .fill .ensures, ← c .before .before .before .before .before .before .before .before .before .cursor-of .ensures, ← c .before .before .before .before .before .before .row-end .ensures))
-    (λ c. c .writing2 .ensures ∙ rw (c .before .before .before .before .before .idle .ensures, c .before .fill2 .ensures, c .before .before .before .before .before .before .before .before .before .cursor-of .ensures, c .before .before .before .before .before .before .before .segment-end .ensures, c .before .before .before .x2 .given .1))
-    (λ c. c .writing3 .ensures ∙ rw (c .before .before .before .before .before .idle .ensures, c .before .fill3 .ensures, c .before .before .before .before .before .before .before .before .segment-start .ensures, c .before .before .before .before .before .before .before .segment-end .ensures, c .before .before .before .x3 .given .1))
-    (λ c. c .writing4 .ensures ∙ rw (c .before .before .before .before .before .idle .ensures, c .before .before .segment-top .ensures, c .before .segment-bottom .ensures, c .before .before .before .before .before .before .before .before .before .cursor-of .ensures, c .before .before .before .enum-told .given .1)))
+    -- returns
+    (λ c.
+    let n = c .before .before .before .before .before in
+    c .writing .ensures
+    ∙ rw (
+      c .before .before .before .x .given .1,
+      n .idle .ensures,
+      c .before .fill .ensures,
+      ← n .before .before .before .before .cursor-of .ensures,
+      ← n .before .row-end .ensures,
+    ))
+    -- returns-2
+    (λ c.
+    let n = c .before .before .before .before .before in
+    c .writing2 .ensures
+    ∙ rw (
+      n .idle .ensures,
+      c .before .fill2 .ensures,
+      n .before .before .before .before .cursor-of .ensures,
+      n .before .before .segment-end .ensures,
+      c .before .before .before .x2 .given .1,
+    ))
+    -- returns-3
+    (λ c.
+    let n = c .before .before .before .before .before in
+    c .writing3 .ensures
+    ∙ rw (
+      n .idle .ensures,
+      c .before .fill3 .ensures,
+      n .before .before .before .segment-start .ensures,
+      n .before .before .segment-end .ensures,
+      c .before .before .before .x3 .given .1,
+    ))
+    -- returns-4
+    (λ c.
+    let n = c .before .before .before .before .before in
+    c .writing4 .ensures
+    ∙ rw (
+      n .idle .ensures,
+      c .before .before .segment-top .ensures,
+      c .before .segment-bottom .ensures,
+      n .before .before .before .before .cursor-of .ensures,
+      c .before .before .before .enum-told .given .1,
+    )))

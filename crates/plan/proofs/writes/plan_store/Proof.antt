@@ -1,4 +1,4 @@
--- `plan_store` meets its contract.
+-- `plan::writes::plan_store` meets its contract.
 use mathlib.Core.Path.{_∙_}
 use borrow.Author.Needs.{needs}
 use Rattle.rules.specs.Plan.{unlessGuarded, storePlan}
@@ -10,12 +10,37 @@ unfolding storePlan unlessGuarded
 plan-store-spec =
     tie.close
     (tie.spec
+    -- cursor-of-requires
     (λ c κs. search needs)
+    -- guarded-at-requires
     (λ c κs. search needs)
+    -- idle-requires
     (λ c κs. search needs)
+    -- refusing-requires
     (λ c κs. search needs)
-    (λ c. c .refusing .ensures ∙ rw (c .before .idle .ensures, ← c .before .before .before .before .cursor-of .ensures, ← c .before .before .before .guarded-at .ensures, c .before .before .if1 .taken))
+    -- returns
+    (λ c.
+    c .refusing .ensures
+    ∙ rw (
+      c .before .idle .ensures,
+      ← c .before .before .before .before .cursor-of .ensures,
+      ← c .before .before .before .guarded-at .ensures,
+      c .before .before .if1 .taken,
+    ))
+    -- written-cell-requires
     (λ c κs. search needs)
+    -- storing-requires
     (λ c κs. search needs)
+    -- advancing-requires
     (λ c κs. search needs)
-    (λ c. c .advancing .ensures ∙ rw (c .before .storing .ensures, c .before .before .written-cell .ensures, ← c .before .before .before .before .before .cursor-of .ensures, ← c .before .before .before .before .guarded-at .ensures, c .before .before .before .if1 .left)))
+    -- returns-2
+    (λ c.
+    let g = c .before .before .before .before in
+    c .advancing .ensures
+    ∙ rw (
+      c .before .storing .ensures,
+      c .before .before .written-cell .ensures,
+      ← g .before .cursor-of .ensures,
+      ← g .guarded-at .ensures,
+      c .before .before .before .if1 .left,
+    )))

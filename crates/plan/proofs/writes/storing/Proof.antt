@@ -1,4 +1,4 @@
--- `storing` meets its contract.
+-- `plan::writes::storing` meets its contract.
 use borrow.Author.Needs.{needs}
 use Rattle.rules.specs.Plan.{storing}
 use Rattle.plan.proofs.writes.storing.Statement.{statement}
@@ -9,6 +9,9 @@ unfolding storing
 storing-spec =
     tie.close
     (tie.spec
+    -- returns
     (λ c. rw (c .if1 .taken))
+    -- add-t5
     (λ c. search needs)
+    -- returns-2
     (λ c. rw (c .if1 .left)))

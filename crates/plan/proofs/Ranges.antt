@@ -1,0 +1,45 @@
+-- Where the cursor and the searches from it may be: in the page.
+--     cursor-below, row-below                   the cursor of a possible screen, and its row of the segment
+--     below-top                                 a cursor that is not in the segment's top row
+--     open-range                                08h: where the search back ends
+--     next-field-range, previous-field-range    09h and ESC I with protect on
+-- Assumes nothing.
+use mathlib.Core.Path.{_≡_, sym, _∙_}
+use mathlib.Core.Bool.{Bool, true, false}
+use mathlib.Core.List.{List}
+use Prim.Native.Nat.{ℕ, _+_, _≤_, _<_}
+use native.Mathlib.Omega.{arith}
+use borrow.Author.Tests.{ltb-false}
+use lib.ListN.{length}
+use Rattle.rules.specs.declared.Screen.{Screen}
+use Rattle.rules.specs.Row.{width, height, pageLength}
+use Rattle.rules.specs.Search.{guardedAt, previousOpen, nextField, previousField}
+use Rattle.rules.specs.State.{segmentStart, segmentEnd, cursorOf, Inside}
+use Rattle.rules.specs.Possible.{screenOk}
+use Rattle.rules.specs.Plan.{atTop, cursorRow}
+use Rattle.rules.proofs.Marks.{length-guards}
+use Rattle.rules.proofs.Screens.{screen-inside}
+use Rattle.rules.proofs.Places.{in-back, in-next-field, in-previous-field}
+
+module _ (x : Screen) (ok : screenOk x ≡ true) {n : ℕ} where
+  pub cursor-below : n ≡ cursorOf x → n < pageLength
+  cursor-below h = omega (arith, screen-inside x ok)
+
+  pub row-below : n ≡ cursorRow x → n < height
+  row-below h = omega (arith, screen-inside x ok)
+
+pub below-top : (x : Screen) {t : Bool} → t ≡ atTop x → t ≡ false → segmentStart x + width ≤ cursorOf x
+unfolding atTop
+below-top x h k = ltb-false (cursorOf x) (segmentStart x + width) (sym h ∙ k)
+
+module _ (x : Screen) (i : Inside x) (on : Bool) (p : List ℕ) (long : length p ≡ pageLength) {a at n : ℕ}
+    (start : a ≡ segmentStart x) (cursor : at ≡ cursorOf x) where
+  pub open-range : n ≡ previousOpen (guardedAt on p) a at → n < pageLength
+  open-range h = rw (h, start, cursor) (omega (arith, in-back x i (guardedAt on p) (length-guards on p ∙ long)))
+
+  module _ {e : ℕ} (end : e ≡ segmentEnd x) where
+    pub next-field-range : n ≡ nextField (guardedAt on p) a e at → n < pageLength
+    next-field-range h = rw (h, start, cursor, end) (omega (arith, in-next-field x i (guardedAt on p) (length-guards on p ∙ long)))
+
+    pub previous-field-range : n ≡ previousField (guardedAt on p) a e at → n < pageLength
+    previous-field-range h = rw (h, start, cursor, end) (omega (arith, in-previous-field x i (guardedAt on p) (length-guards on p ∙ long)))
