@@ -25,7 +25,15 @@ over-none w = refl
 
 pub quiet-carried : (a : Answer) (c : Core) (x : SetupChange) (p w : List ℕ)
     → Carried (effect (number a) c x p []) (record { answer = a; replied = 0; core = c; change = x }) p w w
-quiet-carried a c x p w = record { answer = refl; core = λ z. refl; change = refl; replied = refl; page = refl; room = over-none w; fits = omega arith }
+quiet-carried a c x p w = record {
+  answer = refl;
+  core = λ z. refl;
+  change = refl;
+  replied = refl;
+  page = refl;
+  room = over-none w;
+  fits = omega arith;
+}
 
 module _ (p : List ℕ) (c : Core) (tabs : List Bool) (b room : ℕ) where
   -- a byte below 80h

@@ -13,7 +13,8 @@ use Rattle.rules.specs.declared.Pending.the-variants as Pending
 use Rattle.rules.specs.declared.Command.{Command}
 use Rattle.rules.specs.Cell.{both, either, among}
 use Rattle.rules.specs.Possible.{isAttribute, featurePlace, isKey}
-use Rattle.rules.specs.Decode.{lookup, controls, escapes, idleRule, escapeRule, judged, featureRule, fieldRule, splitRule, digitRule, decimalRowRule, decimalColumnRule, keyValueRule, keyTextRule, keyOverRule, decodeRule}
+use Rattle.rules.specs.Decode.{lookup, controls, escapes, judged, idleRule, escapeRule, featureRule, fieldRule, splitRule, digitRule}
+use Rattle.rules.specs.Decode.{decimalRowRule, decimalColumnRule, keyValueRule, keyTextRule, keyOverRule, decodeRule}
 use Rattle.rules.proofs.Tests.{pick-if, both-parts}
 
 -- n bytes are held
@@ -49,7 +50,8 @@ module _ (n : ℕ) where
 
   decoded-short : (q : Pending) (b : ℕ) → short n (decodeRule q n b) ≡ true
   unfolding decodeRule idleRule escapeRule featureRule fieldRule splitRule decimalRowRule decimalColumnRule keyValueRule keyTextRule keyOverRule
-  decoded-short Pending.Idle b = pick-if (Short n) (ltb b 0x20) (λ e. short-lookup controls _ b refl refl) (λ e. pick-if (Short n) (ltb b 0x7f) (λ z. refl) (λ z. refl))
+  decoded-short Pending.Idle b =
+      pick-if (Short n) (ltb b 0x20) (λ e. short-lookup controls _ b refl refl) (λ e. pick-if (Short n) (ltb b 0x7f) (λ z. refl) (λ z. refl))
   decoded-short Pending.Escape b = short-lookup escapes _ b refl refl
   decoded-short Pending.Address b = refl
   decoded-short (Pending.AddressRow r) b = refl

@@ -1,6 +1,10 @@
 -- The loop over host bytes: what holds at its head, and what a turn does.
 --     step-made     the step of the rules, by the inner step
+--     tail-lent, tail-back, tail-size     the rest of the room, as it is lent and when it is back
 --     begin, stop, go, finish     the loop's start, a byte that answers 6, any other byte, the end of the input
+--     ready     what the loop hands to the inner step meets what that asks
+--     page-size, room-size, back-size     the page and the room keep their lengths
+--     more-replied, more-refused     the counts stay below the lengths of the room and of the input
 -- Assumes nothing.
 use mathlib.Core.Path.{_≡_, refl, sym, ap, ap₂, subst, subst₂, _∙_}
 use mathlib.Core.Bool.{Bool, true, false, false≢true}
@@ -23,8 +27,9 @@ use Rattle.rules.specs.declared.State.{State}
 use Rattle.rules.specs.declared.SetupChange.{SetupChange}
 use Rattle.rules.specs.declared.SetupChange.the-variants as SetupChange
 use Rattle.rules.specs.Cell.{among}
+use Rattle.rules.specs.Row.{pageLength}
 use Rattle.rules.specs.State.{number, changed}
-use Rattle.rules.specs.Possible.{good}
+use Rattle.rules.specs.Possible.{screenOk, pendingOk, good}
 use Rattle.rules.specs.Carry.{Effect}
 use Rattle.rules.specs.Step.{Outcome, outcomeOf, stepRule}
 use Rattle.rules.specs.Room.{over}
@@ -81,11 +86,14 @@ pub refusal-one : (n : ℕ) → refusal n ≤ 1
 refusal-one n = pick-if (λ (k : ℕ). k ≤ 1) (among 1 5 n) (λ e. omega arith) (λ e. omega arith)
 
 -- the last answer after a byte that does not answer 6
-last-go : (b : ℕ) (bs p : List ℕ) (s : State) (room a : ℕ) → eqb ((stepRule p s b room) .answer) 6 ≡ false
-    → lastAnswer (b ∷ bs) p s room a
-    ≡ lastAnswer bs ((stepRule p s b room) .page) ((stepRule p s b room) .state) (room - length ((stepRule p s b room) .reply)) ((stepRule p s b room) .answer)
-unfolding lastAnswer
-last-go b bs p s room a e = rw e
+module _ (b : ℕ) (bs p : List ℕ) (s : State) (room a : ℕ) where
+  abbrev stepped : Outcome
+  stepped = stepRule p s b room
+
+  last-go : eqb (stepped .answer) 6 ≡ false
+      → lastAnswer (b ∷ bs) p s room a ≡ lastAnswer bs (stepped .page) (stepped .state) (room - length (stepped .reply)) (stepped .answer)
+  unfolding lastAnswer
+  last-go e = rw e
 
 -- ---- the room
 
@@ -119,7 +127,7 @@ front n w w₀ h e =
 
 -- ---- the loop
 
-pub looped-is : {p : List ℕ} {s : State} {l w p′ w′ : List ℕ} {r r′ : Ended} → r ≡ r′ → Looped p s l w r′ p′ w′ → Looped p s l w r p′ w′
+looped-is : {p : List ℕ} {s : State} {l w p′ w′ : List ℕ} {r r′ : Ended} → r ≡ r′ → Looped p s l w r′ p′ w′ → Looped p s l w r p′ w′
 looped-is {p} {s} {l} {w} {p′} {w′} e h = subst (λ (x : Ended). Looped p s l w x p′ w′) (sym e) h
 
 -- s₀ and p₀ are the state and the page at the start, w₀ the room; i bytes are taken, n bytes replied, f bytes refused, and a is the last answer
@@ -146,17 +154,37 @@ begin p c u input w g = record {
   last = rw sub-zero;
 }
 
-module _ (p₀ : List ℕ) (s₀ : State) (input w₀ p w : List ℕ) (c : Core) (u : Setup) (a : Answer) (i n f : ℕ)
+module _ {p₀ : List ℕ} {s₀ : State} {input w₀ p w : List ℕ} {c : Core} {u : Setup} {a : Answer} {i n f : ℕ}
     (R : Running p₀ s₀ input w₀ p w c u a i n f) where
   abbrev s : State
   s = stateOf c u
+
+  pub ready : (length p ≡ pageLength) × ((screenOk (c .screen) ≡ true) × (pendingOk (c .pending) (c .gathered) ≡ true))
+  ready =
+      let g = good-parts p s (R .fine) in
+      let k = possible-parts s (g .1) .core in
+      (g .0, (k .screen, k .pending))
+
+  pub page-size : good p₀ s₀ ≡ true → length p ≡ length p₀
+  page-size g = ready .0 ∙ sym (good-parts p₀ s₀ g .0)
+
+  pub room-size : n ≤ length w
+  room-size = omega (arith, R .used, R .size)
+
+  pub back-size : (part : List ℕ) → length part ≡ length (lentTail n w) → length (backTail n w part) ≡ length w₀
+  back-size part e = tail-size n w part room-size e ∙ R .size
+
+  pub more-replied : (k : ℕ) → k ≤ length (lentTail n w) → n + k ≤ length w₀
+  more-replied k h = omega (arith, R .used, R .size, ap length (tail-lent n w), length-drop n w)
+
+  pub more-refused : (x : ℕ) → i < length input → f + refusal x ≤ length input
+  more-refused x h = omega (arith, R .few, refusal-one x)
 
   -- the loop ends here with the answer x
   ending : (x : Answer) (rest : List ℕ) → drop i input ≡ rest → repeated rest p s (length w₀ - n) ≡ ended p s (number x) rest
       → Completed (repeated input p₀ s₀ (length w₀)) (record { answer = x; taken = i; replied = n; refused = f; state = s }) input p w₀ w
   ending x rest e h =
-      let used : n ≤ length w = omega (arith, R .used, R .size) in
-      let size : length (take n w) ≡ n = length-take-le n w used in
+      let size : length (take n w) ≡ n = length-take-le n w room-size in
       subst (λ (o : Ran). Completed o (record { answer = x; taken = i; replied = n; refused = f; state = s }) input p w₀ w)
       (sym (R .same ∙ ap (λ (l : List ℕ). preceded i f (take n w) (repeated l p s (length w₀ - n))) e ∙ ap (preceded i f (take n w)) h))
       (record {
@@ -167,22 +195,23 @@ module _ (p₀ : List ℕ) (s₀ : State) (input w₀ p w : List ℕ) (c : Core)
         rest = e;
         state = refl;
         page = refl;
-        room = front n w w₀ used (R .untouched) ∙ ap (λ (l : List ℕ). over l w₀) (sym (append-nil (take n w)));
+        room = front n w w₀ room-size (R .untouched) ∙ ap (λ (l : List ℕ). over l w₀) (sym (append-nil (take n w)));
         fits = R .used;
         within = R .within;
       })
 
-  pub finish : length input ≤ i → Looped p₀ s₀ input w₀ (record { answer = Answer.Done; last = a; taken = i; replied = n; refused = f; core = c; setup = u }) p w
+  pub finish : {z : Ended} → length input ≤ i
+      → z ≡ record { answer = Answer.Done; last = a; taken = i; replied = n; refused = f; core = c; setup = u } → Looped p₀ s₀ input w₀ z p w
   unfolding lastAnswer
-  finish h =
+  finish h z =
       let e : drop i input ≡ [] = drop-of-length-le input h in
-      record {
+      looped-is z (record {
         run = ending Answer.Done [] e (run-done p s (length w₀ - n));
         last = sym (R .last ∙ ap (λ (l : List ℕ). lastAnswer l p s (length w₀ - n) (number a)) e);
-      }
+      })
 
   -- the next byte, on what is left of the room
-  module _ (h : i < length input) (r : CoreResult) (p′ part : List ℕ)
+  module _ (h : i < length input) {r : CoreResult} {p′ part : List ℕ}
       (lent : Carried (innerAlone p c (u .tabs) (getD input i 0) (length (lentTail n w))) r p′ (lentTail n w) part) where
     abbrev w′ : List ℕ
     w′ = backTail n w part
@@ -212,10 +241,11 @@ module _ (p₀ : List ℕ) (s₀ : State) (input w₀ p w : List ℕ) (c : Core)
     cons = drop-cons input i 0 h
 
     -- it answers 6: the loop stops before it
-    pub stop : eqb (number (r .answer)) 6 ≡ true
-        → Looped p₀ s₀ input w₀ (record { answer = Answer.NoRoom; last = r .answer; taken = i; replied = n; refused = f; core = c; setup = u }) p′ w′
+    pub stop : {z : Ended} → eqb (number (r .answer)) 6 ≡ true
+        → z ≡ record { answer = Answer.NoRoom; last = r .answer; taken = i; replied = n; refused = f; core = c; setup = u }
+        → Looped p₀ s₀ input w₀ z p′ w′
     unfolding lastAnswer
-    stop t =
+    stop t z =
         let k = good-parts p s (R .fine) in
         let six : e .answer ≡ 6 = sym (S .answer) ∙ eqb-true _ _ t in
         let no : overfills (u .keys) (c .gathered) (e .change) ≡ false
@@ -223,15 +253,17 @@ module _ (p₀ : List ℕ) (s₀ : State) (input w₀ p w : List ℕ) (c : Core)
         let a6 : o .answer ≡ 6 = made .answer ∙ rw no six in
         let l = step-left p s b (length w₀ - n) (λ z. absurd (omega (arith, z, a6))) in
         let page : p′ ≡ p = S .page ∙ sym (made .page) ∙ l .page in
-        let room : w′ ≡ w = back ∙ ap (λ (x : List ℕ). take n w ++ x) (S .room ∙ ap (λ (x : List ℕ). over x (drop n w)) (sym (made .reply) ∙ l .reply) ∙ sym (over-none (drop n w))) ∙ take-append-drop n w in
-        rw (page, room) (record {
+        let none : part ≡ drop n w =
+        S .room ∙ ap (λ (x : List ℕ). over x (drop n w)) (sym (made .reply) ∙ l .reply) ∙ sym (over-none (drop n w)) in
+        let room : w′ ≡ w = back ∙ ap (λ (x : List ℕ). take n w ++ x) none ∙ take-append-drop n w in
+        looped-is z (rw (page, room) (record {
           run = ending Answer.NoRoom (b ∷ drop (suc i) input) cons (run-stop b (drop (suc i) input) p s (length w₀ - n) a6);
           last = eqb-true _ _ t ∙ sym (R .last ∙ rw (cons, a6));
-        })
+        }))
 
     -- the reply stands behind those of the bytes before
     sum : length (take n w ++ o .reply) ≡ n + r .replied
-    sum = length-append (take n w) (o .reply) ∙ omega (arith, length-take-le n w (omega (arith, R .used, R .size)), S .replied, ap length (made .reply))
+    sum = length-append (take n w) (o .reply) ∙ omega (arith, length-take-le n w room-size, S .replied, ap length (made .reply))
 
     put : w′ ≡ (take n w ++ o .reply) ++ drop (length (o .reply)) (drop n w)
     unfolding over
@@ -240,14 +272,16 @@ module _ (p₀ : List ℕ) (s₀ : State) (input w₀ p w : List ℕ) (c : Core)
         ∙ sym (append-assoc (take n w) (o .reply) (drop (length (o .reply)) (drop n w)))
 
     -- any other answer: the loop goes on. x is the answer and v the set-up, once the keys have judged the change
-    module _ (x : Answer) (v : Setup) (g : ℕ) (t : eqb (number (r .answer)) 6 ≡ false)
+    module _ (x : Answer) {v : Setup} {g : ℕ} (t : eqb (number (r .answer)) 6 ≡ false)
         (ex : number x ≡ keysAnswer (u .keys) (c .gathered) (r .change) (number (r .answer))) (ev : v ≡ keysSetup (r .change) (c .gathered) u)
         (eg : g ≡ refusal (number x)) where
       answered : o .answer ≡ number x
       answered = made .answer ∙ rw (sym (S .change), sym (S .answer)) (sym ex)
 
       not-six : eqb (o .answer) 6 ≡ false
-      not-six = rw (made .answer) (pick-if (λ (m : ℕ). eqb m 6 ≡ false) (overfills (u .keys) (c .gathered) (e .change)) (λ z. refl) (λ z. rw (sym (S .answer)) t))
+      not-six =
+          rw (made .answer)
+          (pick-if (λ (m : ℕ). eqb m 6 ≡ false) (overfills (u .keys) (c .gathered) (e .change)) (λ z. refl) (λ z. rw (sym (S .answer)) t))
 
       reached : o .state ≡ stateOf (r .core) v
       reached = ap₂ stateOf (made .core ∙ sym (S .core (rw (sym (S .answer)) t))) (made .setup ∙ rw (sym (S .change)) (sym ev))

@@ -1,11 +1,11 @@
 -- Runs of text are the repeated step.
---     typed-then, typed-range     a run after a run; where a run ends
---     text-run     the loop over host bytes goes on after a run as before it
+--     typed-then, typed-range, text-range     a run after a run; where a run ends
+--     resumed     the loop over host bytes goes on after a run as before it
 -- Assumes nothing.
-use mathlib.Core.Path.{_≡_, refl, sym, ap, ap₂, subst, _∙_}
+use mathlib.Core.Path.{_≡_, refl, sym, ap, ap₂, _∙_}
 use mathlib.Core.Bool.{Bool, true, false}
 use mathlib.Core.List.{List, [], _++_}
-use Prim.Native.Nat.{ℕ, _+_, _-_, _*_, _<_, _≤_}
+use Prim.Native.Nat.{ℕ, _+_, _-_, _<_, _≤_}
 use native.Mathlib.Nat.{add-zero}
 use native.Mathlib.Omega.{arith}
 use lib.Dec.{eqb}
@@ -16,7 +16,6 @@ use Rattle.rules.specs.declared.Answer.{Answer}
 use Rattle.rules.specs.declared.Answer.the-variants as Answer
 use Rattle.rules.specs.declared.Contents.the-variants as Contents
 use Rattle.rules.specs.declared.Core.{Core}
-use Rattle.rules.specs.declared.CoreResult.{CoreResult}
 use Rattle.rules.specs.declared.Decoded.the-variants as Decoded
 use Rattle.rules.specs.declared.Modes.{Modes}
 use Rattle.rules.specs.declared.Pending.{Pending}
@@ -26,21 +25,17 @@ use Rattle.rules.specs.declared.Setup.{Setup}
 use Rattle.rules.specs.declared.State.{State}
 use Rattle.rules.specs.declared.SetupChange.the-variants as SetupChange
 use Rattle.rules.specs.Cell.{pick, written}
-use Rattle.rules.specs.Row.{width, pageLength}
 use Rattle.rules.specs.Search.{guardedAt}
-use Rattle.rules.specs.Possible.{screenOk}
 use Rattle.rules.specs.State.{number, segmentStart, segmentEnd, segmentTop, segmentBottom, cursorOf, withCursor, withScreen, awaiting, idle}
 use Rattle.rules.specs.Decode.{decodeRule, idleRule, escapeRule, lookup}
 use Rattle.rules.specs.Carry.{effect}
-use Rattle.rules.proofs.Tests.{either-way}
-use Rattle.rules.proofs.Kept.{good-parts, possible-parts}
 use Rattle.rules.proofs.Screens.{screen-inside}
+use Rattle.carry.proofs.Carrying.{carried-is}
 use Rattle.terminal.specs.Inner.{innerAlone}
 use Rattle.terminal.specs.Loop.{stateOf, lastAnswer}
 use Rattle.terminal.specs.Text.{Stored, Addressed, Typed, none, stored, placed, TextRun, still, typed, textCore}
 use Rattle.terminal.proofs.Carrying.{quiet-carried}
-use Rattle.carry.proofs.Carrying.{carried-is}
-use Rattle.terminal.proofs.Loop.{Running, go, nothing-made, lentTail, backTail, tail-lent, tail-back}
+use Rattle.terminal.proofs.Loop.{Running, ready, go, nothing-made, lentTail, backTail, tail-lent, tail-back}
 use Rattle.terminal.proofs.TextSteps.{stores, waits, places}
 
 -- where a run over l from the byte i₀ and the page p₀ ends
@@ -51,13 +46,14 @@ pub record Range (l : List ℕ) (i₀ : ℕ) (p₀ : List ℕ) (at i : ℕ) (p :
   pub size : length p ≡ length p₀
 
 module _ {on mark : Bool} {home end : ℕ} {l : List ℕ} {at₀ i₀ : ℕ} {p₀ : List ℕ} where
-  pub typed-then : {at i : ℕ} {p : List ℕ} → Typed on mark home end l at₀ i₀ p₀ at i p → {at′ i′ : ℕ} {p′ : List ℕ} → Typed on mark home end l at i p at′ i′ p′
-      → Typed on mark home end l at₀ i₀ p₀ at′ i′ p′
+  pub typed-then : {at i : ℕ} {p : List ℕ} → Typed on mark home end l at₀ i₀ p₀ at i p
+      → {at′ i′ : ℕ} {p′ : List ℕ} → Typed on mark home end l at i p at′ i′ p′ → Typed on mark home end l at₀ i₀ p₀ at′ i′ p′
   typed-then t none = t
   typed-then t (stored u h s e) = stored (typed-then t u) h s e
   typed-then t (placed u h s) = placed (typed-then t u) h s
 
-  pub typed-range : {at i : ℕ} {p : List ℕ} → Typed on mark home end l at₀ i₀ p₀ at i p → i₀ < length l → at₀ < 1920 → end ≤ 1920 → Range l i₀ p₀ at i p
+  pub typed-range : {at i : ℕ} {p : List ℕ} → Typed on mark home end l at₀ i₀ p₀ at i p → i₀ < length l → at₀ < 1920 → end ≤ 1920
+      → Range l i₀ p₀ at i p
   typed-range none h a e = record { from = omega arith; within = h; below = a; size = refl }
   typed-range (stored {at} {i} {v} {p} u k s w) h a e =
       let r = typed-range u h a e in
@@ -78,14 +74,14 @@ same-room : (n : ℕ) (w : List ℕ) → backTail n w (lentTail n w) ≡ w
 same-room n w = tail-back n w (lentTail n w) ∙ ap (λ (l : List ℕ). take n w ++ l) (tail-lent n w) ∙ take-append-drop n w
 
 module _ {p₀ : List ℕ} {s₀ : State} {input w₀ : List ℕ} {u : Setup} {a : Answer} {n f : ℕ} {w : List ℕ} where
-  turn : {p : List ℕ} {c : Core} {i : ℕ} (j : ℕ) → Running p₀ s₀ input w₀ p w c u a i n f → j ≡ i + 1 → j < length input → {p′ : List ℕ} {c′ : Core}
-      → ((room : ℕ) → innerAlone p c (u .tabs) (getD input i 0) room ≡ effect 0 c′ SetupChange.Nothing p′ [])
+  turn : {p : List ℕ} {c : Core} {i : ℕ} (j : ℕ) → Running p₀ s₀ input w₀ p w c u a i n f → j ≡ i + 1 → j < length input
+      → {p′ : List ℕ} {c′ : Core} → ((room : ℕ) → innerAlone p c (u .tabs) (getD input i 0) room ≡ effect 0 c′ SetupChange.Nothing p′ [])
       → Running p₀ s₀ input w₀ p′ w c′ u a j n f
   turn {p} {c} {i} j R e h {p′} {c′} E =
       let q = lentTail n w in
-      let r : CoreResult = record { answer = Answer.Done; replied = 0; core = c′; change = SetupChange.Nothing } in
       let m = nothing-made SetupChange.Nothing (c .gathered) u 0 refl in
-      let G = go p₀ s₀ input w₀ p w c u a i n f R (omega arith) r p′ q (carried-is (E (length q)) (quiet-carried Answer.Done c′ SetupChange.Nothing p′ q)) Answer.Done u 0 refl (m .0) (m .1) refl in
+      let k = carried-is (E (length q)) (quiet-carried Answer.Done c′ SetupChange.Nothing p′ q) in
+      let G = go R (omega arith) k Answer.Done refl (m .0) (m .1) refl in
       let H : Running p₀ s₀ input w₀ p′ w c′ u Answer.Done j n f = rw (same-room n w, add-zero n, add-zero f, sym e) at G in
       record {
         within = H .within;
@@ -98,10 +94,13 @@ module _ {p₀ : List ℕ} {s₀ : State} {input w₀ : List ℕ} {u : Setup} {a
         last = H .last ∙ last-any input j h p′ (stateOf c′ u) (length w₀ - n) 0 (number a);
       }
 
--- the page and the screen of a loop are good
-pub fine : {p₀ : List ℕ} {s₀ : State} {input w₀ p w : List ℕ} {c : Core} {u : Setup} {a : Answer} {i n f : ℕ} → Running p₀ s₀ input w₀ p w c u a i n f
-    → (length p ≡ pageLength) × (screenOk (c .screen) ≡ true)
-fine R = let g = good-parts _ _ (R .fine) in (g .0, possible-parts _ (g .1) .core .screen)
+  -- a byte that is awaited, and leaves q under way
+  waited : {p : List ℕ} {c : Core} {i : ℕ} (j : ℕ) (q : Pending) → Running p₀ s₀ input w₀ p w c u a i n f → j ≡ i + 1 → j < length input
+      → getD input i 0 < 128 → decodeRule (c .pending) (c .gathered .len) (getD input i 0) ≡ Decoded.Wait q
+      → Running p₀ s₀ input w₀ p w (awaiting c q) u a j n f
+  waited {p} {c} {i} j q R e h low d =
+      let k = ready R in
+      turn j R e h (λ room. waits p c (k .0) (k .1 .0) (u .tabs) room (getD input i 0) q low d)
 
 -- ---- the cores of a run
 
@@ -126,9 +125,10 @@ cursor-twice : (x : Screen) (i j : ℕ) → withCursor (withCursor x i) j ≡ wi
 unfolding withCursor
 cursor-twice x i j = by (eqb (x .active) 0)
   where
-    by : (t : Bool)
-        → _≡_ {A = Screen} (record { active = x .active; split = x .split; cursor0 = pick t j (pick t i (x .cursor0)); cursor1 = pick t (pick t (x .cursor1) i) j })
-        (record { active = x .active; split = x .split; cursor0 = pick t j (x .cursor0); cursor1 = pick t (x .cursor1) j })
+    at : ℕ → ℕ → Screen
+    at k l = record { active = x .active; split = x .split; cursor0 = k; cursor1 = l }
+
+    by : (t : Bool) → at (pick t j (pick t i (x .cursor0))) (pick t (pick t (x .cursor1) i) j) ≡ at (pick t j (x .cursor0)) (pick t (x .cursor1) j)
     by true = refl
     by false = refl
 
@@ -161,7 +161,8 @@ arrived-core {i₀ = i₀} here = rw (eq-eqb i₀ i₀ refl)
 arrived-core {i₀ = i₀} (there {at} {i} h) = rw (ne-eqb i i₀ (λ e. omega arith))
 
 module _ {c d : Core} {at : ℕ} (L : Like c d at) where
-  like-guard : (p : List ℕ) {i j : ℕ} → i ≡ j → getD (guardedAt (c .modes .protect) p) j false ≡ false → getD (guardedAt (d .modes .protect) p) i false ≡ false
+  like-guard : (p : List ℕ) {i j : ℕ} → i ≡ j
+      → getD (guardedAt (c .modes .protect) p) j false ≡ false → getD (guardedAt (d .modes .protect) p) i false ≡ false
   like-guard p e g = ap₂ (λ (m : Modes) (i : ℕ). getD (guardedAt (m .protect) p) i false) (L .modes) e ∙ g
 
   like-stored : {p : List ℕ} {b : ℕ} → Stored (c .modes .protect) (segmentEnd (c .screen)) at p b
@@ -194,63 +195,72 @@ module _ {p₀ : List ℕ} {s₀ : State} {input w₀ : List ℕ} {u : Setup} {a
         → v ≡ written (Contents.Text (getD input i 0)) (c .modes .mark) → Went (at + 1) (i + 1) (set q at v)
     went-stored h s e =
         let b = getD input i 0 in
-        let k = fine (G .running) in
+        let k = ready (G .running) in
         record {
           core = textCore c (at + 1);
           arrived = there {i = i + 1} (omega (arith, later (G .arrived)));
           running = turn (i + 1) (G .running) refl h (λ room.
-              stores q d (k .0) (k .1) (u .tabs) room b (L .idle) (ap (λ (m : Modes). m .insert) (L .modes) ∙ over) (like-stored L s)
+              stores q d (k .0) (k .1 .0) (u .tabs) room b (L .idle) (ap (λ (m : Modes). m .insert) (L .modes) ∙ over) (like-stored L s)
               ∙ ap₂ (λ (x : Core) (y : List ℕ). effect 0 x SetupChange.Nothing y [])
               (ap (λ (j : ℕ). textCore d (j + 1)) (L .cursor) ∙ L .next (at + 1))
               (ap₂ (set q) (L .cursor) (ap (λ (m : Modes). written (Contents.Text b) (m .mark)) (L .modes) ∙ sym e)));
         }
 
-    went-placed : {k : ℕ} → i + 4 < length input → Addressed (c .modes .protect) (segmentStart (c .screen)) (segmentEnd (c .screen)) input i q k → Went k (i + 4) q
+    went-placed : {k : ℕ} → i + 4 < length input
+        → Addressed (c .modes .protect) (segmentStart (c .screen)) (segmentEnd (c .screen)) input i q k → Went k (i + 4) q
     unfolding decodeRule idleRule escapeRule lookup
     went-placed {k} h s =
         let r = getD input (i + 2) 0 in
-        let most = screen-inside (c .screen) (fine R .1) .most in
-        let f0 = fine (G .running) in
-        let R1 = turn (i + 1) (G .running) refl (omega arith) (λ room.
-        waits q d (f0 .0) (f0 .1) (u .tabs) room (getD input i 0) Pending.Escape (omega (arith, s .escape)) (ap₂ (λ (x : Pending) (b : ℕ). decodeRule x (d .gathered .len) b) (L .idle) (s .escape))) in
-        let d1 = awaiting d Pending.Escape in
-        let R2 = turn (i + 2) R1 (omega arith) (omega arith) (λ room.
-        waits q d1 (f0 .0) (f0 .1) (u .tabs) room (getD input (i + 1) 0) Pending.Address (omega (arith, s .equals)) (ap (decodeRule Pending.Escape 0) (s .equals))) in
-        let d2 = awaiting d Pending.Address in
-        let R3 = turn (i + 3) R2 (omega arith) (omega arith) (λ room.
-        waits q d2 (f0 .0) (f0 .1) (u .tabs) room r (Pending.AddressRow r) (omega (arith, s .row, s .place, s .inside, most)) refl) in
-        let d3 = awaiting d (Pending.AddressRow r) in
+        let most = screen-inside (c .screen) (ready R .1 .0) .most in
+        let escape = ap₂ (λ (x : Pending) (b : ℕ). decodeRule x (d .gathered .len) b) (L .idle) (s .escape) in
+        let R1 = waited (i + 1) Pending.Escape (G .running) refl (omega arith) (omega (arith, s .escape)) escape in
+        let equals = ap (decodeRule Pending.Escape 0) (s .equals) in
+        let R2 = waited (i + 2) Pending.Address R1 (omega arith) (omega arith) (omega (arith, s .equals)) equals in
+        let R3 = waited (i + 3) (Pending.AddressRow r) R2 (omega arith) (omega arith) (omega (arith, s .row, s .place, s .inside, most)) refl in
+        let g = ready R3 in
         record {
           core = textCore c k;
           arrived = there {i = i + 4} (omega (arith, later (G .arrived)));
           running = turn (i + 4) R3 (omega arith) h (λ room.
-              places q d3 (f0 .0) (f0 .1) (u .tabs) room r (getD input (i + 3) 0) k refl (s .row) (s .column) (s .wide)
-              (omega (arith, s .place, L .home)) (omega (arith, s .inside, L .end)) (like-guard L q refl (s .unguarded))
+              places q (awaiting d (Pending.AddressRow r)) (g .0) (g .1 .0) (u .tabs) room r (getD input (i + 3) 0) k
+              refl (s .row) (s .column) (s .wide) (omega (arith, s .place, L .home)) (omega (arith, s .inside, L .end))
+              (like-guard L q refl (s .unguarded))
               ∙ ap (λ (x : Core). effect 0 x SetupChange.Nothing q []) (L .next k));
         }
 
   typed-run : {at i : ℕ} {p′ : List ℕ}
-      → Typed (c .modes .protect) (c .modes .mark) (segmentStart (c .screen)) (segmentEnd (c .screen)) input (cursorOf (c .screen)) i₀ p at i p′ → Went at i p′
+      → Typed (c .modes .protect) (c .modes .mark) (segmentStart (c .screen)) (segmentEnd (c .screen)) input (cursorOf (c .screen)) i₀ p at i p′
+      → Went at i p′
   typed-run none = record { core = c; arrived = here; running = R }
   typed-run (stored t h s e) = went-stored (typed-run t) h s e
   typed-run (placed t h s) = went-placed (typed-run t) h s
 
+-- the loop after a run from the byte i₀ on: it goes on at the byte i, which is left
+pub record Resumed (p₀ : List ℕ) (s₀ : State) (input w₀ p w : List ℕ) (c : Core) (u : Setup) (a : Answer) (i n f i₀ : ℕ) : Type 0 where
+  pub running : Running p₀ s₀ input w₀ p w c u a i n f
+  pub from : i₀ ≤ i
+  pub left : i < length input
+
 module _ {p₀ : List ℕ} {s₀ : State} {input w₀ : List ℕ} {u : Setup} {a : Answer} {n f : ℕ} {w p : List ℕ} {c : Core} {i₀ : ℕ}
     (R : Running p₀ s₀ input w₀ p w c u a i₀ n f) where
-  arriving : {at i : ℕ} {p′ : List ℕ} → TextRun c input i₀ p at i p′ → Running p₀ s₀ input w₀ p′ w (pick (eqb i i₀) c (textCore c at)) u a i n f
+  arriving : {at i : ℕ} {p′ : List ℕ} → TextRun c input i₀ p at i p′
+      → Running p₀ s₀ input w₀ p′ w (pick (eqb i i₀) c (textCore c at)) u a i n f
   arriving still = rw (eq-eqb i₀ i₀ refl) R
   arriving (typed quiet over t) = let G = typed-run c R quiet over t in rw (arrived-core (G .arrived)) (G .running)
 
-  -- d is the core after it
-  pub text-run : {at i : ℕ} {p′ : List ℕ} {d : Core} → TextRun c input i₀ p at i p′ → d ≡ pick (eqb i i₀) c (textCore c at)
-      → Running p₀ s₀ input w₀ p′ w d u a i n f
-  text-run t e = rw e (arriving t)
-
   pub text-range : i₀ < length input → {at i : ℕ} {p′ : List ℕ} → TextRun c input i₀ p at i p′ → Range input i₀ p at i p′
   text-range h t =
-      let s = screen-inside (c .screen) (fine R .1) in
+      let s = screen-inside (c .screen) (ready R .1 .0) in
       by t (omega (arith, s .below, s .most)) (omega (arith, s .most))
     where
-      by : {at i : ℕ} {p′ : List ℕ} → TextRun c input i₀ p at i p′ → cursorOf (c .screen) < 1920 → segmentEnd (c .screen) ≤ 1920 → Range input i₀ p at i p′
+      by : {at i : ℕ} {p′ : List ℕ} → TextRun c input i₀ p at i p′ → cursorOf (c .screen) < 1920 → segmentEnd (c .screen) ≤ 1920
+          → Range input i₀ p at i p′
       by still l e = record { from = omega arith; within = h; below = l; size = refl }
       by (typed quiet over t) l e = typed-range t h l e
+
+  -- d is the core after it
+  pub resumed : {at i : ℕ} {p′ : List ℕ} {d : Core} → i₀ < length input → TextRun c input i₀ p at i p′ → d ≡ pick (eqb i i₀) c (textCore c at)
+      → Resumed p₀ s₀ input w₀ p′ w d u a i n f i₀
+  resumed h t e =
+      let r = text-range h t in
+      record { running = rw e (arriving t); from = r .from; left = r .within }

@@ -1,12 +1,11 @@
 -- One byte of a run of text, by the inner step.
 --     stores, waits, places     a byte stored; a byte of ESC = that is awaited; its last byte, which moves the cursor
 -- Assumes nothing.
-use mathlib.Core.Path.{_≡_, refl, sym, ap, ap₂, _∙_}
+use mathlib.Core.Path.{_≡_, refl, sym, ap, _∙_}
 use mathlib.Core.Bool.{Bool, true, false, not}
 use mathlib.Core.List.{List, []}
 use Prim.Native.Nat.{ℕ, zero-le, _+_, _-_, _*_, _<_, _≤_}
 use native.Mathlib.Omega.{arith}
-use lib.Dec.{ltb}
 use lib.ListN.{length, getD, set, length-set}
 use lib.Seq.{getD-set-other}
 use borrow.Author.Tests.{lt-ltb, le-ltb, le-leb}
@@ -16,7 +15,6 @@ use Rattle.rules.specs.declared.Command.the-variants as Command
 use Rattle.rules.specs.declared.Decoded.{Decoded}
 use Rattle.rules.specs.declared.Decoded.the-variants as Decoded
 use Rattle.rules.specs.declared.Land.the-variants as Land
-use Rattle.rules.specs.declared.Move.the-variants as Move
 use Rattle.rules.specs.declared.Pending.{Pending}
 use Rattle.rules.specs.declared.Pending.the-variants as Pending
 use Rattle.rules.specs.declared.Plan.{Plan}
@@ -30,7 +28,7 @@ use Rattle.rules.specs.State.{segmentTop, segmentBottom, segmentStart, segmentE
 use Rattle.rules.specs.Possible.{screenOk}
 use Rattle.rules.specs.Decode.{decodeRule, idleRule}
 use Rattle.rules.specs.Plan.{writing, unlessGuarded, storing, advancing, storePlan, addressPlan, movePlan, planRule}
-use Rattle.rules.specs.Carry.{Effect, effect, applied, replied, landed, done, carried}
+use Rattle.rules.specs.Carry.{effect, applied, replied, landed, done, carried}
 use Rattle.rules.proofs.Tests.{both-true}
 use Rattle.rules.proofs.Marks.{hit, around-here, length-guards, length-others, guard-at, open-at}
 use Rattle.rules.proofs.Lengths.{length-applied}
@@ -57,14 +55,16 @@ module _ (p : List ℕ) (c : Core) (size : length p ≡ pageLength) (ok : screen
   carried-writing w i h e =
       let q = applied on w p in
       let g = guardedAt on q in
-      let k : segmentEnd (c .screen) ≤ length g = omega (arith, length-guards on q, length-applied on w p, size, screen-inside (c .screen) ok .most) in
+      let most = screen-inside (c .screen) ok .most in
+      let k : segmentEnd (c .screen) ≤ length g = omega (arith, length-guards on q, length-applied on w p, size, most) in
       rw (le-leb 0 room zero-le)
       (ap (λ (n : ℕ). effect 0 (withScreen (idle c) (withCursor (c .screen) n)) SetupChange.Nothing q [])
       (settled-open g (segmentStart (c .screen)) (segmentEnd (c .screen)) i h k e))
 
   -- ---- a byte that is stored
 
-  module _ (b : ℕ) (quiet : c .pending ≡ Pending.Idle) (over : c .modes .insert ≡ false) (s : Stored on (segmentEnd (c .screen)) (cursorOf (c .screen)) p b) where
+  module _ (b : ℕ) (quiet : c .pending ≡ Pending.Idle) (over : c .modes .insert ≡ false)
+      (s : Stored on (segmentEnd (c .screen)) (cursorOf (c .screen)) p b) where
     abbrev at : ℕ
     at = cursorOf (c .screen)
 
@@ -117,7 +117,8 @@ module _ (p : List ℕ) (c : Core) (size : length p ≡ pageLength) (ok : screen
       let x = c .screen in
       let z = (segmentTop x + (r - 0x20)) * width + (k - 0x20) in
       let same : i ≡ z = omega arith in
-      let t : both (among 0x20 (segmentBottom x - segmentTop x) r) (among 0x20 width k) ≡ true =
-      both-true (both-true (le-leb 0x20 r low) (lt-ltb r (0x20 + (segmentBottom x - segmentTop x)) (omega arith))) (both-true (le-leb 0x20 k left) (lt-ltb k (0x20 + width) right)) in
+      let t : both (among 0x20 (segmentBottom x - segmentTop x) r) (among 0x20 width k) ≡ true = both-true
+      (both-true (le-leb 0x20 r low) (lt-ltb r (0x20 + (segmentBottom x - segmentTop x)) (omega arith)))
+      (both-true (le-leb 0x20 k left) (lt-ltb k (0x20 + width) right)) in
       below p c tabs k room (omega arith) refl (ap (λ (q : Pending). decodeRule q (c .gathered .len) k) pending)
       ∙ rw t (rw (sym same) (carried-writing Write.Nothing i h g))

@@ -1,12 +1,15 @@
+-- `terminal::bytes::repeat` meets its contract. The loop: what the bytes taken gave, and the repeated step on the rest, are the repeated
+-- step on the whole input.
 use Prim.Native.Nat.{_-_}
-use mathlib.Core.Path.{sym, ap, _∙_}
+use mathlib.Core.Path.{sym, _∙_}
 use native.Mathlib.Omega.{arith}
-use lib.ListN.{length, length-drop}
+use denote.Ref.{now}
+use lib.ListN.{length}
 use Rattle.rules.specs.State.{number}
-use Rattle.rules.proofs.Kept.{good-parts, possible-parts}
 use Rattle.terminal.specs.Loop.{stateOf}
-use Rattle.terminal.proofs.TextRuns.{fine, text-run, text-range}
-use Rattle.terminal.proofs.Loop.{looped-is, Running, begin, stop, go, finish, nothing-made, refusal-one, tail-lent, tail-size}
+use Rattle.terminal.proofs.Loop.{Running, begin, stop, go, finish, ready, page-size, room-size, back-size, more-replied}
+use Rattle.terminal.proofs.Loop.{more-refused, nothing-made}
+use Rattle.terminal.proofs.TextRuns.{Resumed, resumed, text-range}
 use borrow.Author.Needs.{needs}
 use Rattle.terminal.proofs.bytes.repeat.Statement.{statement}
 use Rattle.terminal.proofs.bytes.repeat.Tie as tie
@@ -18,82 +21,127 @@ Inv-loop page₀ input room₀ c₀ u₀ last₀ taken₀ replied₀ refused₀ 
 abbrev μ-loop : tie.MeasureT-loop
 μ-loop page₀ input room₀ c₀ u₀ last₀ taken₀ replied₀ refused₀ page room c u last taken replied refused = length input - taken
 
+-- back from the call of the inner step: the core after the run of text, that run, the turn of the loop, the function's start
+
+abbrev Moved : Type 0
+Moved = tie.After-moved Inv-loop μ-loop
+
+abbrev text : Moved → tie.After-text Inv-loop μ-loop
+text m = m .before .before .before .before
+
+abbrev turn : Moved → tie.In-loop Inv-loop μ-loop
+turn m = text m .before .before
+
+abbrev start : Moved → tie.Start Inv-loop μ-loop
+start m = turn m .before .before .before .before .before
+
+abbrev moved : tie.After-inner Inv-loop μ-loop → Moved
+moved i = i .before .before .before .before .before .before .before
+
+abbrev called : tie.After-is-no-room Inv-loop μ-loop → tie.After-inner Inv-loop μ-loop
+called a = a .before .before .before .before .before
+
+-- the loop after the run of text
+run : (m : Moved)
+    → let x = start m .args in let l = turn m .before .loop in let r = text m .text in
+    Resumed (now (x .page)) (stateOf (x .core) (x .setup)) (now (x .input)) (now (x .room)) (r .last .0) (l .room) (m .moved .result) (l .u) (l .last)
+    (r .result .taken) (l .replied) (l .refused) (l .taken)
+run m = resumed (turn m .before .loop .inv) (turn m .loop-test .taken) (text m .text .ensures) (m .moved .ensures)
+
 pub repeat-spec : {M : Type 1} → statement M
 repeat-spec =
     tie.close
     (tie.spec
     Inv-loop
     μ-loop
+    -- loop-holds
     (λ c. begin _ _ _ _ _ (c .before .before .before .pre))
-    (λ c κs. let g = fine (c .before .before .loop .inv) in (g .0, (g .1, c .before .loop-test .taken)))
-    (λ c κs. text-range (c .before .before .before .before .before .before .loop .inv) (c .before .before .before .before .before .loop-test .taken) (c .before .before .before .text .ensures) .below)
-    (λ c.
-    let R = c .before .before .before .before .before .before .before .before .before .before .before .before .loop .inv in
-    let t = c .before .before .before .before .before .before .before .before .before .text .ensures in
-    let r = text-range R (c .before .before .before .before .before .before .before .before .before .before .before .loop-test .taken) t in
-    omega (arith, r .within))
-    (λ c. omega (arith, c .before .before .before .before .before .before .before .before .before .before .before .before .loop .inv .used, c .before .before .before .before .before .before .before .before .before .before .before .before .loop .inv .size))
-    (λ c. omega (arith, c .before .before .before .before .before .before .before .before .before .before .before .before .loop .inv .used, c .before .before .before .before .before .before .before .before .before .before .before .before .loop .inv .size))
-    (λ c. omega (arith, c .before .before .before .before .before .before .before .before .before .before .before .before .loop .inv .used, c .before .before .before .before .before .before .before .before .before .before .before .before .loop .inv .size))
+    -- text-requires
+    (λ c κs. let g = ready (c .before .before .loop .inv) in (g .0, (g .1 .0, c .before .loop-test .taken)))
+    -- moved-requires
     (λ c κs.
-    let R = c .before .before .before .before .before .before .before .before .before .before .before .before .before .loop .inv in
-    let t = c .before .before .before .before .before .before .before .before .before .before .text .ensures in
-    let r = text-range R (c .before .before .before .before .before .before .before .before .before .before .before .before .loop-test .taken) t in
-    let S = text-run R t (c .before .before .before .before .before .before .moved .ensures) in
-    let g = good-parts _ _ (S .fine) in
-    let p = possible-parts _ (g .1) in
-    (g .0, (p .core .screen, p .core .pending)))
+    let t = c .before .before .before .before .before in
+    text-range (t .before .loop .inv) (t .loop-test .taken) (c .before .before .before .text .ensures) .below)
+    -- shared-slice-read-inner
+    (λ c. run (c .before .before .before .before .before) .left)
+    -- sub-inner
+    (λ c. room-size (run (c .before .before .before .before .before) .running))
+    -- part-inner-start
+    (λ c. room-size (run (c .before .before .before .before .before) .running))
+    -- part-inner-end
+    (λ c. omega arith)
+    -- inner-requires
+    (λ c κs. ready (run (c .before .before .before .before .before .before) .running))
+    -- is-no-room-requires
     (λ c κs. search needs)
+    -- finished-requires
     (λ c κs. search needs)
+    -- same-length
     (λ c.
-    let R = c .before .before .before .before .before .before .before .before .before .before .before .before .before .before .before .before .before .before .before .before .before .loop .inv in
-    let t = c .before .before .before .before .before .before .before .before .before .before .before .before .before .before .before .before .before .before .text .ensures in
-    let r = text-range R (c .before .before .before .before .before .before .before .before .before .before .before .before .before .before .before .before .before .before .before .before .loop-test .taken) t in
-    let S = text-run R t (c .before .before .before .before .before .before .before .before .before .before .before .before .before .before .moved .ensures) in
-    c .before .before .before .before .before .before .before .inner .kept .0 ∙ good-parts _ _ (S .fine) .0 ∙ sym (good-parts _ _ (c .before .before .before .before .before .before .before .before .before .before .before .before .before .before .before .before .before .before .before .before .before .before .before .before .before .pre) .0))
-    (λ c. tail-size (c .before .before .before .before .before .before .before .before .before .before .before .before .before .before .before .before .before .before .before .before .before .loop .replied) (c .before .before .before .before .before .before .before .before .before .before .before .before .before .before .before .before .before .before .before .before .before .loop .room) (c .before .before .before .before .before .before .before .inner .last .1 .1 .1 .1 .0) (omega (arith, c .before .before .before .before .before .before .before .before .before .before .before .before .before .before .before .before .before .before .before .before .before .loop .inv .used, c .before .before .before .before .before .before .before .before .before .before .before .before .before .before .before .before .before .before .before .before .before .loop .inv .size)) (c .before .before .before .before .before .before .before .inner .kept .1 .1 .1 .1 .0) ∙ c .before .before .before .before .before .before .before .before .before .before .before .before .before .before .before .before .before .before .before .before .before .loop .inv .size)
+    let i = called (c .before .before) in
+    i .inner .kept .0 ∙ page-size (run (moved i) .running) (start (moved i) .pre))
+    -- same-length-2
     (λ c.
-    let R = c .before .before .before .before .before .before .before .before .before .before .before .before .before .before .before .before .before .before .before .before .before .loop .inv in
-    let t = c .before .before .before .before .before .before .before .before .before .before .before .before .before .before .before .before .before .before .text .ensures in
-    let r = text-range R (c .before .before .before .before .before .before .before .before .before .before .before .before .before .before .before .before .before .before .before .before .loop-test .taken) t in
-    let S = text-run R t (c .before .before .before .before .before .before .before .before .before .before .before .before .before .before .moved .ensures) in
-    looped-is (c .finished .ensures) (stop _ _ _ _ _ _ _ _ _ _ _ _ S (r .within) _ _ _ (c .before .before .before .before .before .before .before .inner .ensures) (sym (c .before .before .is-no-room .ensures) ∙ c .before .if1 .taken)))
+    let i = called (c .before .before) in
+    back-size (run (moved i) .running) (i .inner .last .1 .1 .1 .1 .0) (i .inner .kept .1 .1 .1 .1 .0))
+    -- returns
     (λ c.
-    let R = c .before .before .before .before .before .before .before .before .before .before .before .before .before .before .before .before .before .before .before .before .before .loop .inv in
-    let t = c .before .before .before .before .before .before .before .before .before .before .before .before .before .before .before .before .before .before .text .ensures in
-    let r = text-range R (c .before .before .before .before .before .before .before .before .before .before .before .before .before .before .before .before .before .before .before .before .loop-test .taken) t in
-    omega (arith, r .within, c .before .before .before .before .before .before .before .before .before .before .before .before .before .before .before .before .before .before .before .before .before .before .before .before .before .good))
-    (λ c. omega (arith, c .before .before .before .before .before .before .before .before .before .before .before .before .before .before .before .before .before .before .before .before .before .before .loop .inv .used, c .before .before .before .before .before .before .before .before .inner .ensures .fits, c .before .before .before .before .before .before .before .before .before .before .before .before .before .before .before .before .before .before .before .before .before .before .loop .inv .size, length-drop (c .before .before .before .before .before .before .before .before .before .before .before .before .before .before .before .before .before .before .before .before .before .before .loop .replied) (c .before .before .before .before .before .before .before .before .before .before .before .before .before .before .before .before .before .before .before .before .before .before .loop .room), ap length (tail-lent (c .before .before .before .before .before .before .before .before .before .before .before .before .before .before .before .before .before .before .before .before .before .before .loop .replied) (c .before .before .before .before .before .before .before .before .before .before .before .before .before .before .before .before .before .before .before .before .before .before .loop .room)), c .before .before .before .before .before .before .before .before .before .before .before .before .before .before .before .before .before .before .before .before .before .before .before .before .before .before .good))
+    let i = called (c .before .before) in
+    let r = run (moved i) in
+    stop (r .running) (r .left) (i .inner .ensures) (sym (c .before .before .is-no-room .ensures) ∙ c .before .if1 .taken) (c .finished .ensures))
+    -- add-taken
+    (λ c.
+    let m = moved (called (c .before .before)) in
+    omega (arith, run m .left, start m .good))
+    -- add-replied
+    (λ c.
+    let i = called (c .before .before .before) in
+    let m = moved i in
+    omega (arith, more-replied (run m .running) _ (i .inner .ensures .fits), start m .good))
+    -- is-nothing-requires
     (λ c κs. search needs)
+    -- refusals-requires
     (λ c κs. search needs)
-    (λ c. omega (arith, c .before .before .before .before .before .before .before .before .before .before .before .before .before .before .before .before .before .before .before .before .before .before .before .before .before .loop .inv .few, c .before .before .before .before .before .before .before .before .before .before .before .before .before .before .before .before .before .before .before .before .before .before .before .before .loop-test .taken, c .refusals .ensures, refusal-one (number (c .before .before .before .before .before .before .before .before .before .before .before .inner .result .answer)), c .before .before .before .before .before .before .before .before .before .before .before .before .before .before .before .before .before .before .before .before .before .before .before .before .before .before .before .before .before .good .1 .1 .1 .0 .0))
+    -- add-refused
     (λ c.
-    let R = c .before .before .before .before .before .before .before .before .before .before .before .before .before .before .before .before .before .before .before .before .before .before .before .before .before .loop .inv in
-    let t = c .before .before .before .before .before .before .before .before .before .before .before .before .before .before .before .before .before .before .before .before .before .before .text .ensures in
-    let r = text-range R (c .before .before .before .before .before .before .before .before .before .before .before .before .before .before .before .before .before .before .before .before .before .before .before .before .loop-test .taken) t in
-    omega (arith, c .before .before .before .before .before .before .before .before .before .before .before .before .before .before .before .before .before .before .before .before .before .before .before .before .loop-test .taken, r .from, r .within))
+    let i = called (c .before .before .before .before .before .before) in
+    let r = run (moved i) in
+    omega (arith, more-refused (r .running) (number (i .inner .result .answer)) (r .left), c .refusals .ensures, start (moved i) .good))
+    -- loop-less
+    (λ c. let r = run (moved (called (c .before .before .before .before .before .before))) in omega (arith, r .from, r .left))
+    -- loop-again
     (λ c.
-    let R = c .before .before .before .before .before .before .before .before .before .before .before .before .before .before .before .before .before .before .before .before .before .before .before .before .before .loop .inv in
-    let t = c .before .before .before .before .before .before .before .before .before .before .before .before .before .before .before .before .before .before .before .before .before .before .text .ensures in
-    let r = text-range R (c .before .before .before .before .before .before .before .before .before .before .before .before .before .before .before .before .before .before .before .before .before .before .before .before .loop-test .taken) t in
-    let S = text-run R t (c .before .before .before .before .before .before .before .before .before .before .before .before .before .before .before .before .before .before .moved .ensures) in
-    let m = nothing-made _ _ _ _ (sym (c .before .before .is-nothing .ensures) ∙ c .before .if2 .taken) in
-    go _ _ _ _ _ _ _ _ _ _ _ _ S (r .within) _ _ _ (c .before .before .before .before .before .before .before .before .before .before .before .inner .ensures) _ _ _ (sym (c .before .before .before .before .before .before .is-no-room .ensures) ∙ c .before .before .before .before .before .if1 .left) (m .0) (m .1) (c .refusals .ensures))
+    let a = c .before .before .before .before .before .before in
+    let i = called a in
+    let r = run (moved i) in
+    let n = nothing-made _ _ _ _ (sym (c .before .before .is-nothing .ensures) ∙ c .before .if2 .taken) in
+    go (r .running) (r .left) (i .inner .ensures) _ (sym (a .is-no-room .ensures) ∙ c .before .before .before .before .before .if1 .left)
+    (n .0) (n .1) (c .refusals .ensures))
+    -- judge-requires
     (λ c κs. search needs)
+    -- refusals-requires-2
     (λ c κs. search needs)
-    (λ c. omega (arith, c .before .before .before .before .before .before .before .before .before .before .before .before .before .before .before .before .before .before .before .before .before .before .before .before .before .before .before .loop .inv .few, c .before .before .before .before .before .before .before .before .before .before .before .before .before .before .before .before .before .before .before .before .before .before .before .before .before .before .loop-test .taken, c .refusals2 .ensures, refusal-one (number (c .before .before .judge .result .answer)), c .before .before .before .before .before .before .before .before .before .before .before .before .before .before .before .before .before .before .before .before .before .before .before .before .before .before .before .before .before .before .before .good .1 .1 .1 .0 .0))
+    -- add-refused-2
     (λ c.
-    let R = c .before .before .before .before .before .before .before .before .before .before .before .before .before .before .before .before .before .before .before .before .before .before .before .before .before .before .before .loop .inv in
-    let t = c .before .before .before .before .before .before .before .before .before .before .before .before .before .before .before .before .before .before .before .before .before .before .before .before .text .ensures in
-    let r = text-range R (c .before .before .before .before .before .before .before .before .before .before .before .before .before .before .before .before .before .before .before .before .before .before .before .before .before .before .loop-test .taken) t in
-    omega (arith, c .before .before .before .before .before .before .before .before .before .before .before .before .before .before .before .before .before .before .before .before .before .before .before .before .before .before .loop-test .taken, r .from, r .within))
+    let i = called (c .before .before .before .before .before .before .before .before) in
+    let r = run (moved i) in
+    omega (arith, more-refused (r .running) (number (c .before .before .judge .result .answer)) (r .left), c .refusals2 .ensures, start (moved i) .good))
+    -- loop-less-2
+    (λ c. let r = run (moved (called (c .before .before .before .before .before .before .before .before))) in omega (arith, r .from, r .left))
+    -- loop-again-2
     (λ c.
-    let R = c .before .before .before .before .before .before .before .before .before .before .before .before .before .before .before .before .before .before .before .before .before .before .before .before .before .before .before .loop .inv in
-    let t = c .before .before .before .before .before .before .before .before .before .before .before .before .before .before .before .before .before .before .before .before .before .before .before .before .text .ensures in
-    let r = text-range R (c .before .before .before .before .before .before .before .before .before .before .before .before .before .before .before .before .before .before .before .before .before .before .before .before .before .before .loop-test .taken) t in
-    let S = text-run R t (c .before .before .before .before .before .before .before .before .before .before .before .before .before .before .before .before .before .before .before .before .moved .ensures) in
-    go _ _ _ _ _ _ _ _ _ _ _ _ S (r .within) _ _ _ (c .before .before .before .before .before .before .before .before .before .before .before .before .before .inner .ensures) _ _ _ (sym (c .before .before .before .before .before .before .before .before .is-no-room .ensures) ∙ c .before .before .before .before .before .before .before .if1 .left) (c .before .before .judge .ensures .0) (c .before .before .judge .ensures .1) (c .refusals2 .ensures))
+    let a = c .before .before .before .before .before .before .before .before in
+    let i = called a in
+    let r = run (moved i) in
+    let j = c .before .before .judge .ensures in
+    go (r .running) (r .left) (i .inner .ensures) _
+    (sym (a .is-no-room .ensures) ∙ c .before .before .before .before .before .before .before .if1 .left)
+    (j .0) (j .1) (c .refusals2 .ensures))
+    -- finished-requires-2
     (λ c κs. search needs)
-    (λ c. good-parts _ _ (c .before .before .loop .inv .fine) .0 ∙ sym (good-parts _ _ (c .before .before .before .before .before .before .pre) .0))
+    -- same-length-3
+    (λ c. page-size (c .before .before .loop .inv) (c .before .before .before .before .before .before .pre))
+    -- same-length-4
     (λ c. c .before .before .loop .inv .size)
-    (λ c. looped-is (c .finished2 .ensures) (finish _ _ _ _ _ _ _ _ _ _ _ _ (c .before .before .loop .inv) (c .before .loop-test .left))))
+    -- returns-2
+    (λ c. finish (c .before .before .loop .inv) (c .before .loop-test .left) (c .finished2 .ensures)))
