@@ -1,13 +1,12 @@
 -- The public calls: from what the functions below them promise to the rules.
---     stepped-is, completed-is, sent-is     the promise, by an equal outcome
 --     powered-on, power-on-refused, step-refused, run-refused     power-on; a bad page or state
 --     one-byte         the loop over one byte is the single step
---     key-size, press-refused, press-bad, press-locked, press-unknown, press-sends     the key press
 --     text-sent, text-refused     a text put to the front of the room
 --     unprogrammed, programmed     what a key sends
+--     press-bad, press-locked, press-unknown, press-sends, key-size     the key press
 --     copied-suc       a turn of the loop that copies a text to the front of the room
 -- Assumes nothing.
-use mathlib.Core.Path.{_≡_, refl, sym, ap, subst, _∙_}
+use mathlib.Core.Path.{_≡_, refl, sym, ap, _∙_}
 use mathlib.Core.Bool.{Bool, true, false}
 use mathlib.Core.List.{List, [], _∷_, _++_, append-nil}
 use Prim.Native.Nat.{ℕ, suc, _<_, _≤_}
@@ -21,7 +20,6 @@ use Rattle.rules.specs.declared.Answer.{Answer}
 use Rattle.rules.specs.declared.Answer.the-variants as Answer
 use Rattle.rules.specs.declared.Key.{Key}
 use Rattle.rules.specs.declared.State.{State}
-use Rattle.rules.specs.declared.StepResult.{StepResult}
 use Rattle.rules.specs.declared.RunResult.{RunResult}
 use Rattle.rules.specs.declared.PressResult.{PressResult}
 use Rattle.rules.specs.Cell.{pick}
@@ -30,7 +28,7 @@ use Rattle.rules.specs.Change.{within, filled}
 use Rattle.rules.specs.State.{number, keyText, keyPlace}
 use Rattle.rules.specs.Possible.{powerOn, blank, allBelow, keyOk, isKey, good}
 use Rattle.rules.specs.Step.{Outcome, stepRule}
-use Rattle.rules.specs.Calls.{powerOnRule, Ran, Pressed, runRule, pressed, joined, repeated, keySends, keyAt, pressRule}
+use Rattle.rules.specs.Calls.{powerOnRule, Ran, runRule, pressed, joined, repeated, keySends, keyAt, pressRule}
 use Rattle.rules.specs.Left.{leaves}
 use Rattle.rules.specs.Room.{over}
 use Rattle.rules.proofs.Tests.{pick-if}
@@ -40,15 +38,6 @@ use Rattle.rules.proofs.Left.{step-left}
 use Rattle.terminal.specs.Promise.{PoweredOn, Stepped, Completed, sending, Sent}
 use Rattle.terminal.specs.Loop.{lastAnswer}
 use Rattle.terminal.proofs.Carrying.{over-none}
-
-pub stepped-is : {o o′ : Outcome} {r : StepResult} {p w w′ : List ℕ} → o ≡ o′ → Stepped o′ r p w w′ → Stepped o r p w w′
-stepped-is {o} {o′} {r} {p} {w} {w′} e h = subst (λ (x : Outcome). Stepped x r p w w′) (sym e) h
-
-pub completed-is : {o o′ : Ran} {r : RunResult} {l p w w′ : List ℕ} → o ≡ o′ → Completed o′ r l p w w′ → Completed o r l p w w′
-completed-is {o} {o′} {r} {l} {p} {w} {w′} e h = subst (λ (x : Ran). Completed x r l p w w′) (sym e) h
-
-pub sent-is : {o o′ : Pressed} {r : PressResult} {w w′ : List ℕ} → o ≡ o′ → Sent o′ r w w′ → Sent o r w w′
-sent-is {o} {o′} {r} {w} {w′} e h = subst (λ (x : Pressed). Sent x r w w′) (sym e) h
 
 -- ---- power-on
 
@@ -148,11 +137,6 @@ module _ (b : ℕ) (p : List ℕ) (s : State) (p′ w w′ : List ℕ) (a : Answ
 
 -- ---- the key press
 
-pub key-size : (p : List ℕ) (s : State) (v : ℕ) → good p s ≡ true → keyAt s v .len ≤ 8
-unfolding keyOk allBelow
-key-size p s v g =
-    key-parts _ (keys-at (s .setup .keys) (keyPlace v) _ (possible-parts s (good-parts p s g .1) .setup .keys) refl) .0
-
 -- a text that was put, and one that does not fit
 pub text-sent : (l w w′ : List ℕ) (t : Bool) → t ≡ leb (length l) (length w) → w′ ≡ pick t (over l w) w → t ≡ true
     → Sent (sending l (length w)) (record { answer = Answer.Done; replied = length l }) w w′
@@ -167,35 +151,44 @@ text-refused l w w′ t e r h =
     rw fit (record { answer = refl; replied = refl; room = r ∙ rw h (over-none w); fits = omega arith })
 
 -- an unprogrammed key, and any other
-pub unprogrammed : (k : Key) (v room : ℕ) → k .len ≡ 0 → sending (keySends k v) room ≡ sending (0x01 ∷ v ∷ 0x0d ∷ []) room
-unfolding keySends
-unprogrammed k v room e = rw e
+module _ (k : Key) (v : ℕ) {r : PressResult} {w w′ : List ℕ} where
+  pub unprogrammed : k .len ≡ 0 → Sent (sending (0x01 ∷ v ∷ 0x0d ∷ []) (length w)) r w w′ → Sent (sending (keySends k v) (length w)) r w w′
+  unfolding keySends
+  unprogrammed e h = rw e h
 
-pub programmed : (k : Key) (v room : ℕ) → (k .len ≡ 0 → ⊥) → sending (keySends k v) room ≡ sending (keyText k) room
-unfolding keySends
-programmed k v room e = rw (ne-eqb (k .len) 0 e)
+  pub programmed : (k .len ≡ 0 → ⊥) → Sent (sending (keyText k) (length w)) r w w′ → Sent (sending (keySends k v) (length w)) r w w′
+  unfolding keySends
+  programmed e h = rw (ne-eqb (k .len) 0 e) h
 
 -- a press that replies nothing
-pub press-refused : (a : Answer) (w : List ℕ) → Sent (pressed (number a) []) (record { answer = a; replied = 0 }) w w
+press-refused : (a : Answer) (w : List ℕ) → Sent (pressed (number a) []) (record { answer = a; replied = 0 }) w w
 press-refused a w = record { answer = refl; replied = refl; room = over-none w; fits = omega arith }
 
-pub press-bad : (p : List ℕ) (s : State) (v room : ℕ) → good p s ≡ false → pressRule p s v room ≡ pressed 7 []
-unfolding pressRule
-press-bad p s v room g = rw g
+module _ (p : List ℕ) (s : State) (v : ℕ) (w : List ℕ) where
+  pub press-bad : good p s ≡ false → Sent (pressRule p s v (length w)) (record { answer = Answer.BadCall; replied = 0 }) w w
+  unfolding pressRule
+  press-bad g = rw g (press-refused Answer.BadCall w)
 
-pub press-locked : (p : List ℕ) (s : State) (v room : ℕ) → good p s ≡ true → s .core .modes .locked ≡ true → pressRule p s v room ≡ pressed 8 []
-unfolding pressRule
-press-locked p s v room g l = rw (g, l)
+  module _ (g : good p s ≡ true) where
+    pub press-locked : s .core .modes .locked ≡ true → Sent (pressRule p s v (length w)) (record { answer = Answer.Locked; replied = 0 }) w w
+    unfolding pressRule
+    press-locked l = rw (g, l) (press-refused Answer.Locked w)
 
-pub press-unknown : (p : List ℕ) (s : State) (v room : ℕ) → good p s ≡ true → s .core .modes .locked ≡ false → isKey v ≡ false
-    → pressRule p s v room ≡ pressed 3 []
-unfolding pressRule
-press-unknown p s v room g l i = rw (g, l, i)
+    module _ (l : s .core .modes .locked ≡ false) where
+      pub press-unknown : isKey v ≡ false → Sent (pressRule p s v (length w)) (record { answer = Answer.BadArgument; replied = 0 }) w w
+      unfolding pressRule
+      press-unknown i = rw (g, l, i) (press-refused Answer.BadArgument w)
 
-pub press-sends : (p : List ℕ) (s : State) (v room : ℕ) (k : Key) → good p s ≡ true → s .core .modes .locked ≡ false → isKey v ≡ true
-    → k ≡ keyAt s v → pressRule p s v room ≡ sending (keySends k v) room
-unfolding pressRule
-press-sends p s v room k g l i e = rw (g, l, i) (ap (λ (x : Key). sending (keySends x v) room) (sym e))
+      pub press-sends : isKey v ≡ true → {k : Key} → k ≡ keyAt s v → {r : PressResult} {w′ : List ℕ}
+          → Sent (sending (keySends k v) (length w)) r w w′ → Sent (pressRule p s v (length w)) r w w′
+      unfolding pressRule
+      press-sends i e h = rw (g, l, i, sym e) h
+
+-- a key of a good state holds 8 bytes at most
+pub key-size : (p : List ℕ) (s : State) (v : ℕ) → good p s ≡ true → {k : Key} → k ≡ keyAt s v → k .len ≤ 8
+unfolding keyOk allBelow
+key-size p s v g e =
+    rw e (key-parts _ (keys-at (s .setup .keys) (keyPlace v) _ (possible-parts s (good-parts p s g .1) .setup .keys) refl) .0)
 
 -- ---- the room
 

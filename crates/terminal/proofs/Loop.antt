@@ -1,6 +1,6 @@
 -- The loop over host bytes: what holds at its head, and what a turn does.
 --     step-made     the step of the rules, by the inner step
---     tail-lent, tail-back, tail-size     the rest of the room, as it is lent and when it is back
+--     tail-lent, tail-none, tail-back, tail-size     the rest of the room, as it is lent and when it is back
 --     begin, stop, go, finish     the loop's start, a byte that answers 6, any other byte, the end of the input
 --     ready     what the loop hands to the inner step meets what that asks
 --     page-size, room-size, back-size     the page and the room keep their lengths
@@ -109,6 +109,11 @@ tail-rest n w = omega (arith, length-drop n w)
 
 pub tail-lent : (n : ℕ) (w : List ℕ) → lentTail n w ≡ drop n w
 tail-lent n w = take-all (length w - n) (drop n w) (tail-rest n w)
+
+-- past the end there is nothing
+pub tail-none : (n : ℕ) (w : List ℕ) → length w < n → lentTail (length w) w ≡ drop n w
+tail-none n w h =
+    tail-lent (length w) w ∙ drop-of-length-le w {i = length w} (omega arith) ∙ sym (drop-of-length-le w {i = n} (omega arith))
 
 pub tail-back : (n : ℕ) (w part : List ℕ) → backTail n w part ≡ take n w ++ part
 tail-back n w part =

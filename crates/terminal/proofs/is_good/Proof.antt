@@ -1,3 +1,4 @@
+-- `terminal::is_good` meets its contract.
 use mathlib.Core.Path.{ap, _∙_}
 use denote.Ref.{now}
 use lib.ListN.{length}
@@ -13,6 +14,9 @@ unfolding good
 is-good-spec =
     tie.close
     (tie.spec
+    -- possible-requires
     (λ c κs. search needs)
+    -- and-requires
     (λ c κs. search needs)
+    -- returns
     (λ c. c .and .ensures ∙ ap (both (eqb (length (now (c .before .before .before .args .page))) 1920)) (c .before .possible .ensures)))

@@ -1,9 +1,6 @@
-use Prim.Native.Nat.{_≤_}
-use mathlib.Core.Path.{sym, _∙_}
-use native.Mathlib.Omega.{arith}
-use lib.ListN.{length, drop-of-length-le}
+-- `terminal::rest` meets its contract.
 use denote.Ref.{now}
-use Rattle.terminal.proofs.Loop.{tail-lent}
+use Rattle.terminal.proofs.Loop.{tail-lent, tail-none}
 use borrow.Author.Needs.{needs}
 use Rattle.terminal.proofs.rest.Statement.{statement}
 use Rattle.terminal.proofs.rest.Tie as tie
@@ -12,11 +9,19 @@ pub rest-spec : {M : Type 1} → statement M
 rest-spec =
     tie.close
     (tie.spec
+    -- sub-result
     (λ c. search needs)
+    -- part-result-start
     (λ c. search needs)
+    -- part-result-end
     (λ c. search needs)
-    (λ c. let l = now (c .before .before .args .input) in let h : length l ≤ c .before .before .args .taken = omega (arith, c .before .if1 .taken) in let k : length l ≤ length l = omega arith in tail-lent (length l) l ∙ drop-of-length-le l k ∙ sym (drop-of-length-le l h))
+    -- returns
+    (λ c. tail-none _ _ (c .before .if1 .taken))
+    -- sub-result-2
     (λ c. search needs)
+    -- part-result-start-2
     (λ c. search needs)
+    -- part-result-end-2
     (λ c. search needs)
+    -- returns-2
     (λ c. tail-lent (c .before .before .args .taken) (now (c .before .before .args .input))))

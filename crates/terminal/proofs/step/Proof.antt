@@ -1,3 +1,4 @@
+-- `terminal::step` meets its contract.
 use mathlib.Core.Path.{sym, _∙_}
 use borrow.Author.Tests.{not-true, not-false}
 use Rattle.terminal.specs.Loop.{resultOf}
@@ -10,11 +11,23 @@ pub step-spec : {M : Type 1} → statement M
 step-spec =
     tie.close
     (tie.spec
+    -- is-good-requires
     (λ c κs. search needs)
+    -- same-length
     (λ c. search needs)
+    -- returns
     (λ c. step-refused _ _ (sym (c .before .is-good .ensures) ∙ not-true _ (c .if1 .taken)) _ _)
+    -- slice-aggregate-repeat
     (λ c. search needs)
-    (λ c κs. sym (c .before .before .before .before .before .before .is-good .ensures) ∙ not-false _ (c .before .before .before .before .before .if1 .left))
+    -- repeat-requires
+    (λ c κs.
+    let x = c .before .before .before .before .before in
+    sym (x .before .is-good .ensures) ∙ not-false _ (x .if1 .left))
+    -- same-length-2
     (λ c. search needs)
+    -- same-length-3
     (λ c. search needs)
-    (λ c. one-byte _ _ _ _ _ _ _ (resultOf (c .before .before .before .before .before .before .repeat .result)) (c .before .before .before .before .before .before .repeat .ensures .run) (c .before .before .before .before .before .before .repeat .ensures .last)))
+    -- returns-2
+    (λ c.
+    let r = c .before .before .before .before .before .before .repeat in
+    one-byte _ _ _ _ _ _ _ (resultOf (r .result)) (r .ensures .run) (r .ensures .last)))

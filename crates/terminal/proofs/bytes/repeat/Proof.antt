@@ -106,7 +106,8 @@ repeat-spec =
     (λ c.
     let i = called (c .before .before .before .before .before .before) in
     let r = run (moved i) in
-    omega (arith, more-refused (r .running) (number (i .inner .result .answer)) (r .left), c .refusals .ensures, start (moved i) .good))
+    let f = more-refused (r .running) (number (i .inner .result .answer)) (r .left) in
+    omega (arith, f, c .refusals .ensures, start (moved i) .good))
     -- loop-less
     (λ c. let r = run (moved (called (c .before .before .before .before .before .before))) in omega (arith, r .from, r .left))
     -- loop-again
@@ -125,7 +126,8 @@ repeat-spec =
     (λ c.
     let i = called (c .before .before .before .before .before .before .before .before) in
     let r = run (moved i) in
-    omega (arith, more-refused (r .running) (number (c .before .before .judge .result .answer)) (r .left), c .refusals2 .ensures, start (moved i) .good))
+    let f = more-refused (r .running) (number (c .before .before .judge .result .answer)) (r .left) in
+    omega (arith, f, c .refusals2 .ensures, start (moved i) .good))
     -- loop-less-2
     (λ c. let r = run (moved (called (c .before .before .before .before .before .before .before .before))) in omega (arith, r .from, r .left))
     -- loop-again-2

@@ -1,16 +1,8 @@
-use mathlib.Core.Path.{sym, ap, _∙_}
-use mathlib.Core.List.{[]}
-use native.Mathlib.Omega.{arith}
-use denote.Ref.{now}
-use lib.ListN.{length}
-use Rattle.rules.specs.declared.Core.{Core}
-use Rattle.rules.specs.declared.Key.{Key}
-use Rattle.rules.specs.declared.SetupChange.the-variants as SetupChange
-use Rattle.rules.specs.State.{number, withGathered}
-use Rattle.rules.specs.Carry.{effect}
+-- `terminal::inner::inner` meets its contract.
+use mathlib.Core.Path.{refl, ap, _∙_}
+use Rattle.rules.specs.State.{withGathered}
 use Rattle.terminal.specs.Inner.{obeyedAlone}
-use Rattle.carry.proofs.Carrying.{carried-is}
-use Rattle.terminal.proofs.Carrying.{below, above}
+use Rattle.terminal.proofs.Carrying.{refused, quietly, loudly}
 use Rattle.terminal.proofs.Gathered.{gathered-short}
 use borrow.Author.Needs.{needs}
 use Rattle.terminal.proofs.inner.inner.Statement.{statement}
@@ -21,28 +13,69 @@ unfolding obeyedAlone
 inner-spec =
     tie.close
     (tie.spec
+    -- quiet-requires
     (λ c κs. search needs)
-    (λ c. carried-is (above (now (c .before .before .before .before .args .page)) (c .before .before .before .before .args .core) (now (c .before .before .before .before .args .tabs)) (c .before .before .before .before .args .b) (length (now (c .before .before .before .before .args .room))) (c .before .if1 .taken)) (c .quiet .ensures (now (c .before .before .before .before .args .page)) (now (c .before .before .before .before .args .room))))
-    (λ c κs. (c .before .before .before .before .args .core .gathered, c .before .before .before .before .pre .1 .1))
+    -- returns
+    (λ c. refused _ _ _ _ _ (c .before .if1 .taken) (c .quiet .ensures))
+    -- decode-requires
+    (λ c κs. let start = c .before .before .before .before in (start .args .core .gathered, start .pre .1 .1))
+    -- enum-known-d
     (λ c. search needs)
+    -- awaiting-requires
     (λ c κs. search needs)
+    -- quiet-requires-2
     (λ c κs. search needs)
+    -- enum-known-d-2
     (λ c. search needs)
-    (λ c κs. gathered-short (c .before .before .before .before .before .before .before .before .args .core .gathered .len) (c .before .before .before .before .before .before .before .before .args .core .pending) (c .before .before .before .before .before .before .before .before .args .b) _ (c .before .before .before .decode .ensures) (c .before .d2 .given .1))
+    -- grown-requires
+    (λ c κs. gathered-short _ _ _ _ (c .before .before .before .decode .ensures) (c .before .d2 .given .1))
+    -- with-gathered-requires
     (λ c κs. search needs)
+    -- quiet-requires-3
     (λ c κs. search needs)
+    -- enum-known-d-3
     (λ c. search needs)
+    -- idle-requires
     (λ c κs. search needs)
+    -- quiet-requires-4
     (λ c κs. search needs)
+    -- enum-known-d-4
     (λ c. search needs)
+    -- idle-requires-2
     (λ c κs. search needs)
+    -- quiet-requires-5
     (λ c κs. search needs)
+    -- enum-known-d-5
     (λ c. search needs)
-    (λ c κs. (c .before .before .before .before .before .before .before .before .before .before .pre .0, c .before .before .before .before .before .before .before .before .before .before .pre .1 .0))
-    (λ c. carried-is (below (now (c .before .before .before .before .before .before .before .before .before .before .args .page)) (c .before .before .before .before .before .before .before .before .before .before .args .core) (now (c .before .before .before .before .before .before .before .before .before .before .args .tabs)) (c .before .before .before .before .before .before .before .before .before .before .args .b) (length (now (c .before .before .before .before .before .before .before .before .before .before .args .room))) (omega (arith, c .before .before .before .before .before .before .before .if1 .left)) (c .before .before .before .before .before .decode .ensures) (c .before .before .before .d .given .1) ∙ sym (ap (λ (x : Core). effect 0 x SetupChange.Nothing (now (c .before .before .before .before .before .before .before .before .before .before .args .page)) []) (c .before .awaiting .ensures))) (c .quiet2 .ensures (now (c .before .before .before .before .before .before .before .before .before .before .args .page)) (now (c .before .before .before .before .before .before .before .before .before .before .args .room))))
-    (λ c. carried-is (below (now (c .before .before .before .before .before .before .before .before .before .before .before .args .page)) (c .before .before .before .before .before .before .before .before .before .before .before .args .core) (now (c .before .before .before .before .before .before .before .before .before .before .before .args .tabs)) (c .before .before .before .before .before .before .before .before .before .before .before .args .b) (length (now (c .before .before .before .before .before .before .before .before .before .before .before .args .room))) (omega (arith, c .before .before .before .before .before .before .before .before .if1 .left)) (c .before .before .before .before .before .before .decode .ensures) (c .before .before .before .before .d2 .given .1) ∙ sym (ap (λ (x : Core). effect 0 x SetupChange.Nothing (now (c .before .before .before .before .before .before .before .before .before .before .before .args .page)) []) (c .before .with-gathered .ensures ∙ ap (withGathered (c .before .before .before .before .before .before .before .before .before .before .before .args .core)) (c .before .before .grown .ensures)))) (c .quiet3 .ensures (now (c .before .before .before .before .before .before .before .before .before .before .before .args .page)) (now (c .before .before .before .before .before .before .before .before .before .before .before .args .room))))
-    (λ c. carried-is (below (now (c .before .before .before .before .before .before .before .before .before .before .args .page)) (c .before .before .before .before .before .before .before .before .before .before .args .core) (now (c .before .before .before .before .before .before .before .before .before .before .args .tabs)) (c .before .before .before .before .before .before .before .before .before .before .args .b) (length (now (c .before .before .before .before .before .before .before .before .before .before .args .room))) (omega (arith, c .before .before .before .before .before .before .before .if1 .left)) (c .before .before .before .before .before .decode .ensures) (c .before .before .before .d3 .given .1) ∙ sym (ap (λ (x : Core). effect 0 x (SetupChange.Key (c .before .before .before .d3 .given .0 .0)) (now (c .before .before .before .before .before .before .before .before .before .before .args .page)) []) (c .before .idle .ensures))) (c .quiet4 .ensures (now (c .before .before .before .before .before .before .before .before .before .before .args .page)) (now (c .before .before .before .before .before .before .before .before .before .before .args .room))))
-    (λ c. carried-is (below (now (c .before .before .before .before .before .before .before .before .before .before .args .page)) (c .before .before .before .before .before .before .before .before .before .before .args .core) (now (c .before .before .before .before .before .before .before .before .before .before .args .tabs)) (c .before .before .before .before .before .before .before .before .before .before .args .b) (length (now (c .before .before .before .before .before .before .before .before .before .before .args .room))) (omega (arith, c .before .before .before .before .before .before .before .if1 .left)) (c .before .before .before .before .before .decode .ensures) (c .before .before .before .d4 .given .1) ∙ sym (ap (λ (x : Core). effect (number (c .before .before .before .d4 .given .0 .0)) x SetupChange.Nothing (now (c .before .before .before .before .before .before .before .before .before .before .args .page)) []) (c .before .idle2 .ensures))) (c .quiet5 .ensures (now (c .before .before .before .before .before .before .before .before .before .before .args .page)) (now (c .before .before .before .before .before .before .before .before .before .before .args .room))))
+    -- obey-requires
+    (λ c κs. let start = c .before .before .before .before .before .before .before .before .before .before in (start .pre .0, start .pre .1 .0))
+    -- returns-2
+    (λ c.
+    let k = c .before .before .before .before .before in
+    quietly _ _ _ _ _ (k .before .before .if1 .left) (k .decode .ensures) (c .before .before .before .d .given .1) refl
+    (c .before .awaiting .ensures) (c .quiet2 .ensures))
+    -- returns-3
+    (λ c.
+    let k = c .before .before .before .before .before .before in
+    let core = k .before .before .before .before .before .args .core in
+    quietly _ _ _ _ _ (k .before .before .if1 .left) (k .decode .ensures) (c .before .before .before .before .d2 .given .1) refl
+    (c .before .with-gathered .ensures ∙ ap (withGathered core) (c .before .before .grown .ensures)) (c .quiet3 .ensures))
+    -- returns-4
+    (λ c.
+    let k = c .before .before .before .before .before in
+    quietly _ _ _ _ _ (k .before .before .if1 .left) (k .decode .ensures) (c .before .before .before .d3 .given .1) refl
+    (c .before .idle .ensures) (c .quiet4 .ensures))
+    -- returns-5
+    (λ c.
+    let k = c .before .before .before .before .before in
+    quietly _ _ _ _ _ (k .before .before .if1 .left) (k .decode .ensures) (c .before .before .before .d4 .given .1) refl
+    (c .before .idle2 .ensures) (c .quiet5 .ensures))
+    -- same-length
     (λ c. search needs)
+    -- same-length-2
     (λ c. search needs)
-    (λ c. carried-is (below (now (c .before .before .before .before .before .before .before .before .before .before .before .before .before .before .before .args .page)) (c .before .before .before .before .before .before .before .before .before .before .before .before .before .before .before .args .core) (now (c .before .before .before .before .before .before .before .before .before .before .before .before .before .before .before .args .tabs)) (c .before .before .before .before .before .before .before .before .before .before .before .before .before .before .before .args .b) (length (now (c .before .before .before .before .before .before .before .before .before .before .before .before .before .before .before .args .room))) (omega (arith, c .before .before .before .before .before .before .before .before .before .before .before .before .if1 .left)) (c .before .before .before .before .before .before .before .before .before .before .decode .ensures) (c .before .before .before .before .before .before .before .before .d5 .given .1)) (c .before .before .before .before .obey .ensures)))
+    -- returns-6
+    (λ c.
+    let o = c .before .before .before .before in
+    let k = o .before .before .before .before .before .before in
+    loudly _ _ _ _ _ (k .before .before .if1 .left) (k .decode .ensures) (o .before .before .before .before .d5 .given .1) (o .obey .ensures)))

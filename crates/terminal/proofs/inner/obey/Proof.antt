@@ -1,13 +1,6 @@
-use mathlib.Core.Path.{sym, ap, subst, _∙_}
+-- `terminal::inner::obey` meets its contract.
 use denote.Ref.{now}
-use lib.ListN.{length}
-use Rattle.rules.specs.declared.Plan.{Plan}
-use Rattle.rules.specs.Search.{guardedAt}
-use Rattle.rules.specs.Good.{GoodPlan}
-use Rattle.rules.specs.Carry.{carried}
-use Rattle.rules.proofs.Marks.{length-guards}
-use Rattle.rules.proofs.Good.{good-plan}
-use Rattle.carry.proofs.Carrying.{carried-is}
+use Rattle.terminal.proofs.Carrying.{plan-good, plan-carried}
 use borrow.Author.Needs.{needs}
 use Rattle.terminal.proofs.inner.obey.Statement.{statement}
 use Rattle.terminal.proofs.inner.obey.Tie as tie
@@ -16,8 +9,19 @@ pub obey-spec : {M : Type 1} → statement M
 obey-spec =
     tie.close
     (tie.spec
+    -- plan-for-requires
     (λ c κs. search needs)
-    (λ c κs. (c .before .before .before .before .before .before .pre .0, subst GoodPlan (sym (c .before .before .plan-for .ensures)) (good-plan (c .before .before .before .before .before .before .args .core) (c .before .before .before .before .before .before .pre .1) (guardedAt (c .before .before .before .before .before .before .args .core .modes .protect) (now (c .before .before .before .before .before .before .args .page))) (length-guards (c .before .before .before .before .before .before .args .core .modes .protect) (now (c .before .before .before .before .before .before .args .page)) ∙ c .before .before .before .before .before .before .pre .0) (now (c .before .before .before .before .before .before .args .tabs)) (c .before .before .before .before .before .before .args .d))))
+    -- carry-out-requires
+    (λ c κs.
+    let start = c .before .before .before .before .before .before in
+    let x = start .args in
+    let p = start .pre in
+    (p .0, plan-good (now (x .page)) (x .core) (now (x .tabs)) (x .d) (c .before .before .plan-for .ensures) (p .0) (p .1)))
+    -- same-length
     (λ c. search needs)
+    -- same-length-2
     (λ c. search needs)
-    (λ c. carried-is (sym (ap (λ (x : Plan). carried (now (c .before .before .before .before .before .before .before .before .before .before .before .args .page)) (c .before .before .before .before .before .before .before .before .before .before .before .args .core) x (length (now (c .before .before .before .before .before .before .before .before .before .before .before .args .room)))) (c .before .before .before .before .before .before .before .plan-for .ensures))) (c .before .before .before .before .carry-out .ensures)))
+    -- returns
+    (λ c.
+    let o = c .before .before .before .before in
+    plan-carried _ _ _ _ (o .before .before .before .plan-for .ensures) (o .carry-out .ensures)))

@@ -1,3 +1,4 @@
+-- `terminal::inner::quiet` meets its contract.
 use Rattle.terminal.proofs.Carrying.{quiet-carried}
 use Rattle.terminal.proofs.inner.quiet.Statement.{statement}
 use Rattle.terminal.proofs.inner.quiet.Tie as tie
@@ -6,4 +7,5 @@ pub quiet-spec : {M : Type 1} → statement M
 quiet-spec =
     tie.close
     (tie.spec
-    (λ c. λ p w. quiet-carried _ _ _ p w))
+    -- returns
+    (λ c p w. quiet-carried _ _ _ p w))

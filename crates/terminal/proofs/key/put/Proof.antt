@@ -1,3 +1,4 @@
+-- `terminal::key::put` meets its contract. The loop: i bytes of the text are copied.
 use Prim.Native.Nat.{ℕ, _≤_, _<_, _-_, zero-le}
 use mathlib.Core.Path.{_≡_, refl, sym, ap, _∙_}
 use mathlib.Core.List.{List, _++_}
@@ -32,12 +33,19 @@ put-spec =
     (tie.spec
     Inv-loop
     μ-loop
+    -- returns
     (λ c. (sym (lt-leb _ _ (c .if1 .taken)), refl))
+    -- loop-holds
     (λ c. record { within = zero-le; fits = omega arith; size = refl; so-far = refl })
+    -- shared-slice-read-room
     (λ c. omega arith)
+    -- slice-write-room
     (λ c. omega arith)
+    -- add-i
     (λ c. omega arith)
+    -- loop-less
     (λ c. omega arith)
+    -- loop-again
     (λ c.
     let d = now (c .before .before .before .before .args .room) in
     let s = now (c .before .before .before .before .args .text) in
@@ -50,7 +58,9 @@ put-spec =
       size = simp length-set (l .inv .size);
       so-far = ap (λ (r : List ℕ). set r (l .i) (getD s (l .i) 0)) (l .inv .so-far) ∙ copied-suc d s (l .i) hd hs ∙ rw add-one;
     })
+    -- same-length
     (λ c. c .before .loop .inv .size)
+    -- returns-2
     (λ c.
     let s = now (c .before .before .before .args .text) in
     let l = c .before .loop in

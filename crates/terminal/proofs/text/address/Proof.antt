@@ -1,3 +1,4 @@
+-- `terminal::text::address` meets its contract.
 use mathlib.Core.Path.{sym, _∙_}
 use native.Mathlib.Omega.{arith}
 use borrow.Author.Needs.{needs}
@@ -8,25 +9,44 @@ pub address-spec : {M : Type 1} → statement M
 address-spec =
     tie.close
     (tie.spec
+    -- add-if1
     (λ c. search needs)
-    (λ c. λ z. absurd (omega (arith, z)))
+    -- returns
+    (λ c z. absurd (omega (arith, z)))
+    -- shared-slice-read-if2
     (λ c. search needs)
-    (λ c. λ z. absurd (omega (arith, z)))
+    -- returns-2
+    (λ c z. absurd (omega (arith, z)))
+    -- add-if3
     (λ c. search needs)
+    -- shared-slice-read-if3
     (λ c. search needs)
-    (λ c. λ z. absurd (omega (arith, z)))
+    -- returns-3
+    (λ c z. absurd (omega (arith, z)))
+    -- add-row
     (λ c. search needs)
+    -- shared-slice-read-row
     (λ c. search needs)
+    -- add-column
     (λ c. search needs)
+    -- shared-slice-read-column
     (λ c. search needs)
-    (λ c. λ z. absurd (omega (arith, z)))
-    (λ c. λ z. absurd (omega (arith, z)))
-    (λ c. λ z. absurd (omega (arith, z)))
+    -- returns-4
+    (λ c z. absurd (omega (arith, z)))
+    -- returns-5
+    (λ c z. absurd (omega (arith, z)))
+    -- returns-6
+    (λ c z. absurd (omega (arith, z)))
+    -- cell-at-requires
     (λ c κs. search needs)
-    (λ c. λ z. absurd (omega (arith, z)))
+    -- returns-7
+    (λ c z. absurd (omega (arith, z)))
+    -- is-guarded-at-requires
     (λ c κs. search needs)
-    (λ c. λ z. absurd (omega (arith, z)))
-    (λ c. λ z. (
+    -- returns-8
+    (λ c z. absurd (omega (arith, z)))
+    -- returns-9
+    (λ c z. (
       omega arith,
       record {
         escape = omega (arith, c .before .before .before .before .before .before .before .before .before .before .before .if2 .left);

@@ -1,3 +1,4 @@
+-- `terminal::text::is_stored` meets its contract.
 use mathlib.Core.Path.{sym, _∙_}
 use mathlib.Core.Bool.{false≢true}
 use native.Mathlib.Omega.{arith}
@@ -10,15 +11,24 @@ pub is-stored-spec : {M : Type 1} → statement M
 is-stored-spec =
     tie.close
     (tie.spec
-    (λ c. λ z. absurd (false≢true z))
-    (λ c. λ z. absurd (false≢true z))
+    -- returns
+    (λ c z. absurd (false≢true z))
+    -- returns-2
+    (λ c z. absurd (false≢true z))
+    -- add-if3
     (λ c. search needs)
-    (λ c. λ z. absurd (false≢true z))
+    -- returns-3
+    (λ c z. absurd (false≢true z))
+    -- is-guarded-at-requires
     (λ c κs. search needs)
-    (λ c. λ z. absurd (false≢true z))
+    -- returns-4
+    (λ c z. absurd (false≢true z))
+    -- add-is-guarded-at
     (λ c. search needs)
+    -- is-guarded-at-requires-2
     (λ c κs. search needs)
-    (λ c. λ z. record {
+    -- returns-5
+    (λ c z. record {
       low = omega arith;
       high = omega arith;
       inside = omega arith;

@@ -1,3 +1,4 @@
+-- `terminal::text::still` meets its contract.
 use mathlib.Core.Path.{ap}
 use Prim.Native.Nat.{ℕ}
 use Rattle.terminal.specs.declared.text.Reached.{Reached}
@@ -9,6 +10,9 @@ pub still-spec : {M : Type 1} → statement M
 still-spec =
     tie.close
     (tie.spec
+    -- cursor-of-requires
     (λ c κs. search needs)
+    -- cast-t4
     (λ c. search needs)
+    -- returns
     (λ c. ap {B = Reached} (λ (n : ℕ). record { at = n; taken = c .before .args .from }) (c .cursor-of .ensures)))

@@ -1,4 +1,4 @@
-use mathlib.Core.Path.{sym, ap, _∙_}
+-- `terminal::text::text` meets its contract.
 use native.Mathlib.Omega.{arith}
 use Rattle.rules.proofs.Screens.{screen-inside}
 use Rattle.terminal.specs.Text.{still, typed}
@@ -10,18 +10,31 @@ pub text-spec : {M : Type 1} → statement M
 text-spec =
     tie.close
     (tie.spec
+    -- shared-slice-read-if1
     (λ c. search needs)
+    -- still-requires
     (λ c κs. search needs)
+    -- returns
     (λ c. rw (c .still .ensures) still)
+    -- still-requires-2
     (λ c κs. search needs)
+    -- returns-2
     (λ c. rw (c .still2 .ensures) still)
+    -- enum-told
     (λ c. search needs)
+    -- cursor-of-requires
     (λ c κs. search needs)
+    -- cast-runs
     (λ c. search needs)
+    -- segment-start-requires
     (λ c κs. search needs)
+    -- cast-runs-2
     (λ c. search needs)
+    -- segment-end-requires
     (λ c κs. search needs)
+    -- cast-runs-3
     (λ c. search needs)
+    -- runs-requires
     (λ c κs.
     let x = c .before .before .before .before .before .before .before .before .before .before .before .before in
     let s = screen-inside (x .args .core .screen) (x .pre .1 .0) in
@@ -29,9 +42,17 @@ text-spec =
     let home = c .before .segment-start .ensures in
     let end = c .segment-end .ensures in
     (x .pre .0, (omega (arith, end, s .most), (omega (arith, home, s .rows, s .most), (omega (arith, first, s .below, s .most), x .pre .1 .1)))))
+    -- still-requires-3
     (λ c κs. search needs)
+    -- same-length
     (λ c. search needs)
+    -- returns-3
     (λ c.
-    typed (c .before .before .before .before .before .before .before .enum-told .given .1) (c .before .before .before .before .before .before .before .before .before .before .if2 .left)
-    (rw (c .before .before .before .before .before .cursor-of .ensures, c .before .before .before .before .segment-start .ensures, c .before .before .before .segment-end .ensures) at (c .before .before .runs .ensures)))
+    let end = c .before .before .before in
+    let home = end .before in
+    let first = home .before in
+    let idle = first .before .before in
+    typed (idle .enum-told .given .1) (idle .before .before .before .if2 .left)
+    (rw (first .cursor-of .ensures, home .segment-start .ensures, end .segment-end .ensures) at (c .before .before .runs .ensures)))
+    -- returns-4
     (λ c. rw (c .still3 .ensures) still))
