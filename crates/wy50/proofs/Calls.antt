@@ -1,4 +1,7 @@
 -- The exported calls, from the promises of the terminal's: refused where the numbers name no state, else the terminal's, in numbers.
+--     named-bells     a bell count that is named is below 256
+--     powered-on, stepped, completed, sent     the terminal's, in numbers
+--     step-refused, run-refused, press-refused     numbers that name no state
 -- Assumes nothing.
 use mathlib.Core.Path.{_≡_, refl, _∙_}
 use mathlib.Core.Bool.{true, false}
@@ -25,7 +28,6 @@ use Rattle.wy50.specs.declared.raw.RawState.{RawState}
 use Rattle.wy50.specs.Raw.{areFlags, isSequence, packed, unpacked, named}
 use Rattle.wy50.specs.Promise.{raw, rawStep, rawRun, rawPress, PoweredOn, Stepped, Completed, Sent}
 
--- a bell count that is named is below 256
 pub named-bells : (x : RawState) → named x ≡ true → x .bells < 256
 unfolding named
 named-bells x h =
@@ -34,7 +36,8 @@ named-bells x h =
 
 -- n and y are the numbers of the answer and of the state
 module _ {n : ℕ} {y : RawState} where
-  pub powered-on : {o : Outcome} {t : PowerOn} {p : List ℕ} → terminal.PoweredOn o t p → n ≡ number (t .answer) → y ≡ packed (t .state) → PoweredOn (raw o) (record { answer = n; state = y }) p
+  pub powered-on : {o : Outcome} {t : PowerOn} {p : List ℕ} → terminal.PoweredOn o t p → n ≡ number (t .answer) → y ≡ packed (t .state)
+      → PoweredOn (raw o) (record { answer = n; state = y }) p
   powered-on h a s = record { answer = a ∙ h .answer; state = rw (s, h .state); page = h .page }
 
   pub stepped : (p : List ℕ) (x : RawState) (b : ℕ) (w : List ℕ) {s : State} {t : StepResult} {p′ w′ : List ℕ} → named x ≡ true → s ≡ unpacked x

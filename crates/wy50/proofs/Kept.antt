@@ -1,4 +1,6 @@
 -- The calls over numbers: a bad call gives back what it was handed, and a good page and state stay good.
+--     bad-step, bad-run, bad-press     a bad call
+--     power-on-good, step-kept, run-kept     the page and the numbers after power-on and after a good call are good
 -- Assumes nothing.
 use mathlib.Core.Path.{_≡_, refl}
 use mathlib.Core.Bool.{Bool, true, false}
@@ -21,7 +23,8 @@ use Rattle.wy50.proofs.RoundTrip.{packed-named, unpacked-packed, packed
 -- a bad call
 module _ (p : List ℕ) (x : RawState) (bad : rawGood p x ≡ false) where
   -- a rule over numbers that is bad where the terminal's is
-  bad-call : {A : Type 0} (good-one bad-one : A) → (named x ≡ true → good p (unpacked x) ≡ false → good-one ≡ bad-one) → pick (named x) good-one bad-one ≡ bad-one
+  bad-call : {A : Type 0} (good-one bad-one : A) → (named x ≡ true → good p (unpacked x) ≡ false → good-one ≡ bad-one)
+      → pick (named x) good-one bad-one ≡ bad-one
   unfolding rawGood
   bad-call u v h = by (named x) refl where
     by : (t : Bool) → named x ≡ t → pick t u v ≡ v
@@ -60,8 +63,12 @@ module _ (p : List ℕ) (x : RawState) (fine : rawGood p x ≡ true) where
 
   pub step-kept : (b room : ℕ) → rawGood (rawStep p x b room .page) (rawStep p x b room .state) ≡ true
   unfolding rawStep
-  step-kept b room = rw is-named (packed-good (stepRule p (unpacked x) b room .page) (stepRule p (unpacked x) b room .state) (step-good p (unpacked x) b room is-good))
+  step-kept b room =
+      let o = stepRule p (unpacked x) b room in
+      rw is-named (packed-good (o .page) (o .state) (step-good p (unpacked x) b room is-good))
 
   pub run-kept : (l : List ℕ) (room : ℕ) → rawGood (rawRun p x l room .page) (rawRun p x l room .state) ≡ true
   unfolding rawRun
-  run-kept l room = rw is-named (packed-good (runRule p (unpacked x) l room .page) (runRule p (unpacked x) l room .state) (run-good p (unpacked x) l room is-good))
+  run-kept l room =
+      let o = runRule p (unpacked x) l room in
+      rw is-named (packed-good (o .page) (o .state) (run-good p (unpacked x) l room is-good))

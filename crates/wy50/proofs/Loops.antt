@@ -1,4 +1,6 @@
 -- Laws of the loops that translate an array, and of the table of sequences.
+--     begin, go, finish     such a loop's start, a turn, its end
+--     not-found     a kind that is none of the table's
 -- Assumes nothing.
 use mathlib.Core.Path.{_≡_, refl, sym, _∙_}
 use mathlib.Core.List.{List, [], _∷_, map}

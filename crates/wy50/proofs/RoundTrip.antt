@@ -1,4 +1,6 @@
 -- There and back: a state's numbers name that state, and the state that numbers name has those numbers.
+--     packed-named, unpacked-packed     a state's numbers name a state, and it is that state
+--     packed-unpacked     numbers that name a state are that state's
 -- Assumes nothing.
 use mathlib.Core.Path.{_≡_, refl, ap, ap₂, _∙_}
 use mathlib.Core.Bool.{Bool, true, false}
@@ -17,7 +19,8 @@ use Rattle.state.proofs.Tests.{both-left, both-right}
 use Rattle.wy50.specs.declared.raw.RawModes.{RawModes}
 use Rattle.wy50.specs.declared.raw.RawSequence.{RawSequence}
 use Rattle.wy50.specs.declared.raw.RawState.{RawState}
-use Rattle.wy50.specs.Raw.{flag, isOn, sequenceOf, find, pendingOf, sameSequence, isSequence, rawModes, modesOf, areFlags, rawKey, keyOf, packed, unpacked, named}
+use Rattle.wy50.specs.Raw.{flag, isOn, sequenceOf, find, pendingOf, sameSequence, isSequence, rawModes, modesOf, areFlags}
+use Rattle.wy50.specs.Raw.{rawKey, keyOf, packed, unpacked, named}
 
 -- a flag
 isOn-flag : (b : Bool) → isOn (flag b) ≡ b
@@ -75,7 +78,9 @@ pending-back (Pending.KeyText v) = refl
 pending-back (Pending.KeyOver v) = refl
 
 same-self : (q : RawSequence) → sameSequence q q ≡ true
-same-self q = rw (eq-eqb (q .kind) (q .kind) refl, eq-eqb (q .first) (q .first) refl, eq-eqb (q .second) (q .second) refl, eq-eqb (q .third) (q .third) refl)
+same-self q = rw (self (q .kind), self (q .first), self (q .second), self (q .third)) where
+  self : (n : ℕ) → eqb n n ≡ true
+  self n = eq-eqb n n refl
 
 same-equal : (a b : RawSequence) → sameSequence a b ≡ true → a ≡ b
 same-equal a b h =
@@ -111,10 +116,13 @@ modes-back m = λ i. record {
 }
 
 modes-named : (m : Modes) → areFlags (rawModes m) ≡ true
-modes-named m = rw (flag-below (m .protect), flag-below (m .mark), flag-below (m .insert), flag-below (m .autoscroll), flag-below (m .locked), flag-below (m .local))
+modes-named m =
+    rw (flag-below (m .protect), flag-below (m .mark), flag-below (m .insert))
+    (rw (flag-below (m .autoscroll), flag-below (m .locked), flag-below (m .local)))
 
 -- six tests, and each of them
-six : (a b c d e f : Bool) → both (both a (both b c)) (both d (both e f)) ≡ true → (a ≡ true) × (b ≡ true) × (c ≡ true) × (d ≡ true) × (e ≡ true) × (f ≡ true)
+six : (a b c d e f : Bool) → both (both a (both b c)) (both d (both e f)) ≡ true
+    → (a ≡ true) × (b ≡ true) × (c ≡ true) × (d ≡ true) × (e ≡ true) × (f ≡ true)
 six a b c d e f h =
     let l = both-left (both a (both b c)) (both d (both e f)) h in
     let r = both-right (both a (both b c)) (both d (both e f)) h in

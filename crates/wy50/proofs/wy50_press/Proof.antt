@@ -1,20 +1,35 @@
--- `wy50_press` meets its contract.
--- Assumes nothing.
-use mathlib.Core.Path.{sym, _∙_}
+-- `wy50::wy50_press` meets its contract.
+use mathlib.Core.Bool.{true}
+use mathlib.Core.Path.{_≡_, sym, _∙_}
 use borrow.Author.Tests.{not-true, not-false}
+use Rattle.wy50.specs.Raw.{named}
 use Rattle.wy50.proofs.Calls.{sent, press-refused}
 use borrow.Author.Needs.{needs}
 use Rattle.wy50.proofs.wy50_press.Statement.{statement}
 use Rattle.wy50.proofs.wy50_press.Tie as tie
 
+-- past the test of the numbers
+known : (x : tie.Else1) → named (x .before .before .before .before .args .state) ≡ true
+known x = sym (x .before .is-named .ensures) ∙ not-false _ (x .if1 .left)
+
 pub wy50-press-spec : {M : Type 1} → statement M
 wy50-press-spec =
     tie.close
     (tie.spec
+    -- is-named-requires
     (λ c κs. search needs)
+    -- returns
     (λ c. press-refused _ _ (sym (c .before .is-named .ensures) ∙ not-true _ (c .if1 .taken)) _ _)
-    (λ c κs. sym (c .before .is-named .ensures) ∙ not-false _ (c .if1 .left))
+    -- unpack-requires
+    (λ c κs. known c)
+    -- press-requires
     (λ c κs. search needs)
+    -- answer-number-requires
     (λ c κs. search needs)
+    -- same-length
     (λ c. search needs)
-    (λ c. sent _ _ _ _ (sym (c .before .before .before .before .before .before .before .is-named .ensures) ∙ not-false _ (c .before .before .before .before .before .before .if1 .left)) (c .before .before .before .before .before .unpack .ensures) (c .before .before .before .press .ensures) (c .answer-number .ensures)))
+    -- returns-2
+    (λ c.
+    let t = c .before .before .before in
+    let u = t .before .before in
+    sent _ _ _ _ (known (u .before)) (u .unpack .ensures) (t .press .ensures) (c .answer-number .ensures)))

@@ -1,22 +1,39 @@
--- `wy50_run` meets its contract.
--- Assumes nothing.
-use mathlib.Core.Path.{sym, _∙_}
+-- `wy50::wy50_run` meets its contract.
+use mathlib.Core.Bool.{true}
+use mathlib.Core.Path.{_≡_, sym, _∙_}
 use borrow.Author.Tests.{not-true, not-false}
+use Rattle.wy50.specs.Raw.{named}
 use Rattle.wy50.proofs.Calls.{completed, run-refused}
 use borrow.Author.Needs.{needs}
 use Rattle.wy50.proofs.wy50_run.Statement.{statement}
 use Rattle.wy50.proofs.wy50_run.Tie as tie
 
+-- past the test of the numbers
+known : (x : tie.Else1) → named (x .before .before .before .before .before .args .state) ≡ true
+known x = sym (x .before .is-named .ensures) ∙ not-false _ (x .if1 .left)
+
 pub wy50-run-spec : {M : Type 1} → statement M
 wy50-run-spec =
     tie.close
     (tie.spec
+    -- is-named-requires
     (λ c κs. search needs)
+    -- returns
     (λ c. run-refused _ _ (sym (c .before .is-named .ensures) ∙ not-true _ (c .if1 .taken)) _ _)
-    (λ c κs. sym (c .before .before .is-named .ensures) ∙ not-false _ (c .before .if1 .left))
+    -- unpack-requires
+    (λ c κs. known (c .before))
+    -- run-requires
     (λ c κs. search needs)
+    -- answer-number-requires
     (λ c κs. search needs)
+    -- pack-requires
     (λ c κs. search needs)
+    -- same-length
     (λ c. search needs)
+    -- same-length-2
     (λ c. search needs)
-    (λ c. completed _ _ _ _ (sym (c .before .before .before .before .before .before .before .before .before .before .before .before .is-named .ensures) ∙ not-false _ (c .before .before .before .before .before .before .before .before .before .before .before .if1 .left)) (c .before .before .before .before .before .before .before .before .before .unpack .ensures) (c .before .before .before .before .before .before .before .run .ensures) (c .before .answer-number .ensures) (c .pack .ensures)))
+    -- returns-2
+    (λ c.
+    let t = c .before .before .before .before .before .before .before in
+    let u = t .before .before in
+    completed _ _ _ _ (known (u .before .before)) (u .unpack .ensures) (t .run .ensures) (c .before .answer-number .ensures) (c .pack .ensures)))

@@ -1,5 +1,4 @@
--- `pack` meets its contract.
--- Assumes nothing.
+-- `wy50::pack::pack` meets its contract.
 use Rattle.wy50.specs.Raw.{packed}
 use borrow.Author.Needs.{needs}
 use Rattle.wy50.proofs.pack.pack.Statement.{statement}
@@ -10,10 +9,20 @@ unfolding packed
 pack-spec =
     tie.close
     (tie.spec
+    -- raw-modes-requires
     (λ c κs. search needs)
+    -- cast-t14
     (λ c. search needs)
+    -- sequence-of-requires
     (λ c κs. search needs)
+    -- raw-key-requires
     (λ c κs. search needs)
+    -- raw-tabs-requires
     (λ c κs. search needs)
+    -- raw-keys-requires
     (λ c κs. search needs)
-    (λ c. rw (c .raw-keys .ensures, c .before .raw-tabs .ensures, c .before .before .raw-key .ensures, c .before .before .before .sequence-of .ensures, c .before .before .before .before .before .raw-modes .ensures)))
+    -- returns
+    (λ c.
+    let k = c .before .before in
+    let q = k .before in
+    rw (c .raw-keys .ensures, c .before .raw-tabs .ensures, k .raw-key .ensures, q .sequence-of .ensures, q .before .before .raw-modes .ensures)))

@@ -1,5 +1,4 @@
--- `raw_keys`: the first i keys are translated.
--- Assumes nothing.
+-- `wy50::pack::raw_keys` meets its contract. The loop: the first i keys are translated.
 use mathlib.Core.List.{[]}
 use Prim.Native.Nat.{_-_}
 use borrow.Author.Needs.{needs}
@@ -14,24 +13,31 @@ Inv-loop keys t₀ i₀ t i = Translated rawKey keys t i
 abbrev μ-loop : tie.MeasureT-loop
 μ-loop keys t₀ i₀ t i = 32 - i
 
-loop-again : tie.Need-loop-again Inv-loop μ-loop
-loop-again c =
-    let x = c .before .before .before .loop in
-    go rawKey _ (x .t) (x .i) record { len = 0; bytes = [] } (x .inv) (search needs) (c .raw-key .ensures)
-
 pub raw-keys-spec : {M : Type 1} → statement M
 raw-keys-spec =
     tie.close
     (tie.spec
     Inv-loop
     μ-loop
+    -- loop-holds
     (λ c. begin rawKey _ _ (search needs))
+    -- mul-k
     (λ c. search needs)
+    -- array-copy-out-k
     (λ c. search needs)
+    -- raw-key-requires
     (λ c κs. search needs)
+    -- mul-t
     (λ c. search needs)
+    -- array-set-from-t
     (λ c. search needs)
+    -- add-i
     (λ c. search needs)
+    -- loop-less
     (λ c. search needs)
-    loop-again
+    -- loop-again
+    (λ c.
+    let x = c .before .before .before .loop in
+    go rawKey _ (x .t) (x .i) record { len = 0; bytes = [] } (x .inv) (search needs) (c .raw-key .ensures))
+    -- returns
     (λ c. finish rawKey _ _ (c .before .loop .i) (c .before .loop .inv) (search needs)))

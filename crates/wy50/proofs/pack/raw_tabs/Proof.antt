@@ -1,5 +1,4 @@
--- `raw_tabs`: the first i tab stops are translated.
--- Assumes nothing.
+-- `wy50::pack::raw_tabs` meets its contract. The loop: the first i tab stops are translated.
 use mathlib.Core.Bool.{false}
 use Prim.Native.Nat.{_-_}
 use borrow.Author.Needs.{needs}
@@ -14,22 +13,27 @@ Inv-loop tabs t₀ i₀ t i = Translated flag tabs t i
 abbrev μ-loop : tie.MeasureT-loop
 μ-loop tabs t₀ i₀ t i = 80 - i
 
-loop-again : tie.Need-loop-again Inv-loop μ-loop
-loop-again c =
-    let x = c .before .before .loop in
-    go flag _ (x .t) (x .i) false (x .inv) (search needs) (c .flag .ensures)
-
 pub raw-tabs-spec : {M : Type 1} → statement M
 raw-tabs-spec =
     tie.close
     (tie.spec
     Inv-loop
     μ-loop
+    -- loop-holds
     (λ c. begin flag _ _ (search needs))
+    -- array-read-flag
     (λ c. search needs)
+    -- flag-requires
     (λ c κs. search needs)
+    -- array-write-t
     (λ c. search needs)
+    -- add-i
     (λ c. search needs)
+    -- loop-less
     (λ c. search needs)
-    loop-again
+    -- loop-again
+    (λ c.
+    let x = c .before .before .loop in
+    go flag _ (x .t) (x .i) false (x .inv) (search needs) (c .flag .ensures))
+    -- returns
     (λ c. finish flag _ _ (c .before .loop .i) (c .before .loop .inv) (search needs)))

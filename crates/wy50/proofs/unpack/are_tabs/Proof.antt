@@ -1,5 +1,4 @@
--- `are_tabs`: the tab stops from i on decide.
--- Assumes nothing.
+-- `wy50::unpack::are_tabs` meets its contract. The loop: the tab stops from i on decide.
 use mathlib.Core.Path.{_≡_, sym, _∙_}
 use Prim.Native.Nat.{_≤_, _<_, _-_}
 use native.Mathlib.Omega.{arith}
@@ -18,39 +17,35 @@ Inv-loop tabs i₀ i = (i ≤ 80) × (allBelow 2 tabs ≡ allBelow 2 (drop i tab
 abbrev μ-loop : tie.MeasureT-loop
 μ-loop tabs i₀ i = 80 - i
 
-returns : tie.Need-returns Inv-loop μ-loop
-unfolding allBelow
-returns c =
-    let x = c .before .before .loop in
-    let tabs = c .before .before .before .args .t1 in
-    let h : x .i < length tabs = search needs in
-    sym (x .inv .1 ∙ rw (drop-cons tabs (x .i) 0 h, le-ltb _ _ (c .if1 .taken)))
-
-loop-again : tie.Need-loop-again Inv-loop μ-loop
-unfolding allBelow
-loop-again c =
-    let x = c .before .before .loop in
-    let tabs = c .before .before .before .args .t1 in
-    let h : x .i < length tabs = search needs in
-    (omega arith, x .inv .1 ∙ rw (drop-cons tabs (x .i) 0 h, lt-ltb _ _ (c .if1 .left), add-one))
-
-returns-2 : tie.Need-returns-2 Inv-loop μ-loop
-unfolding allBelow
-returns-2 c =
-    let x = c .before .loop in
-    let i : length (c .before .before .args .t1) ≡ x .i = search needs in
-    sym (x .inv .1 ∙ rw (← i, drop-length))
-
 pub are-tabs-spec : {M : Type 1} → statement M
+unfolding allBelow
 are-tabs-spec =
     tie.close
     (tie.spec
     Inv-loop
     μ-loop
+    -- loop-holds
     (λ c. search needs)
+    -- array-read-if1
     (λ c. search needs)
-    returns
+    -- returns
+    (λ c.
+    let x = c .before .before .loop in
+    let tabs = c .before .before .before .args .t1 in
+    let h : x .i < length tabs = search needs in
+    sym (x .inv .1 ∙ rw (drop-cons tabs (x .i) 0 h, le-ltb _ _ (c .if1 .taken))))
+    -- add-i
     (λ c. search needs)
+    -- loop-less
     (λ c. search needs)
-    loop-again
-    returns-2)
+    -- loop-again
+    (λ c.
+    let x = c .before .before .loop in
+    let tabs = c .before .before .before .args .t1 in
+    let h : x .i < length tabs = search needs in
+    (omega arith, x .inv .1 ∙ rw (drop-cons tabs (x .i) 0 h, lt-ltb _ _ (c .if1 .left), add-one)))
+    -- returns-2
+    (λ c.
+    let x = c .before .loop in
+    let i : length (c .before .before .args .t1) ≡ x .i = search needs in
+    sym (x .inv .1 ∙ rw (← i, drop-length))))

@@ -1,5 +1,4 @@
--- `is_named` meets its contract.
--- Assumes nothing.
+-- `wy50::unpack::is_named` meets its contract.
 use mathlib.Core.Path.{_∙_}
 use Rattle.wy50.specs.Raw.{named}
 use borrow.Author.Needs.{needs}
@@ -11,10 +10,22 @@ unfolding named
 is-named-spec =
     tie.close
     (tie.spec
+    -- is-sequence-requires
     (λ c κs. search needs)
+    -- are-tabs-requires
     (λ c κs. search needs)
+    -- and-requires
     (λ c κs. search needs)
+    -- are-flags-requires
     (λ c κs. search needs)
+    -- and-requires-2
     (λ c κs. search needs)
+    -- and-requires-3
     (λ c κs. search needs)
-    (λ c. c .and3 .ensures ∙ rw (c .before .and2 .ensures, c .before .before .before .before .and .ensures, c .before .before .before .are-flags .ensures, c .before .before .before .before .before .are-tabs .ensures, c .before .before .before .before .before .before .is-sequence .ensures)))
+    -- returns
+    (λ c.
+    let flags = c .before .before .before in
+    let rest = flags .before in
+    c .and3 .ensures
+    ∙ rw (c .before .and2 .ensures, rest .and .ensures, flags .are-flags .ensures)
+    (rw (rest .before .are-tabs .ensures, rest .before .before .is-sequence .ensures))))

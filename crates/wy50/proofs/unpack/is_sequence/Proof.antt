@@ -1,5 +1,4 @@
--- `is_sequence` meets its contract.
--- Assumes nothing.
+-- `wy50::unpack::is_sequence` meets its contract.
 use mathlib.Core.Path.{_∙_}
 use Rattle.wy50.specs.Raw.{isSequence}
 use borrow.Author.Needs.{needs}
@@ -11,7 +10,11 @@ unfolding isSequence
 is-sequence-spec =
     tie.close
     (tie.spec
+    -- pending-of-requires
     (λ c κs. search needs)
+    -- sequence-of-requires
     (λ c κs. search needs)
+    -- same-sequence-requires
     (λ c κs. search needs)
+    -- returns
     (λ c. c .same-sequence .ensures ∙ rw (c .before .sequence-of .ensures, c .before .before .pending-of .ensures)))

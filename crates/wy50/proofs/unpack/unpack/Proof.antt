@@ -1,6 +1,4 @@
--- `unpack` meets its contract.
--- Assumes nothing.
-use Prim.Native.Nat.{_<_}
+-- `wy50::unpack::unpack` meets its contract.
 use Rattle.wy50.specs.Raw.{unpacked}
 use Rattle.wy50.proofs.Calls.{named-bells}
 use borrow.Author.Needs.{needs}
@@ -12,10 +10,22 @@ unfolding unpacked
 unpack-spec =
     tie.close
     (tie.spec
+    -- modes-of-requires
     (λ c κs. search needs)
-    (λ c. let h : c .before .before .before .before .before .before .before .before .before .before .args .x .bells < 256 = named-bells (c .before .before .before .before .before .before .before .before .before .before .args .x) (c .before .before .before .before .before .before .before .before .before .before .pre) in search needs)
+    -- cast-t12
+    (λ c.
+    let start = c .before .before .before .before .before .before .before .before .before .before in
+    record { fits = named-bells (start .args .x) (start .pre) })
+    -- pending-of-requires
     (λ c κs. search needs)
+    -- key-of-requires
     (λ c κs. search needs)
+    -- tabs-of-requires
     (λ c κs. search needs)
+    -- keys-of-requires
     (λ c κs. search needs)
-    (λ c. rw (c .keys-of .ensures, c .before .tabs-of .ensures, c .before .before .key-of .ensures, c .before .before .before .pending-of .ensures, c .before .before .before .before .before .modes-of .ensures)))
+    -- returns
+    (λ c.
+    let k = c .before .before in
+    let q = k .before in
+    rw (c .keys-of .ensures, c .before .tabs-of .ensures, k .key-of .ensures, q .pending-of .ensures, q .before .before .modes-of .ensures)))
