@@ -1,7 +1,7 @@
 -- What a byte gives: its promise, by the effect.
 --     quiet-carried     a byte that writes and replies nothing
 --     below, above      the effect of a byte, by what it comes to
---     quietly, loudly   the promise of a byte below 80h: one that writes and replies nothing, and a command
+--     decoded, quietly  the promise of a byte below 80h, by what it decodes to; where it writes and replies nothing
 --     refused           that of any other byte
 --     plan-good, plan-carried     a plan that is that of a command: it is good, and what carrying it out gives
 -- Assumes nothing.
@@ -65,7 +65,7 @@ module _ (p : List ℕ) (c : Core) (tabs : List Bool) (b room : ℕ) where
 
 -- ---- the promise
 
--- a result that keeps it on every page and room, where the byte comes to e
+-- r keeps the promise on every page and room: the answer a, the core e, the change x, and nothing written or replied
 abbrev Quiet : ℕ → Core → SetupChange → CoreResult → Type 0
 Quiet a e x r = (p w : List ℕ) → Carried (effect a e x p []) r p w w
 
@@ -74,12 +74,12 @@ module _ (p : List ℕ) (c : Core) (tabs : List Bool) (b : ℕ) (w : List ℕ) {
   refused h q = carried-is (above p c tabs b (length w) h) (q p w)
 
   module _ (h : b < 128) {d d′ : Decoded} (i : d ≡ decodeRule (c .pending) (c .gathered .len) b) (j : d ≡ d′) where
-    pub loudly : {p′ w′ : List ℕ} → Carried (obeyedAlone p c tabs d′ (length w)) r p′ w w′ → Carried (innerAlone p c tabs b (length w)) r p′ w w′
-    loudly k = carried-is (below p c tabs b (length w) h i j) k
+    pub decoded : {p′ w′ : List ℕ} → Carried (obeyedAlone p c tabs d′ (length w)) r p′ w w′ → Carried (innerAlone p c tabs b (length w)) r p′ w w′
+    decoded k = carried-is (below p c tabs b (length w) h i j) k
 
     pub quietly : {a : ℕ} {e e′ : Core} {x : SetupChange} → obeyedAlone p c tabs d′ (length w) ≡ effect a e′ x p [] → e ≡ e′ → Quiet a e x r
         → Carried (innerAlone p c tabs b (length w)) r p w w
-    quietly {a} {x = x} o e q = loudly (carried-is (o ∙ ap (λ (y : Core). effect a y x p []) (sym e)) (q p w))
+    quietly {a} {x = x} o e q = decoded (carried-is (o ∙ ap (λ (y : Core). effect a y x p []) (sym e)) (q p w))
 
 -- ---- a command
 

@@ -1,10 +1,11 @@
 -- The loop over host bytes: what holds at its head, and what a turn does.
 --     step-made     the step of the rules, by the inner step
---     tail-lent, tail-none, tail-back, tail-size     the rest of the room, as it is lent and when it is back
+--     nothing-made     a change of nothing, as the keys judge it
+--     tail-lent, tail-none, tail-back     the rest of the room, as it is lent and when it is back
 --     begin, stop, go, finish     the loop's start, a byte that answers 6, any other byte, the end of the input
 --     ready     what the loop hands to the inner step meets what that asks
 --     page-size, room-size, back-size     the page and the room keep their lengths
---     more-replied, more-refused     the counts stay below the lengths of the room and of the input
+--     more-replied, more-refused     the counts stay within the lengths of the room and of the input
 -- Assumes nothing.
 use mathlib.Core.Path.{_≡_, refl, sym, ap, ap₂, subst, subst₂, _∙_}
 use mathlib.Core.Bool.{Bool, true, false, false≢true}
@@ -82,7 +83,7 @@ nothing-made (SetupChange.Attribute i a) k u n e = absurd (false≢true e)
 nothing-made (SetupChange.Feature i f) k u n e = absurd (false≢true e)
 nothing-made (SetupChange.Key i) k u n e = absurd (false≢true e)
 
-pub refusal-one : (n : ℕ) → refusal n ≤ 1
+refusal-one : (n : ℕ) → refusal n ≤ 1
 refusal-one n = pick-if (λ (k : ℕ). k ≤ 1) (among 1 5 n) (λ e. omega arith) (λ e. omega arith)
 
 -- the last answer after a byte that does not answer 6
@@ -119,7 +120,7 @@ pub tail-back : (n : ℕ) (w part : List ℕ) → backTail n w part ≡ take n w
 tail-back n w part =
     ap (λ (l : List ℕ). take n w ++ (part ++ l)) (drop-of-length-le (drop n w) (tail-rest n w)) ∙ ap (λ (l : List ℕ). take n w ++ l) (append-nil part)
 
-pub tail-size : (n : ℕ) (w part : List ℕ) → n ≤ length w → length part ≡ length (lentTail n w) → length (backTail n w part) ≡ length w
+tail-size : (n : ℕ) (w part : List ℕ) → n ≤ length w → length part ≡ length (lentTail n w) → length (backTail n w part) ≡ length w
 tail-size n w part h e =
     ap length (tail-back n w part) ∙ length-append (take n w) part
     ∙ omega (arith, length-take-le n w h, length-drop n w, e ∙ ap length (tail-lent n w))
@@ -208,9 +209,9 @@ module _ {p₀ : List ℕ} {s₀ : State} {input w₀ p w : List ℕ} {c : Core}
   pub finish : {z : Ended} → length input ≤ i
       → z ≡ record { answer = Answer.Done; last = a; taken = i; replied = n; refused = f; core = c; setup = u } → Looped p₀ s₀ input w₀ z p w
   unfolding lastAnswer
-  finish h z =
+  finish h result =
       let e : drop i input ≡ [] = drop-of-length-le input h in
-      looped-is z (record {
+      looped-is result (record {
         run = ending Answer.Done [] e (run-done p s (length w₀ - n));
         last = sym (R .last ∙ ap (λ (l : List ℕ). lastAnswer l p s (length w₀ - n) (number a)) e);
       })
@@ -250,7 +251,7 @@ module _ {p₀ : List ℕ} {s₀ : State} {input w₀ p w : List ℕ} {c : Core}
         → z ≡ record { answer = Answer.NoRoom; last = r .answer; taken = i; replied = n; refused = f; core = c; setup = u }
         → Looped p₀ s₀ input w₀ z p′ w′
     unfolding lastAnswer
-    stop t z =
+    stop t result =
         let k = good-parts p s (R .fine) in
         let six : e .answer ≡ 6 = sym (S .answer) ∙ eqb-true _ _ t in
         let no : overfills (u .keys) (c .gathered) (e .change) ≡ false
@@ -261,7 +262,7 @@ module _ {p₀ : List ℕ} {s₀ : State} {input w₀ p w : List ℕ} {c : Core}
         let none : part ≡ drop n w =
         S .room ∙ ap (λ (x : List ℕ). over x (drop n w)) (sym (made .reply) ∙ l .reply) ∙ sym (over-none (drop n w)) in
         let room : w′ ≡ w = back ∙ ap (λ (x : List ℕ). take n w ++ x) none ∙ take-append-drop n w in
-        looped-is z (rw (page, room) (record {
+        looped-is result (rw (page, room) (record {
           run = ending Answer.NoRoom (b ∷ drop (suc i) input) cons (run-stop b (drop (suc i) input) p s (length w₀ - n) a6);
           last = eqb-true _ _ t ∙ sym (R .last ∙ rw (cons, a6));
         }))

@@ -21,7 +21,7 @@ Inv-loop page₀ input room₀ c₀ u₀ last₀ taken₀ replied₀ refused₀ 
 abbrev μ-loop : tie.MeasureT-loop
 μ-loop page₀ input room₀ c₀ u₀ last₀ taken₀ replied₀ refused₀ page room c u last taken replied refused = length input - taken
 
--- back from the call of the inner step: the core after the run of text, that run, the turn of the loop, the function's start
+-- ---- back from the call of the inner step: the core after the run of text, that run, the turn of the loop, the function's start
 
 abbrev Moved : Type 0
 Moved = tie.After-moved Inv-loop μ-loop

@@ -2,7 +2,7 @@
 use mathlib.Core.Path.{refl, ap, _∙_}
 use Rattle.rules.specs.State.{withGathered}
 use Rattle.terminal.specs.Inner.{obeyedAlone}
-use Rattle.terminal.proofs.Carrying.{refused, quietly, loudly}
+use Rattle.terminal.proofs.Carrying.{decoded, quietly, refused}
 use Rattle.terminal.proofs.Gathered.{gathered-short}
 use borrow.Author.Needs.{needs}
 use Rattle.terminal.proofs.inner.inner.Statement.{statement}
@@ -78,4 +78,4 @@ inner-spec =
     (λ c.
     let o = c .before .before .before .before in
     let k = o .before .before .before .before .before .before in
-    loudly _ _ _ _ _ (k .before .before .if1 .left) (k .decode .ensures) (o .before .before .before .before .d5 .given .1) (o .obey .ensures)))
+    decoded _ _ _ _ _ (k .before .before .if1 .left) (k .decode .ensures) (o .before .before .before .before .d5 .given .1) (o .obey .ensures)))
