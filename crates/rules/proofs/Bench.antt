@@ -13,5 +13,12 @@ use Rattle.rules.specs.Calls.{joined, repeated, runRule, keySends, press
 use Rattle.rules.specs.Bench.{same, replies, answers, holds, allHold, casesHold, host, label, table, BenchList}
 
 pub bench : BenchList
-unfolding same replies answers holds allHold casesHold host label table rowEnd marksBy others startsFrom firstIn lastIn around aroundBack within filled shiftLeft shiftRight editShifted rowsShifted columnFilled segmentTop segmentBottom cursorOf withCursor withMode changed keyBytes powerOn blank unsplitOk splitOk screenOk allBelow keyOk keysOk isAttribute attributesOk featurePlace featuresOk isKey pendingOk possible good lookup idleRule escapeRule judged attributeContents featureRule fieldRule splitRule digitRule decimalRowRule decimalColumnRule keyValueRule keyTextRule keyOverRule decodeRule unlessGuarded scrolls nextCell atTop upCell reversePlan downPlan tabCell backTabCell addressPlan movePlan activate isSegment windowPlan storing advancing storePlan rowEditPlan editPlan clearPlan settingPlan sendPlan excludedPlan planRule applied separator openCell textFrom replied landed done carried overfull programmed obeyed innerRule stepRule joined repeated runRule keySends pressRule ofStep ofRun ofPress callRule after play
+unfolding same replies answers holds allHold casesHold host label table rowEnd marksBy others startsFrom firstIn lastIn around aroundBack
+    within filled shiftLeft shiftRight editShifted rowsShifted columnFilled segmentTop segmentBottom cursorOf withCursor withMode changed
+    keyBytes powerOn blank unsplitOk splitOk screenOk allBelow keyOk keysOk isAttribute attributesOk featurePlace featuresOk isKey pendingOk
+    possible good lookup idleRule escapeRule judged attributeContents featureRule fieldRule splitRule digitRule decimalRowRule
+    decimalColumnRule keyValueRule keyTextRule keyOverRule decodeRule unlessGuarded scrolls nextCell atTop upCell reversePlan downPlan
+    tabCell backTabCell addressPlan movePlan activate isSegment windowPlan storing advancing storePlan rowEditPlan editPlan clearPlan
+    settingPlan sendPlan excludedPlan planRule applied separator openCell textFrom replied landed done carried overfull programmed obeyed
+    innerRule stepRule joined repeated runRule keySends pressRule ofStep ofRun ofPress callRule after play
 bench = refl

@@ -14,5 +14,13 @@ use Rattle.rules.specs.Bench.{same, replies, answers, holds, allHold, ca
 use Rattle.rules.specs.Cases.{esc, goTo, labelled, obeys, refuses, threeLetters, writingCases, movingCases, replyCases, CaseList}
 
 pub cases : CaseList
-unfolding same replies answers holds allHold casesHold host esc goTo labelled obeys refuses threeLetters writingCases movingCases replyCases rowEnd marksBy others startsFrom firstIn lastIn around aroundBack within filled shiftLeft shiftRight editShifted rowsShifted columnFilled segmentTop segmentBottom cursorOf withCursor withMode changed keyBytes powerOn blank unsplitOk splitOk screenOk allBelow keyOk keysOk isAttribute attributesOk featurePlace featuresOk isKey pendingOk possible good lookup idleRule escapeRule judged attributeContents featureRule fieldRule splitRule digitRule decimalRowRule decimalColumnRule keyValueRule keyTextRule keyOverRule decodeRule unlessGuarded scrolls nextCell atTop upCell reversePlan downPlan tabCell backTabCell addressPlan movePlan activate isSegment windowPlan storing advancing storePlan rowEditPlan editPlan clearPlan settingPlan sendPlan excludedPlan planRule applied separator openCell textFrom replied landed done carried overfull programmed obeyed innerRule stepRule joined repeated runRule keySends pressRule ofStep ofRun ofPress callRule after play
+unfolding same replies answers holds allHold casesHold host esc goTo labelled obeys refuses threeLetters writingCases movingCases replyCases
+    rowEnd marksBy others startsFrom firstIn lastIn around aroundBack within filled shiftLeft shiftRight editShifted rowsShifted
+    columnFilled segmentTop segmentBottom cursorOf withCursor withMode changed keyBytes powerOn blank unsplitOk splitOk screenOk allBelow
+    keyOk keysOk isAttribute attributesOk featurePlace featuresOk isKey pendingOk possible good lookup idleRule escapeRule judged
+    attributeContents featureRule fieldRule splitRule digitRule decimalRowRule decimalColumnRule keyValueRule keyTextRule keyOverRule
+    decodeRule unlessGuarded scrolls nextCell atTop upCell reversePlan downPlan tabCell backTabCell addressPlan movePlan activate isSegment
+    windowPlan storing advancing storePlan rowEditPlan editPlan clearPlan settingPlan sendPlan excludedPlan planRule applied separator
+    openCell textFrom replied landed done carried overfull programmed obeyed innerRule stepRule joined repeated runRule keySends pressRule
+    ofStep ofRun ofPress callRule after play
 cases = refl
