@@ -80,8 +80,7 @@ fn row(workload: &Workload) -> Result<Row, String> {
         return Err(format!("{name}: {difference}"));
     }
     let page = peers::independent(&stream.wy50);
-    let has_floor = name == "text";
-    if has_floor && peers::floor(&stream.wy50) != page {
+    if workload.plain && peers::floor(&stream.wy50) != page {
         return Err(format!("{name}: the floor's page differs"));
     }
     if workload.translated && shown(&peers::libvterm(&stream.ansi)) != shown(&page) {
@@ -94,11 +93,11 @@ fn row(workload: &Workload) -> Result<Row, String> {
         if workload.translated {
             libvterm = libvterm.min(timed(&stream.ansi, peers::libvterm).0);
         }
-        if has_floor {
+        if workload.plain {
             floor = floor.min(timed(&stream.wy50, peers::floor).0);
         }
     }
-    Ok(Row { name, proved, independent, libvterm: workload.translated.then_some(libvterm), floor: has_floor.then_some(floor) })
+    Ok(Row { name, proved, independent, libvterm: workload.translated.then_some(libvterm), floor: workload.plain.then_some(floor) })
 }
 
 fn timed(stream: &[u8], play: fn(&[u8]) -> Page) -> (f64, Page) {

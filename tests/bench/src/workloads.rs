@@ -12,18 +12,22 @@ pub struct Stream {
 pub struct Workload {
     pub name: &'static str,
     pub what: &'static str,
+    /// libvterm has it.
     pub translated: bool,
+    /// It is plain text, which the floor has.
+    pub plain: bool,
     start: fn(&mut Writer),
     round: fn(&mut Writer),
 }
 
 pub const WORKLOADS: [Workload; 4] = [
-    Workload { name: "text", what: "lines of 20 to 79 characters, which scroll", translated: true, start: nothing, round: line },
-    Workload { name: "addressed", what: "ESC = and 4 to 40 characters", translated: true, start: nothing, round: addressed },
+    Workload { name: "text", what: "lines of 20 to 79 characters, which scroll", translated: true, plain: true, start: nothing, round: line },
+    Workload { name: "addressed", what: "ESC = and 4 to 40 characters", translated: true, plain: false, start: nothing, round: addressed },
     Workload {
         name: "form",
         what: "a protected form with 16 fields of 24 cells: each filled with 4 to 22 characters and left by 09h, all asked with ESC 5",
         translated: false,
+        plain: false,
         start: draw_form,
         round: fill_form,
     },
@@ -31,6 +35,7 @@ pub const WORKLOADS: [Workload; 4] = [
         name: "edits",
         what: "ESC =, then an edit (ESC Q W E R), a clear (ESC T Y t y ; :), a split (ESC x) or the other segment (ESC J), and 4 to 20 characters",
         translated: false,
+        plain: false,
         start: nothing,
         round: edit,
     },
