@@ -1,8 +1,6 @@
 -- What a byte gives: its promise, by the effect.
---     quiet-carried     a byte that writes and replies nothing
 --     below, above      the effect of a byte, by what it comes to
---     decoded, quietly  the promise of a byte below 80h, by what it decodes to; where it writes and replies nothing
---     refused           that of any other byte
+--     quiet-carried, quietly     a byte that writes and replies nothing
 --     plan-good, plan-carried     a plan that is that of a command: it is good, and what carrying it out gives
 -- Assumes nothing.
 use mathlib.Core.Path.{_≡_, refl, sym, ap, subst, _∙_}
@@ -19,7 +17,6 @@ use Rattle.rules.specs.declared.CoreResult.{CoreResult}
 use Rattle.rules.specs.declared.Decoded.{Decoded}
 use Rattle.rules.specs.declared.Plan.{Plan}
 use Rattle.rules.specs.declared.SetupChange.{SetupChange}
-use Rattle.rules.specs.declared.SetupChange.the-variants as SetupChange
 use Rattle.rules.specs.Row.{pageLength}
 use Rattle.rules.specs.Search.{guardedAt}
 use Rattle.rules.specs.State.{number}
@@ -27,7 +24,7 @@ use Rattle.rules.specs.Possible.{screenOk}
 use Rattle.rules.specs.Good.{GoodPlan}
 use Rattle.rules.specs.Decode.{decodeRule}
 use Rattle.rules.specs.Plan.{planRule}
-use Rattle.rules.specs.Carry.{effect, quiet, carried}
+use Rattle.rules.specs.Carry.{Effect, effect, quiet, carried}
 use Rattle.rules.specs.Room.{over}
 use Rattle.rules.proofs.Marks.{length-guards}
 use Rattle.rules.proofs.Good.{good-plan}
@@ -63,23 +60,10 @@ module _ (p : List ℕ) (c : Core) (tabs : List Bool) (b room : ℕ) where
   unfolding innerAlone
   above h = rw (le-ltb b 128 h)
 
--- ---- the promise
-
--- r keeps the promise on every page and room: the answer a, the core e, the change x, and nothing written or replied
-abbrev Quiet : ℕ → Core → SetupChange → CoreResult → Type 0
-Quiet a e x r = (p w : List ℕ) → Carried (effect a e x p []) r p w w
-
-module _ (p : List ℕ) (c : Core) (tabs : List Bool) (b : ℕ) (w : List ℕ) {r : CoreResult} where
-  pub refused : 128 ≤ b → Quiet 1 c SetupChange.Nothing r → Carried (innerAlone p c tabs b (length w)) r p w w
-  refused h q = carried-is (above p c tabs b (length w) h) (q p w)
-
-  module _ (h : b < 128) {d d′ : Decoded} (i : d ≡ decodeRule (c .pending) (c .gathered .len) b) (j : d ≡ d′) where
-    pub decoded : {p′ w′ : List ℕ} → Carried (obeyedAlone p c tabs d′ (length w)) r p′ w w′ → Carried (innerAlone p c tabs b (length w)) r p′ w w′
-    decoded k = carried-is (below p c tabs b (length w) h i j) k
-
-    pub quietly : {a : ℕ} {e e′ : Core} {x : SetupChange} → obeyedAlone p c tabs d′ (length w) ≡ effect a e′ x p [] → e ≡ e′ → Quiet a e x r
-        → Carried (innerAlone p c tabs b (length w)) r p w w
-    quietly {a} {x = x} o e q = decoded (carried-is (o ∙ ap (λ (y : Core). effect a y x p []) (sym e)) (q p w))
+-- a byte whose effect is o; e is the core that the code made of the one before
+pub quietly : {o : Effect} {a : ℕ} {e e′ : Core} {x : SetupChange} {p w : List ℕ} {r : CoreResult} → o ≡ effect a e′ x p [] → e ≡ e′
+    → ((p w : List ℕ) → Carried (effect a e x p []) r p w w) → Carried o r p w w
+quietly {a = a} {x = x} {p = p} {w = w} h e q = carried-is (h ∙ ap (λ (y : Core). effect a y x p []) (sym e)) (q p w)
 
 -- ---- a command
 
