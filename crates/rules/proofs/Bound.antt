@@ -99,7 +99,12 @@ module _ (p : List ℕ) (c : Core) (n : length p ≡ pageLength) (h : PossibleCo
       let most = replied-bound (c .modes .protect) p (x .reply) (k .good .text) in
       pick-if (Bounded room) (leb (length (replied (c .modes .protect) p (x .reply))) room)
       (λ e. record { fits = leb-true (length (replied (c .modes .protect) p (x .reply))) room e; bound = most; taken = λ r. k .answer })
-      (λ e. record { fits = omega arith; bound = omega arith; taken = λ r. absurd (omega (arith, leb-false (length (replied (c .modes .protect) p (x .reply))) room e)) })
+      (λ e. record {
+        fits = omega arith;
+        bound = omega arith;
+        taken = λ r. absurd
+            (omega (arith, leb-false (length (replied (c .modes .protect) p (x .reply))) room e));
+      })
 
   obeyed-bounded : (u : Setup) (d : Decoded) (room : ℕ) → decodedOk (c .pending) (c .gathered) d ≡ true → Bounded room (obeyed p c u d room)
   unfolding obeyed decodedOk programmed
@@ -114,7 +119,8 @@ module _ (p : List ℕ) (c : Core) (n : length p ≡ pageLength) (h : PossibleCo
   unfolding innerRule
   inner-bounded u b room =
       pick-if (Bounded room) (ltb b 128)
-      (λ e. obeyed-bounded u (decodeRule (c .pending) (c .gathered .len) b) room (decoded-ok (c .pending) (c .gathered) b (ltb-true b 128 e) (h .pending)))
+      (λ e. obeyed-bounded u (decodeRule (c .pending) (c .gathered .len) b) room
+      (decoded-ok (c .pending) (c .gathered) b (ltb-true b 128 e) (h .pending)))
       (λ e. silent refl refl)
 
 -- ---- the calls
@@ -137,7 +143,8 @@ module _ (p : List ℕ) (s : State) (b room : ℕ) where
   unfolding stepRule
   step-taken g h = rw g (step-bounded p s b room g .taken h)
 
-pub run-takes : (p : List ℕ) (s : State) (bytes : List ℕ) (room : ℕ) → good p s ≡ true → 1944 ≤ room → 0 < length bytes → 0 < runRule p s bytes room .taken
+pub run-takes : (p : List ℕ) (s : State) (bytes : List ℕ) (room : ℕ) → good p s ≡ true → 1944 ≤ room → 0 < length bytes
+    → 0 < runRule p s bytes room .taken
 unfolding runRule repeated joined
 run-takes p s [] room g h n = absurd (omega arith)
 run-takes p s (b ∷ bytes) room g h n = rw (g, step-taken p s b room g h) (omega arith)

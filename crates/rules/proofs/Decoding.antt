@@ -39,7 +39,8 @@ unfoldable entriesOk : (Decoded → Bool) → List (ℕ × Decoded) → Bool
 entriesOk f [] = true
 entriesOk f (r ∷ t) = both (f (r .1)) (entriesOk f t)
 
-looked-up : (f : Decoded → Bool) (t : List (ℕ × Decoded)) (other : Decoded) (b : ℕ) → entriesOk f t ≡ true → f other ≡ true → f (lookup t other b) ≡ true
+looked-up : (f : Decoded → Bool) (t : List (ℕ × Decoded)) (other : Decoded) (b : ℕ) → entriesOk f t ≡ true → f other ≡ true
+    → f (lookup t other b) ≡ true
 unfolding entriesOk lookup
 looked-up f [] other b e h = h
 looked-up f (r ∷ t) other b e h =
@@ -96,7 +97,8 @@ module _ (q : Pending) (k : Key) where
   split-ok b =
       pick-if (Ok q k) (eqb b 0x30) (λ e. refl) (λ e. pick-if (Ok q k) (eqb b 0x31) (λ z. refl) (λ z. refl))
 
-  digit-ok : (most n b : ℕ) (next : Pending) → (n < most → b - 0x30 < 10 → pendingOk next noKey ≡ true) → decodedOk q k (digitRule most n b next) ≡ true
+  digit-ok : (most n b : ℕ) (next : Pending) → (n < most → b - 0x30 < 10 → pendingOk next noKey ≡ true)
+      → decodedOk q k (digitRule most n b next) ≡ true
   unfolding digitRule decodedOk
   digit-ok most n b next h =
       pick-if (Ok q k) (both (among 0x30 10 b) (ltb n most)) (λ e.
@@ -114,13 +116,15 @@ module _ (q : Pending) (k : Key) where
       pick-if (Ok q k) (both (eqb b 0x52) (ltb 0 n)) (λ e. both-true (lt-ltb row 100 (omega arith)) refl)
       (λ e. digit-ok 2 n b _ (λ i j. both-true (le-leb (n + 1) 2 (omega arith)) (digit-more n row (b - 0x30) m j)))
 
-  decimal-column-ok : (row n column b : ℕ) → pendingOk (Pending.DecimalColumn row n column) k ≡ true → decodedOk q k (decimalColumnRule row n column b) ≡ true
+  decimal-column-ok : (row n column b : ℕ) → pendingOk (Pending.DecimalColumn row n column) k ≡ true
+      → decodedOk q k (decimalColumnRule row n column b) ≡ true
   unfolding decimalColumnRule decodedOk pendingOk commandOk
   decimal-column-ok row n column b h =
       let p = both-parts (ltb row 100) _ h in
       let r = both-parts (leb n 3) (ltb column (10 ^ n)) (p .1) in
       pick-if (Ok q k) (both (eqb b 0x43) (ltb 0 n)) (λ e. refl)
-      (λ e. digit-ok 3 n b _ (λ i j. both-true (p .0) (both-true (le-leb (n + 1) 3 (omega arith)) (digit-more n column (b - 0x30) (ltb-true column (10 ^ n) (r .1)) j))))
+      (λ e. digit-ok 3 n b _ (λ i j. both-true (p .0) (both-true (le-leb (n + 1) 3 (omega arith))
+      (digit-more n column (b - 0x30) (ltb-true column (10 ^ n) (r .1)) j))))
 
   key-value-ok : (v : ℕ) → decodedOk q k (keyValueRule v) ≡ true
   unfolding keyValueRule decodedOk pendingOk keyOk allBelow
@@ -141,12 +145,14 @@ key-place-below v h = by (among 0x40 16 v) refl h
     by true z e = place (omega (arith, among-parts 0x40 16 v z))
     by false z e = place (omega (arith, among-parts 0x60 16 v e))
 
-key-text-ok : (v : ℕ) (k : Key) (b : ℕ) → b < 128 → pendingOk (Pending.KeyText v) k ≡ true → decodedOk (Pending.KeyText v) k (keyTextRule v (k .len) b) ≡ true
+key-text-ok : (v : ℕ) (k : Key) (b : ℕ) → b < 128 → pendingOk (Pending.KeyText v) k ≡ true
+    → decodedOk (Pending.KeyText v) k (keyTextRule v (k .len) b) ≡ true
 unfolding keyTextRule decodedOk pendingOk
 key-text-ok v k b h e =
     let r = both-parts (isKey v) (keyOk k) e in
     pick-if (Ok (Pending.KeyText v) k) (eqb b 0x7f) (λ z. both-true (lt-ltb (keyPlace v) 32 (key-place-below v (r .0))) (r .1))
-    (λ z. pick-if (Ok (Pending.KeyText v) k) (ltb (k .len) 8) (λ n. both-true (r .0) (key-grown k b (r .1) (ltb-true (k .len) 8 n) (omega (arith, eqb-false b 0x7f z)))) (λ n. r .0))
+    (λ z. pick-if (Ok (Pending.KeyText v) k) (ltb (k .len) 8)
+    (λ n. both-true (r .0) (key-grown k b (r .1) (ltb-true (k .len) 8 n) (omega (arith, eqb-false b 0x7f z)))) (λ n. r .0))
 
 pub decoded-ok : (q : Pending) (k : Key) (b : ℕ) → b < 128 → pendingOk q k ≡ true → decodedOk q k (decodeRule q (k .len) b) ≡ true
 unfolding decodeRule decodedOk pendingOk commandOk

@@ -100,21 +100,45 @@ module _ {t : Bool} {c n : Core} (h : Next c n) where
   kept-refusing : (a : Answer) → eqb (number a) 6 ≡ false → PlanKept t c (refusing n a)
   unfolding changeOk
   kept-refusing a e =
-      record { good = record { one = tt; two = tt; text = tt; screen = h .screen; place = tt }; idle = h .idle; bells = h .bells; change = λ u k. refl; answer = e }
+      record {
+        good = record { one = tt; two = tt; text = tt; screen = h .screen; place = tt };
+        idle = h .idle;
+        bells = h .bells;
+        change = λ u k. refl;
+        answer = e;
+      }
 
   kept-writing : {w v : Write} {l : Land} → GoodWrite w → GoodWrite v → GoodLand (n .screen) l → PlanKept t c (writingTwo n w v l)
   unfolding changeOk
   kept-writing a b d =
-      record { good = record { one = a; two = b; text = tt; screen = h .screen; place = d }; idle = h .idle; bells = h .bells; change = λ u k. refl; answer = refl }
+      record {
+        good = record { one = a; two = b; text = tt; screen = h .screen; place = d };
+        idle = h .idle;
+        bells = h .bells;
+        change = λ u k. refl;
+        answer = refl;
+      }
 
   kept-replying : {r : Reply} → GoodReply r → PlanKept t c (replying n r)
   unfolding changeOk
   kept-replying a =
-      record { good = record { one = tt; two = tt; text = a; screen = h .screen; place = tt }; idle = h .idle; bells = h .bells; change = λ u k. refl; answer = refl }
+      record {
+        good = record { one = tt; two = tt; text = a; screen = h .screen; place = tt };
+        idle = h .idle;
+        bells = h .bells;
+        change = λ u k. refl;
+        answer = refl;
+      }
 
   kept-changing : {x : SetupChange} → (t ≡ true → (k : Key) → changeOk k x ≡ true) → PlanKept t c (changing n x)
   kept-changing f =
-      record { good = record { one = tt; two = tt; text = tt; screen = h .screen; place = tt }; idle = h .idle; bells = h .bells; change = f; answer = refl }
+      record {
+        good = record { one = tt; two = tt; text = tt; screen = h .screen; place = tt };
+        idle = h .idle;
+        bells = h .bells;
+        change = f;
+        answer = refl;
+      }
 
 -- ---- the commands
 
@@ -185,7 +209,8 @@ module _ (c : Core) (ok : screenOk (c .screen) ≡ true) (i : Inside (c .screen)
     kept-move g tabs n Move.Tab =
         kept-settling (pick-if (In (c .screen)) (c .modes .protect) (λ e. in-next-field (c .screen) i g n) (λ e. in-next-tab (c .screen) i tabs))
     kept-move g tabs n Move.BackTab =
-        kept-settling (pick-if (In (c .screen)) (c .modes .protect) (λ e. in-previous-field (c .screen) i g n) (λ e. in-previous-tab (c .screen) i tabs))
+        kept-settling (pick-if (In (c .screen)) (c .modes .protect) (λ e. in-previous-field (c .screen) i g n)
+        (λ e. in-previous-tab (c .screen) i tabs))
     kept-move g tabs n (Move.Address r k) = kept-address (c .screen) 0x20 r k ok
     kept-move g tabs n (Move.Decimal r k) = kept-address (c .screen) 1 r k ok
 
@@ -198,7 +223,8 @@ module _ (c : Core) (ok : screenOk (c .screen) ≡ true) (i : Inside (c .screen)
 
     kept-window : (x : Window) → PlanKept t c (windowPlan c x)
     unfolding windowPlan cursorOf
-    kept-window Window.Unsplit = kept-writing (on-screen unsplitScreen unsplit-screen) tt tt (omega (arith, screen-inside unsplitScreen unsplit-screen))
+    kept-window Window.Unsplit = kept-writing (on-screen unsplitScreen unsplit-screen) tt tt
+        (omega (arith, screen-inside unsplitScreen unsplit-screen))
     kept-window (Window.Split r) =
         kept-pick (among 0x21 23 r)
         (λ e.

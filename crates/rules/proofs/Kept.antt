@@ -76,7 +76,8 @@ possible-parts s h =
 pub possible-whole : (s : State) → PossibleCore (s .core) → PossibleSetup (s .setup) → possible s ≡ true
 unfolding possible
 possible-whole s c u =
-    both-true (c .screen) (both-true (u .keys) (both-true (u .attributes) (both-true (u .features) (both-true (lt-ltb (s .core .bells) 256 (c .bells)) (c .pending)))))
+    both-true (c .screen) (both-true (u .keys) (both-true (u .attributes)
+    (both-true (u .features) (both-true (lt-ltb (s .core .bells) 256 (c .bells)) (c .pending)))))
 
 -- ---- the set-up after a change that fits it
 
@@ -103,15 +104,24 @@ changed-kept SetupChange.Nothing k u e h = h
 changed-kept (SetupChange.Tab c b) k u e h = record { keys = h .keys; attributes = h .attributes; features = h .features }
 changed-kept SetupChange.ClearTabs k u e h = record { keys = h .keys; attributes = h .attributes; features = h .features }
 changed-kept (SetupChange.Attribute n a) k u e h =
-    record { keys = h .keys; attributes = attributes-set (u .attributes) n a (h .attributes) (both-parts (ltb n 4) (isAttribute a) e .1); features = h .features }
+    record {
+      keys = h .keys;
+      attributes = attributes-set (u .attributes) n a (h .attributes) (both-parts (ltb n 4) (isAttribute a) e .1);
+      features = h .features;
+    }
 changed-kept (SetupChange.Feature n f) k u e h =
     record {
       keys = h .keys;
       attributes = h .attributes;
-      features = features-set 0 (u .features) n f (h .features) (omega (arith, eqb-true (featurePlace f) n (both-parts (ltb n 5) (eqb (featurePlace f) n) e .1)));
+      features = features-set 0 (u .features) n f (h .features)
+          (omega (arith, eqb-true (featurePlace f) n (both-parts (ltb n 5) (eqb (featurePlace f) n) e .1)));
     }
 changed-kept (SetupChange.Key n) k u e h =
-    record { keys = keys-set (u .keys) n (keyOf (keyText k)) (h .keys) (key-copied k (both-parts (ltb n 32) (keyOk k) e .1)); attributes = h .attributes; features = h .features }
+    record {
+      keys = keys-set (u .keys) n (keyOf (keyText k)) (h .keys) (key-copied k (both-parts (ltb n 32) (keyOk k) e .1));
+      attributes = h .attributes;
+      features = h .features;
+    }
 
 -- ---- the inner step
 
@@ -148,7 +158,8 @@ module _ (p : List ℕ) (c : Core) (n : length p ≡ pageLength) (h : PossibleCo
       (λ e. let on = c .modes .protect in let q = pageAfter on x p in
       record {
         size = length-after on x p ∙ n;
-        core = landed-kept (guardedAt (x .next .modes .protect) q) (length-guards (x .next .modes .protect) q ∙ (length-after on x p ∙ n)) (x .land) (x .next) (next-kept k) (k .good .place);
+        core = landed-kept (guardedAt (x .next .modes .protect) q) (length-guards (x .next .modes .protect) q ∙ (length-after on x p ∙ n))
+            (x .land) (x .next) (next-kept k) (k .good .place);
         change = k .change good (c .gathered);
       })
       (λ e. record { size = n; core = h; change = refl })
@@ -167,7 +178,8 @@ module _ (p : List ℕ) (c : Core) (n : length p ≡ pageLength) (h : PossibleCo
   unfolding innerRule changeOk
   inner-kept u b room =
       pick-if (EffectKept (c .gathered)) (ltb b 128)
-      (λ e. obeyed-kept u (decodeRule (c .pending) (c .gathered .len) b) room (decoded-ok (c .pending) (c .gathered) b (ltb-true b 128 e) (h .pending)))
+      (λ e. obeyed-kept u (decodeRule (c .pending) (c .gathered .len) b) room
+      (decoded-ok (c .pending) (c .gathered) b (ltb-true b 128 e) (h .pending)))
       (λ e. record { size = n; core = h; change = refl })
 
   pub inner-setup : (u : Setup) (b room : ℕ) → PossibleSetup u → PossibleSetup (changed (innerRule p c u b room .change) (c .gathered) u)
@@ -209,7 +221,11 @@ step-keeps p s b room =
     let r = good-parts p s g in
     let w = possible-parts s (r .1) in
     let k = inner-kept p (s .core) (r .0) (w .core) (s .setup) b room in
-    record { size = k .size ∙ sym (r .0); state = λ h. possible-whole _ (k .core) (inner-setup p (s .core) (r .0) (w .core) (s .setup) b room (w .setup)) })
+    record {
+      size = k .size ∙ sym (r .0);
+      state = λ h. possible-whole _ (k .core)
+          (inner-setup p (s .core) (r .0) (w .core) (s .setup) b room (w .setup));
+    })
     (λ g. keeps-same)
 
 repeated-keeps : (bytes p : List ℕ) (s : State) (room : ℕ) → Keeps p s (repeated bytes p s room .page) (repeated bytes p s room .state)
@@ -217,7 +233,8 @@ unfolding repeated joined
 repeated-keeps [] p s room = keeps-same
 repeated-keeps (b ∷ bytes) p s room =
     pick-if (λ (r : Ran). Keeps p s (r .page) (r .state)) (eqb (stepRule p s b room .answer) 6) (λ e. keeps-same)
-    (λ e. keeps-then (step-keeps p s b room) (repeated-keeps bytes (stepRule p s b room .page) (stepRule p s b room .state) (room - length (stepRule p s b room .reply))))
+    (λ e. keeps-then (step-keeps p s b room) (repeated-keeps bytes (stepRule p s b room .page) (stepRule p s b room .state)
+    (room - length (stepRule p s b room .reply))))
 
 pub run-keeps : (p : List ℕ) (s : State) (bytes : List ℕ) (room : ℕ) → Keeps p s (runRule p s bytes room .page) (runRule p s bytes room .state)
 unfolding runRule
@@ -237,7 +254,8 @@ play-keeps (c ∷ calls) p s = keeps-then (call-keeps p s c) (play-keeps calls (
 pub step-good : (p : List ℕ) (s : State) (b room : ℕ) → good p s ≡ true → good (stepRule p s b room .page) (stepRule p s b room .state) ≡ true
 step-good p s b room h = keeps-good (step-keeps p s b room) h
 
-pub run-good : (p : List ℕ) (s : State) (bytes : List ℕ) (room : ℕ) → good p s ≡ true → good (runRule p s bytes room .page) (runRule p s bytes room .state) ≡ true
+pub run-good : (p : List ℕ) (s : State) (bytes : List ℕ) (room : ℕ) → good p s ≡ true
+    → good (runRule p s bytes room .page) (runRule p s bytes room .state) ≡ true
 run-good p s bytes room h = keeps-good (run-keeps p s bytes room) h
 
 pub call-good : (p : List ℕ) (s : State) (c : Call) → good p s ≡ true → good (callRule p s c .page) (callRule p s c .given .state) ≡ true

@@ -103,6 +103,7 @@ module _ (p : List ℕ) (s : State) where
     unfolding stepRule innerRule changed
     step-high h = rw (le-ltb b 128 h) (by (good p s))
       where
-        by : (t : Bool) → Unchanged (pick t 1 7) p s (pick t (outcomeOf s (quiet 1 (s .core) p)) (record { answer = 7; state = s; page = p; reply = [] }))
+        by : (t : Bool) → Unchanged (pick t 1 7) p s (pick t (outcomeOf s (quiet 1 (s .core) p))
+            (record { answer = 7; state = s; page = p; reply = [] }))
         by true = record { answer = refl; page = refl; state = refl; reply = refl }
         by false = record { answer = refl; page = refl; state = refl; reply = refl }

@@ -43,7 +43,8 @@ length-applied on (Write.Fill a e v) p = length-within a e (filled on v) (length
 length-applied on (Write.FillAll a e v) p = length-within a e (filled false v) (length-filled false v) p
 length-applied on (Write.Column top bottom c v) p = length-column width on v c (bottom - top) top p
 length-applied on (Write.Edit right at v) p = length-within at (editEnd width (guardedAt on p) at) (shifted right 1 v) (length-shifted right 1 v) p
-length-applied on (Write.Rows down top bottom) p = length-within (top * width) (bottom * width) (shifted down width 32) (length-shifted down width 32) p
+length-applied on (Write.Rows down top bottom) p = length-within
+    (top * width) (bottom * width) (shifted down width 32) (length-shifted down width 32) p
 
 pub length-after : (on : Bool) (x : Plan) (p : List ℕ) → length (pageAfter on x p) ≡ length p
 length-after on x p = length-applied on (x .second) (applied on (x .first) p) ∙ length-applied on (x .first) p

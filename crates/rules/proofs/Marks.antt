@@ -50,7 +50,8 @@ module _ (none : ℕ) (m : List Bool) (a e : ℕ) {b : Bool} (h : a < e) (k : e 
       let n : e ≡ suc (e - 1) = omega arith in
       let l : length (take (e - 1) m) ≡ e - 1 = length-take-le (e - 1) m (omega arith) in
       let cut : slice a e m ≡ slice a (e - 1) m ++ getD m (e - 1) false ∷ [] =
-      ap (λ (j : ℕ). slice a j m) n ∙ ap (drop a) (take-suc m (e - 1) false (omega arith)) ∙ drop-append-le a (take (e - 1) m) (getD m (e - 1) false ∷ []) (omega arith) in
+      ap (λ (j : ℕ). slice a j m) n ∙ ap (drop a) (take-suc m (e - 1) false (omega arith))
+      ∙ drop-append-le a (take (e - 1) m) (getD m (e - 1) false ∷ []) (omega arith) in
       let w : a + length (slice a (e - 1) m) ≡ e - 1 = omega (arith, length-slice a (e - 1) m (omega arith)) in
       ap (lastMark none a) cut ∙ last-snoc none a (slice a (e - 1) m) (getD m (e - 1) false) ∙ rw (w, ← s)
 
@@ -159,7 +160,8 @@ first-from at [] = omega arith
 first-from at (true ∷ m) = omega arith
 first-from at (false ∷ m) = let r = first-from (suc at) m in omega arith
 
-last-from : (none at lo hi : ℕ) (m : List Bool) → lo ≤ none → none ≤ hi → lo ≤ at → at + length m ≤ hi + 1 → (lo ≤ lastMark none at m) × (lastMark none at m ≤ hi)
+last-from : (none at lo hi : ℕ) (m : List Bool) → lo ≤ none → none ≤ hi → lo ≤ at → at + length m ≤ hi + 1 → (lo ≤ lastMark none at m)
+    × (lastMark none at m ≤ hi)
 last-from none at lo hi [] a b c d = omega arith
 last-from none at lo hi (true ∷ m) a b c d = last-from at (suc at) lo hi m (omega arith) (omega arith) (omega arith) (omega arith)
 last-from none at lo hi (false ∷ m) a b c d = last-from none (suc at) lo hi m (omega arith) (omega arith) (omega arith) (omega arith)
@@ -183,7 +185,8 @@ module _ (m : List Bool) where
     where
       picked : (s t : Bool) → (s ≡ true → firstIn m from end < end) → (t ≡ true → firstIn m first end < end)
           → (from ≤ firstIn m from end) × (firstIn m from end ≤ end) → (first ≤ firstIn m first end) × (firstIn m first end ≤ end)
-          → (first ≤ pick s (firstIn m from end) (pick t (firstIn m first end) first)) × (pick s (firstIn m from end) (pick t (firstIn m first end) first) < end)
+          → (first ≤ pick s (firstIn m from end) (pick t (firstIn m first end) first))
+          × (pick s (firstIn m from end) (pick t (firstIn m first end) first) < end)
       picked true t p q r o = let x = p refl in omega arith
       picked false true p q r o = let x = q refl in omega arith
       picked false false p q r o = omega arith
@@ -193,11 +196,14 @@ module _ (m : List Bool) where
   unfolding aroundBack
   back-range first end from h a b k =
       picked (ltb (lastIn end m first from) end) (ltb-true (lastIn end m first from) end)
-      (last-range end first from end a (omega arith) (omega arith) (omega arith) (omega arith)) (last-range first first end (end - 1) (omega arith) k (omega arith) (omega arith) (omega arith))
+      (last-range end first from end a (omega arith) (omega arith) (omega arith) (omega arith))
+      (last-range first first end (end - 1) (omega arith) k (omega arith) (omega arith) (omega arith))
     where
       picked : (s : Bool) → (s ≡ true → lastIn end m first from < end)
-          → (first ≤ lastIn end m first from) × (lastIn end m first from ≤ end) → (first ≤ lastIn first m first end) × (lastIn first m first end ≤ end - 1)
-          → (first ≤ pick s (lastIn end m first from) (lastIn first m first end)) × (pick s (lastIn end m first from) (lastIn first m first end) < end)
+          → (first ≤ lastIn end m first from) × (lastIn end m first from ≤ end) → (first ≤ lastIn first m first end)
+          × (lastIn first m first end ≤ end - 1)
+          → (first ≤ pick s (lastIn end m first from) (lastIn first m first end))
+          × (pick s (lastIn end m first from) (lastIn first m first end) < end)
       picked true p r o = let x = p refl in omega arith
       picked false p r o = omega arith
 

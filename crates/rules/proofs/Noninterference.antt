@@ -143,7 +143,15 @@ module _ {p q x y : List ℕ} (h : Related p q x y) (s : State) (on : protects s
 -- ---- the run
 
 abbrev runWithPage : Ran → List ℕ → Ran
-runWithPage r page = record { answer = r .answer; taken = r .taken; refused = r .refused; reply = r .reply; rest = r .rest; state = r .state; page = page }
+runWithPage r page = record {
+  answer = r .answer;
+  taken = r .taken;
+  refused = r .refused;
+  reply = r .reply;
+  rest = r .rest;
+  state = r .state;
+  page = page;
+}
 
 record AgreeRun (p q : List ℕ) (a b : Ran) : Type 0 where
   page : List ℕ

@@ -64,7 +64,8 @@ module _ (x : Screen) (i : Inside x) where
 
   pub in-up : In x (upCell x)
   unfolding upCell atTop
-  in-up = pick-if (In x) (ltb (cursorOf x) (segmentStart x + width)) (λ e. omega arith) (λ e. omega (arith, ltb-false (cursorOf x) (segmentStart x + width) e))
+  in-up = pick-if (In x) (ltb (cursorOf x) (segmentStart x + width)) (λ e. omega arith)
+      (λ e. omega (arith, ltb-false (cursorOf x) (segmentStart x + width) e))
 
   pub in-next-tab : (tabs : List Bool) → In x (rowStart width (cursorOf x) + nextTab width tabs (columnOf width (cursorOf x)))
   in-next-tab tabs = omega (arith, next-tab-below tabs (columnOf width (cursorOf x)) (omega arith))
@@ -76,18 +77,21 @@ module _ (x : Screen) (i : Inside x) where
     pub in-back : In x (previousOpen g (segmentStart x) (cursorOf x))
     in-back =
         let k = length-marks Mark.Open g in
-        let r = last-range (others g) (cursorOf x) (segmentStart x) (cursorOf x) (cursorOf x) (i .from) (omega arith) (i .from) (omega arith) (omega arith) in
+        let r = last-range (others g) (cursorOf x) (segmentStart x) (cursorOf x) (cursorOf x) (i .from) (omega arith) (i .from)
+        (omega arith) (omega arith) in
         omega arith
 
     pub in-next-field : In x (nextField g (segmentStart x) (segmentEnd x) (cursorOf x))
     in-next-field =
         let k = length-marks (Mark.FieldStart (segmentStart x)) g in
-        around-range (marksOf (Mark.FieldStart (segmentStart x)) g) (segmentStart x) (segmentEnd x) (cursorOf x + 1) (omega arith) (omega arith) (omega arith) (omega arith)
+        around-range (marksOf (Mark.FieldStart (segmentStart x)) g) (segmentStart x) (segmentEnd x) (cursorOf x + 1) (omega arith)
+        (omega arith) (omega arith) (omega arith)
 
     pub in-previous-field : In x (previousField g (segmentStart x) (segmentEnd x) (cursorOf x))
     in-previous-field =
         let k = length-marks (Mark.FieldStart (segmentStart x)) g in
-        back-range (marksOf (Mark.FieldStart (segmentStart x)) g) (segmentStart x) (segmentEnd x) (cursorOf x) (omega arith) (i .from) (omega arith) (omega arith)
+        back-range (marksOf (Mark.FieldStart (segmentStart x)) g) (segmentStart x) (segmentEnd x) (cursorOf x) (omega arith) (i .from)
+        (omega arith) (omega arith)
 
     pub in-settled : (at : ℕ) → In x at → In x (settled g (segmentStart x) (segmentEnd x) at)
     in-settled at h =

@@ -103,7 +103,8 @@ module _ (most : ℕ) (next : ℕ → ℕ → Pending)
       rw e stay
   lead-digits (suc n) x h l =
       let e : next (n + 1) (x / 10 * 10 + (digit x - 0x30)) ≡ next (suc n) x = rw (add-one n, whole) in
-      leads-append (lead-digits n (x / 10) (omega arith) (omega arith)) (wait (omega arith) (takes n (x / 10) (digit x) (omega arith) (omega arith) (omega arith)) (rw e stay))
+      leads-append (lead-digits n (x / 10) (omega arith) (omega arith))
+      (wait (omega arith) (takes n (x / 10) (digit x) (omega arith) (omega arith) (omega arith)) (rw e stay))
     where
       whole : x / 10 * 10 + (digit x - 0x30) ≡ x
       whole = omega arith
@@ -115,7 +116,8 @@ is-digit n most b h l m = rw (le-leb 0x30 b l, lt-ltb b 0x3a m, lt-ltb n most h)
 lead-row : (n x : ℕ) → n ≤ 2 → x < 10 ^ n → Leads (digits n x) (Pending.DecimalRow 0 0) noKey (Pending.DecimalRow n x) noKey
 lead-row = lead-digits 2 Pending.DecimalRow takes
   where
-    takes : (n x b : ℕ) → n < 2 → 0x30 ≤ b → b < 0x3a → decodeRule (Pending.DecimalRow n x) 0 b ≡ Decoded.Wait (Pending.DecimalRow (n + 1) (x * 10 + (b - 0x30)))
+    takes : (n x b : ℕ) → n < 2 → 0x30 ≤ b → b < 0x3a → decodeRule (Pending.DecimalRow n x) 0 b ≡ Decoded.Wait
+        (Pending.DecimalRow (n + 1) (x * 10 + (b - 0x30)))
     takes n x b h l m = unfold decodeRule decimalRowRule digitRule in rw (ne-eqb b 0x52 (omega arith), is-digit n 2 b h l m)
 
 lead-column : (row n x : ℕ) → n ≤ 3 → x < 10 ^ n → Leads (digits n x) (Pending.DecimalColumn row 0 0) noKey (Pending.DecimalColumn row n x) noKey
@@ -228,7 +230,12 @@ run-leads bytes x = rw (good-waiting Pending.Idle noKey refl) (leads-run 1944 x 
 
 led-under-way : (q : Pending) (k : Key) → length (k .bytes) ≡ 8 → Led q k → UnderWay q k ((runRule blank powerOn (bytesFor q k) 1944) .state .core)
 led-under-way q k n (plain h x) =
-    rw (run-leads (bytesFor q k) x) (record { pending = refl; size = λ v e. absurd (omega (arith, h v e)); text = λ v e. absurd (omega (arith, h v e)) })
+    rw (run-leads (bytesFor q k) x) (record {
+      pending = refl;
+      size = λ v e. absurd (omega (arith, h v e));
+      text = λ v e. absurd
+          (omega (arith, h v e));
+    })
 led-under-way q k n (text x h) =
     let few : length (keyText k) ≤ 8 = omega (arith, length-take (k .len) (k .bytes)) in
     rw (run-leads (bytesFor q k) x)

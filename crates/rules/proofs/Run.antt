@@ -139,7 +139,8 @@ continued-joined : (room : ℕ) (b : List ℕ) (o : Outcome) (r : Ran)
     → continued room b (joined o r) ≡ joined o (continued (room - length (o .reply)) b r)
 unfolding joined
 continued-joined room b o r =
-    let left : room - length (o .reply ++ r .reply) ≡ room - length (o .reply) - length (r .reply) = omega (arith, length-append (o .reply) (r .reply)) in
+    let left : room - length (o .reply ++ r .reply) ≡ room - length (o .reply) - length (r .reply) = omega
+    (arith, length-append (o .reply) (r .reply)) in
     rw (left, append-assoc, add-assoc (refusal (o .answer)), suc-add (r .taken))
 
 -- a byte before a run for which the law holds

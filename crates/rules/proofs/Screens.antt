@@ -82,9 +82,24 @@ screen-inside x h = by (screen-parts x h) (either-way (eqb (x .active) 0))
   where
     by : Unsplit x ⊎ Split x → (eqb (x .active) 0 ≡ true) ⊎ (eqb (x .active) 0 ≡ false) → Inside x
     by (inl u) t =
-        record { rows = rw (u .none, u .first) (omega arith); most = rw (u .none) (omega arith); from = rw (u .first) (omega arith); below = rw (u .none, u .first) (omega arith) }
-    by (inr s) (inl a) = record { rows = rw (s .some, a) (omega arith); most = rw (s .some, a) (omega arith); from = rw a (omega arith); below = rw (s .some, a) (s .low) }
-    by (inr s) (inr a) = record { rows = rw (s .some, a) (omega arith); most = rw (s .some, a) (omega arith); from = rw a (s .top); below = rw (s .some, a) (s .high) }
+        record {
+          rows = rw (u .none, u .first) (omega arith);
+          most = rw (u .none) (omega arith);
+          from = rw (u .first) (omega arith);
+          below = rw (u .none, u .first) (omega arith);
+        }
+    by (inr s) (inl a) = record {
+      rows = rw (s .some, a) (omega arith);
+      most = rw (s .some, a) (omega arith);
+      from = rw a (omega arith);
+      below = rw (s .some, a) (s .low);
+    }
+    by (inr s) (inr a) = record {
+      rows = rw (s .some, a) (omega arith);
+      most = rw (s .some, a) (omega arith);
+      from = rw a (s .top);
+      below = rw (s .some, a) (s .high);
+    }
 
 pub cursor-kept : (x : Screen) (n : ℕ) → screenOk x ≡ true → segmentStart x ≤ n → n < segmentEnd x → screenOk (withCursor x n) ≡ true
 unfolding segmentTop segmentBottom withCursor
@@ -96,7 +111,16 @@ cursor-kept x n h l e = by (screen-parts x h) (either-way (eqb (x .active) 0))
         unsplit-whole _ record { none = u .none; first = u .first; zeroth = rw (u .first) k; other = rw (u .first) (u .other) }
     by (inr s) (inl a) =
         let k : n < (x .split - 1) * width = (rw (s .some, a) at e) in
-        split-whole _ record { some = s .some; least = s .least; most = s .most; one = s .one; low = rw a k; top = rw a (s .top); high = rw a (s .high) }
+        split-whole _ record {
+          some = s .some;
+          least = s .least;
+          most = s .most;
+          one = s .one;
+          low = rw a k;
+          top = rw a (s .top);
+          high = rw
+              a (s .high);
+        }
     by (inr s) (inr a) =
         let j : (x .split - 1) * width ≤ n = (rw a at l) in
         let k : n < pageLength = (rw (s .some, a) at e) in
@@ -107,7 +131,12 @@ pub activated-kept : (x : Screen) (n : ℕ) → screenOk x ≡ true → n ≤ 1 
 activated-kept x n h one some = by (screen-parts x h)
   where
     by : Unsplit x ⊎ Split x → screenOk (activated x n) ≡ true
-    by (inl u) = unsplit-whole _ record { none = u .none; first = eq-eqb n 0 (omega (arith, eqb-true (x .split) 0 (u .none))); zeroth = u .zeroth; other = u .other }
+    by (inl u) = unsplit-whole _ record {
+      none = u .none;
+      first = eq-eqb n 0 (omega (arith, eqb-true (x .split) 0 (u .none)));
+      zeroth = u .zeroth;
+      other = u .other;
+    }
     by (inr s) = split-whole _ record { some = s .some; least = s .least; most = s .most; one = one; low = s .low; top = s .top; high = s .high }
 
 pub unsplit-screen : screenOk unsplitScreen ≡ true
@@ -115,4 +144,12 @@ unfolding screenOk unsplitOk
 unsplit-screen = refl
 
 pub split-screen : (s : ℕ) → 2 ≤ s → s ≤ height → screenOk (splitScreen s) ≡ true
-split-screen s l h = split-whole (splitScreen s) record { some = ne-eqb s 0 (λ e. omega arith); least = l; most = h; one = omega arith; low = omega arith; top = omega arith; high = omega arith }
+split-screen s l h = split-whole (splitScreen s) record {
+  some = ne-eqb s 0 (λ e. omega arith);
+  least = l;
+  most = h;
+  one = omega arith;
+  low = omega arith;
+  top = omega arith;
+  high = omega arith;
+}

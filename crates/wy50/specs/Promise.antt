@@ -49,7 +49,15 @@ pub record RawRan : Type 0 where
   pub page : List ℕ
 
 abbrev pub rawRan : Ran → RawRan
-rawRan o = record { answer = o .answer; taken = o .taken; refused = o .refused; reply = o .reply; rest = o .rest; state = packed (o .state); page = o .page }
+rawRan o = record {
+  answer = o .answer;
+  taken = o .taken;
+  refused = o .refused;
+  reply = o .reply;
+  rest = o .rest;
+  state = packed (o .state);
+  page = o .page;
+}
 
 -- 7: zeros, the whole input back, nothing changed
 abbrev pub badRun : List ℕ → RawState → List ℕ → RawRan

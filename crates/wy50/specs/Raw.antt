@@ -93,10 +93,24 @@ unfoldable pub isSequence : RawSequence → Bool
 isSequence q = sameSequence (sequenceOf (pendingOf q)) q
 
 abbrev pub rawModes : Modes → RawModes
-rawModes m = record { protect = flag (m .protect); mark = flag (m .mark); insert = flag (m .insert); autoscroll = flag (m .autoscroll); locked = flag (m .locked); local = flag (m .local) }
+rawModes m = record {
+  protect = flag (m .protect);
+  mark = flag (m .mark);
+  insert = flag (m .insert);
+  autoscroll = flag (m .autoscroll);
+  locked = flag (m .locked);
+  local = flag (m .local);
+}
 
 abbrev pub modesOf : RawModes → Modes
-modesOf m = record { protect = isOn (m .protect); mark = isOn (m .mark); insert = isOn (m .insert); autoscroll = isOn (m .autoscroll); locked = isOn (m .locked); local = isOn (m .local) }
+modesOf m = record {
+  protect = isOn (m .protect);
+  mark = isOn (m .mark);
+  insert = isOn (m .insert);
+  autoscroll = isOn (m .autoscroll);
+  locked = isOn (m .locked);
+  local = isOn (m .local);
+}
 
 -- each mode is 0 or 1
 abbrev pub areFlags : RawModes → Bool
@@ -113,7 +127,12 @@ keyOf k = record { len = k .len; bytes = k .bytes }
 -- the numbers of a state
 unfoldable pub packed : State → RawState
 packed s = record {
-  screen = record { active = s .core .screen .active; split = s .core .screen .split; cursor0 = s .core .screen .cursor0; cursor1 = s .core .screen .cursor1 };
+  screen = record {
+    active = s .core .screen .active;
+    split = s .core .screen .split;
+    cursor0 = s .core .screen .cursor0;
+    cursor1 = s .core .screen .cursor1;
+  };
   modes = rawModes (s .core .modes);
   bells = s .core .bells;
   sequence = sequenceOf (s .core .pending);
