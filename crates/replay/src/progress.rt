@@ -6,12 +6,16 @@ use crate::change;
 use crate::script::Call;
 use crate::script::Command;
 use crate::script::PageLine;
+use crate::script::Setting;
 use crate::script::read;
 use crate::sequence;
 use crate::text;
 use libc::STDERR_FILENO;
 use rules::State;
 use std::num::wrapping_add_usize;
+
+// The longest byte string of a line.
+const MOST: usize = 32768;
 
 pub struct Progress {
     pub state: State,
@@ -59,46 +63,36 @@ fn complain(number: usize, line: &[u8]) {
     io::write_all(STDERR_FILENO, b"\n");
 }
 
-// One line. `bytes` takes the bytes that it spells.
-pub fn obey(
-    s: Progress,
-    line: &[u8],
-    page: &mut [u16],
-    bytes: &mut [u8],
-    out: &mut [u8],
-) -> Progress {
+// One line.
+pub fn obey(s: Progress, line: &[u8], page: &mut [u16], out: &mut [u8]) -> Progress {
     let mut t = s;
     t.line = wrapping_add_usize(s.line, 1);
-    let u = carry_out(t, line, page, bytes, out);
+    let u = carry_out(t, line, page, out);
     if !u.going {
         complain(u.line, line);
     }
     u
 }
 
-fn carry_out(
-    s: Progress,
-    line: &[u8],
-    page: &mut [u16],
-    bytes: &mut [u8],
-    out: &mut [u8],
-) -> Progress {
+fn carry_out(s: Progress, line: &[u8], page: &mut [u16], out: &mut [u8]) -> Progress {
     let c = read(line);
     match c {
         Command::Bad => stopped(s),
         Command::Skip => s,
         Command::Page(x) => change_page(s, x, page),
-        Command::Set(x) => {
-            let mut t = s;
-            let state = s.state;
-            let next = change::set(state, x);
-            t.state = next;
-            t
-        }
-        Command::Key(k) => set_key(s, k, line, bytes),
-        Command::Pending => set_pending(s, line, bytes),
-        Command::Call(x, n) => obey_call(s, x, n, line, page, bytes, out),
+        Command::Set(x) => set(s, x),
+        Command::Key(k) => set_key(s, k, line),
+        Command::Pending => set_pending(s, line),
+        Command::Call(x, n) => obey_call(s, x, n, line, page, out),
     }
+}
+
+fn set(s: Progress, x: Setting) -> Progress {
+    let mut t = s;
+    let state = s.state;
+    let next = change::set(state, x);
+    t.state = next;
+    t
 }
 
 fn change_page(s: Progress, x: PageLine, page: &mut [u16]) -> Progress {
@@ -132,26 +126,28 @@ fn fill(s: Progress, i: usize, n: usize, v: u16, page: &mut [u16]) -> Progress {
     s
 }
 
-fn set_key(s: Progress, k: usize, line: &[u8], bytes: &mut [u8]) -> Progress {
-    let n = text::byte_string(text::later(text::later(line)), bytes);
+fn set_key(s: Progress, k: usize, line: &[u8]) -> Progress {
+    let mut bytes = [0u8; MOST];
+    let n = text::byte_string(text::later(text::later(line)), &mut bytes);
     if 255 < n {
         return stopped(s);
     }
     let mut t = s;
     let mut state = s.state;
     let setup = state.setup;
-    let key = change::key_of(n as u8, bytes);
+    let key = change::key_of(n as u8, &bytes);
     let next = change::with_key(setup, k, key);
     state.setup = next;
     t.state = state;
     t
 }
 
-fn set_pending(s: Progress, line: &[u8], bytes: &mut [u8]) -> Progress {
+fn set_pending(s: Progress, line: &[u8]) -> Progress {
+    let mut bytes = [0u8; MOST];
     let mut t = s;
     let mut state = s.state;
     let core = state.core;
-    let g = sequence::read(core, text::later(line), bytes);
+    let g = sequence::read(core, text::later(line), &mut bytes);
     let next = g.core;
     state.core = next;
     t.state = state;
@@ -174,14 +170,14 @@ fn obey_call(
     n: usize,
     line: &[u8],
     page: &mut [u16],
-    bytes: &mut [u8],
     out: &mut [u8],
 ) -> Progress {
-    let k = input_length(x, line, bytes);
-    if bytes.len() < k {
+    let mut bytes = [0u8; MOST];
+    let k = input_length(x, line, &mut bytes);
+    if MOST < k {
         return stopped(s);
     }
-    let input = within(k, bytes);
+    let input = within(k, &bytes);
     make_call(s, x, n, &bytes[..input], page, out)
 }
 

@@ -7,11 +7,10 @@ use Rattle.replay.proofs.obey_lines.Statement.{statement}
 use Rattle.replay.proofs.obey_lines.Tie as tie
 
 abbrev Inv-loop : tie.InvT-loop
-Inv-loop input page₀ bytes₀ out₀ t₀ rest₀ page bytes out t rest =
-    (length rest ≤ length input) × (length page ≡ length page₀) × (length bytes ≡ length bytes₀) × (length out ≡ length out₀)
+Inv-loop input page₀ out₀ t₀ rest₀ page out t rest = (length rest ≤ length input) × (length page ≡ length page₀) × (length out ≡ length out₀)
 
 abbrev μ-loop : tie.MeasureT-loop
-μ-loop input page₀ bytes₀ out₀ t₀ rest₀ page bytes out t rest = length rest
+μ-loop input page₀ out₀ t₀ rest₀ page out t rest = length rest
 
 pub obey-lines-spec : {M : Type 1} → statement M
 obey-lines-spec =
@@ -28,86 +27,66 @@ obey-lines-spec =
     -- obey-requires
     (λ c κs. tt)
     -- add-rest
-    (λ c. omega (
-      arith,
-      c .before .before .before .before .before .before .before .before .before .before .before .before .before .before .before .before .loop .inv,
-      c .before .before .before .before .before .before .before .before .before .before .before .before .before .before .before .before .before .before .before .before .before .good,
-      c .before .before .before .before .before .before .before .before .before .before .before .before .before .before .find .ensures .within,
-      c .before .before .before .before .before .before .before .before .before .before .before .before .before .if1 .left,
-    ))
+    (λ c.
+    let f = c .before .before .before .before .before .before .before .before .before .before in
+    let l = f .before .before .before in
+    omega (arith, f .if1 .left, f .before .find .ensures .within, l .loop .inv, l .before .before .before .before .good))
     -- sub-rest
-    (λ c. omega (
-      arith,
-      c .before .before .before .before .before .before .before .before .before .before .before .before .before .before .before .before .loop .inv,
-      c .before .before .before .before .before .before .before .before .before .before .before .before .before .before .before .before .before .before .before .before .before .good,
-      c .before .before .before .before .before .before .before .before .before .before .before .before .before .before .find .ensures .within,
-      c .before .before .before .before .before .before .before .before .before .before .before .before .before .if1 .left,
-    ))
+    (λ c.
+    let f = c .before .before .before .before .before .before .before .before .before .before in
+    let l = f .before .before .before in
+    omega (arith, f .if1 .left, f .before .find .ensures .within, l .loop .inv, l .before .before .before .before .good))
     -- part-rest-start
-    (λ c. omega (
-      arith,
-      c .before .before .before .before .before .before .before .before .before .before .before .before .before .before .before .before .loop .inv,
-      c .before .before .before .before .before .before .before .before .before .before .before .before .before .before .before .before .before .before .before .before .before .good,
-      c .before .before .before .before .before .before .before .before .before .before .before .before .before .before .find .ensures .within,
-      c .before .before .before .before .before .before .before .before .before .before .before .before .before .if1 .left,
-    ))
+    (λ c.
+    let f = c .before .before .before .before .before .before .before .before .before .before in
+    let l = f .before .before .before in
+    omega (arith, f .if1 .left, f .before .find .ensures .within, l .loop .inv, l .before .before .before .before .good))
     -- part-rest-end
-    (λ c. omega (
-      arith,
-      c .before .before .before .before .before .before .before .before .before .before .before .before .before .before .before .before .loop .inv,
-      c .before .before .before .before .before .before .before .before .before .before .before .before .before .before .before .before .before .before .before .before .before .good,
-      c .before .before .before .before .before .before .before .before .before .before .before .before .before .before .find .ensures .within,
-      c .before .before .before .before .before .before .before .before .before .before .before .before .before .if1 .left,
-    ))
+    (λ c.
+    let f = c .before .before .before .before .before .before .before .before .before .before in
+    let l = f .before .before .before in
+    omega (arith, f .if1 .left, f .before .find .ensures .within, l .loop .inv, l .before .before .before .before .good))
     -- loop-less
-    (λ c. simp (length-take, length-drop) (omega (
+    (λ c.
+    let o = c .before .before .before .before .before .before .before in
+    let f = o .before .before .before .before in
+    simp (length-take, length-drop) (omega (
       arith,
-      c .before .before .before .before .before .before .before .before .before .before .before .before .before .before .before .before .before .loop .inv,
-      c .before .before .before .before .before .before .before .before .before .before .before .before .before .before .before .find .ensures .within,
-      c .before .before .before .before .before .before .before .before .before .before .before .before .before .before .if1 .left,
-      c .before .before .before .before .before .before .before .before .before .obey .kept,
+      o .obey .kept,
+      f .if1 .left,
+      f .before .find .ensures .within,
+      f .before .before .before .loop .inv,
     )))
     -- loop-again
-    (λ c. simp (length-take, length-drop) (omega (
+    (λ c.
+    let o = c .before .before .before .before .before .before .before in
+    let f = o .before .before .before .before in
+    simp (length-take, length-drop) (omega (
       arith,
-      c .before .before .before .before .before .before .before .before .before .before .before .before .before .before .before .before .before .loop .inv,
-      c .before .before .before .before .before .before .before .before .before .before .before .before .before .before .before .find .ensures .within,
-      c .before .before .before .before .before .before .before .before .before .before .before .before .before .before .if1 .left,
-      c .before .before .before .before .before .before .before .before .before .obey .kept,
+      o .obey .kept,
+      f .if1 .left,
+      f .before .find .ensures .within,
+      f .before .before .before .loop .inv,
     )))
     -- same-length
     (λ c. omega arith)
     -- same-length-2
     (λ c. omega arith)
-    -- same-length-3
-    (λ c. omega arith)
     -- returns
     (λ c. tt)
+    -- same-length-3
+    (λ c. omega arith)
     -- same-length-4
-    (λ c. omega arith)
-    -- same-length-5
-    (λ c. omega arith)
-    -- same-length-6
     (λ c. omega arith)
     -- returns-2
     (λ c. omega arith)
-    -- same-length-7
-    (λ c. omega (
-      arith,
-      c .before .before .before .before .before .before .before .before .before .before .before .before .before .before .before .before .loop .inv,
-      c .before .before .before .before .before .before .before .before .obey .kept,
-    ))
-    -- same-length-8
-    (λ c. omega (
-      arith,
-      c .before .before .before .before .before .before .before .before .before .before .before .before .before .before .before .before .loop .inv,
-      c .before .before .before .before .before .before .before .before .obey .kept,
-    ))
-    -- same-length-9
-    (λ c. omega (
-      arith,
-      c .before .before .before .before .before .before .before .before .before .before .before .before .before .before .before .before .loop .inv,
-      c .before .before .before .before .before .before .before .before .obey .kept,
-    ))
+    -- same-length-5
+    (λ c.
+    let o = c .before .before .before .before .before .before in
+    omega (arith, o .obey .kept, o .before .before .before .before .before .before .before .loop .inv))
+    -- same-length-6
+    (λ c.
+    let o = c .before .before .before .before .before .before in
+    omega (arith, o .obey .kept, o .before .before .before .before .before .before .before .loop .inv))
     -- returns-3
     (λ c. omega arith))

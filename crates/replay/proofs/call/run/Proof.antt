@@ -17,21 +17,18 @@ run-spec =
     -- counts-requires
     (λ c κs. search needs)
     -- closing-requires
-    (λ c κs. omega (
-      arith,
-      c .before .before .before .before .before .before .before .before .before .before .before .before .before .before .before .before .before .run .ensures .fits,
-      c .before .before .before .before .before .before .before .before .before .before .before .before .before .before .before .before .before .run .kept,
-    ))
+    (λ c κs.
+    let o = c .before .before .before .before .before .before .before .before .before in
+    let r = o .before .before .before .before .before .before .before .before .run in
+    omega (arith, r .ensures .fits, r .kept))
     -- same-length
-    (λ c. omega (
-      arith,
-      c .before .before .before .before .before .before .before .before .before .before .before .before .before .before .before .before .before .before .before .before .run .kept,
-    ))
+    (λ c.
+    let o = c .before .before .before .before .before .before .before .before .before .before in
+    omega (arith, o .before .before .before .before .before .before .before .before .before .before .run .kept))
     -- same-length-2
-    (λ c. omega (
-      arith,
-      c .before .before .before .before .before .before .before .before .before .before .before .before .before .before .before .before .before .before .before .before .run .kept,
-    ))
+    (λ c.
+    let o = c .before .before .before .before .before .before .before .before .before .before in
+    omega (arith, o .before .before .before .before .before .before .before .before .before .before .run .kept))
     -- same-length-3
     (λ c. search needs)
     -- returns
