@@ -111,7 +111,8 @@ module _ {w old new : List ℕ} {n : ℕ} (v : Putting w old new n) where
     next-two : drop (2 * n) w ≡ getD w (2 * n) 0 ∷ getD w (2 * n + 1) 0 ∷ drop (2 * (n + 1)) w
     next-two =
         let e : 2 * (n + 1) ≡ suc (2 * n + 1) = omega arith in
-        drop-cons w (2 * n) 0 (omega arith) ∙ ap (λ (l : List ℕ). getD w (2 * n) 0 ∷ l) (rw (← add-one (2 * n), e, drop-cons w (2 * n + 1) 0 (omega arith)))
+        drop-cons w (2 * n) 0 (omega arith)
+        ∙ ap (λ (l : List ℕ). getD w (2 * n) 0 ∷ l) (rw (← add-one (2 * n), e, drop-cons w (2 * n + 1) 0 (omega arith)))
 
     next-good : isHex (drop (2 * n) w) ≡ both (ltb b 256) (isHex (drop (2 * (n + 1)) w))
     unfolding isHex

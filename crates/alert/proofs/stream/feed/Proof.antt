@@ -10,7 +10,8 @@ use Rattle.alert.proofs.stream.feed.Tie as tie
 abbrev Inv-loop : tie.InvT-loop
 Inv-loop page₀ before₀ drawn₀ input room₀ log₀ t₀ i₀ page before drawn room log t i =
     (i ≤ length input)
-    × ((length page ≡ length page₀) × ((length before ≡ length before₀) × ((length drawn ≡ length drawn₀) × ((length room ≡ length room₀) × (length log ≡ length log₀)))))
+    × ((length page ≡ length page₀) × ((length before ≡ length before₀) × ((length drawn ≡ length drawn₀)
+    × ((length room ≡ length room₀) × (length log ≡ length log₀)))))
 
 abbrev μ-loop : tie.MeasureT-loop
 μ-loop page₀ before₀ drawn₀ input room₀ log₀ t₀ i₀ page before drawn room log t i = length input - i

@@ -8,7 +8,8 @@ use Rattle.alert.proofs.stream.pieces.Tie as tie
 
 abbrev Inv-loop : tie.InvT-loop
 Inv-loop fd page₀ before₀ drawn₀ room₀ log₀ p₀ left₀ page before drawn room log p left =
-    (length page ≡ length page₀) × ((length before ≡ length before₀) × ((length drawn ≡ length drawn₀) × ((length room ≡ length room₀) × (length log ≡ length log₀))))
+    (length page ≡ length page₀) × ((length before ≡ length before₀) × ((length drawn ≡ length drawn₀)
+    × ((length room ≡ length room₀) × (length log ≡ length log₀))))
 
 abbrev μ-loop : tie.MeasureT-loop
 μ-loop fd page₀ before₀ drawn₀ room₀ log₀ p₀ left₀ page before drawn room log p left = left
@@ -24,15 +25,13 @@ pieces-spec =
     -- piece-requires
     (λ c κs. search needs)
     -- sub-left
-    (λ c. omega (
-      arith,
-      c .before .before .before .before .before .before .before .before .before .before .before .before .before .before .before .before .before .before .loop-test .taken,
-    ))
+    (λ c.
+    let o = c .before .before .before .before .before .before .before .before .before .before .before .before in
+    omega (arith, o .before .before .before .before .before .before .loop-test .taken))
     -- loop-less
-    (λ c. omega (
-      arith,
-      c .before .before .before .before .before .before .before .before .before .before .before .before .before .before .before .before .before .before .loop-test .taken,
-    ))
+    (λ c.
+    let o = c .before .before .before .before .before .before .before .before .before .before .before .before in
+    omega (arith, o .before .before .before .before .before .before .loop-test .taken))
     -- loop-again
     (λ c.
     let o = c .before .before .before .before .before .before .before .before .before .before .before .before in
