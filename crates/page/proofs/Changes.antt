@@ -4,6 +4,8 @@
 --     length-left, left-kept, left-new         what comes from the right; what comes in
 --     length-right, right-kept, right-new
 --     filled-up                                a shift ends by a fill of the cells that come in
+--     left-turn, left-filled                   the loop of a shift to the left: a turn, and the fill after it
+--     right-range, right-turn, right-filled    to the right
 --     column-step                              one row of a column
 -- Assumes nothing.
 use mathlib.Core.Path.{_≡_, refl, sym, ap, _∙_}
@@ -17,6 +19,7 @@ use native.Mathlib.Omega.{arith}
 use lib.ListN.{length, getD, set, take, drop, replicate, length-append, length-drop, length-map, length-replicate, getD-replicate, List·getD-append}
 use lib.Seq.{length-take-le, getD-drop, getD-take, getD-append-add, drop-cons, set-split, ext-getD}
 use borrow.Rule.Slice.PartMut.{putMid, mid-len, same-len-mid}
+use Rattle.page.proofs.Loop.{Joined, step-up, step-down}
 use Rattle.rules.specs.Change.{within, fillCell, filled, shiftLeft, shiftRight, columnFilled}
 
 -- a part was lent, `&mut page[a..e]`, and came back as q, which f makes of it
@@ -137,6 +140,35 @@ module _ (a e v : ℕ) (p x : List ℕ) (h : a ≤ e) (k : e ≤ length p) where
       (λ c. at-front i c ∙ before i c)
       (λ c. ⊎-elim (λ d. at-middle i c d ∙ sym (new i c d)) (λ d. at-back i d ∙ after i d (omega (arith, length-within))) (lt-or-le i e))
       (lt-or-le i a))
+
+-- ---- the loops of the shifts
+
+-- the place before i, from f on
+pub right-range : {f i n : ℕ} → f < i → i ≤ n → (f ≤ i - 1) × (i - 1 ≤ n)
+right-range h n = omega arith
+
+module _ (k v : ℕ) (p : List ℕ) {l : List ℕ} {i : ℕ} where
+  pub left-turn : i < length p - k → Joined i (shiftLeft k v p) p l
+      → Joined (i + 1) (shiftLeft k v p) p (set l i (getD l (i + k) 0))
+  left-turn h j = step-up j (omega arith) (j .above (i + k) (omega arith) ∙ sym (left-kept k v p i (omega arith)))
+
+  pub left-filled : {f : ℕ} → f ≡ length p - k → f ≤ i → i ≤ f → Joined i (shiftLeft k v p) p l
+      → within f (length p) (filled false v) l ≡ shiftLeft k v p
+  left-filled {f} e h n j =
+      filled-up f (length p) v l (shiftLeft k v p) (omega arith) (omega (arith, j .long)) (j .long ∙ sym (j .even))
+      (λ m b. j .below m (omega arith)) (λ m b d. left-new k v p m d (omega arith)) (λ m b d. absurd (omega (arith, j .long)))
+
+  pub right-turn : length p - (length p - k) < i → i ≤ length p → Joined i p (shiftRight k v p) l
+      → Joined (i - 1) p (shiftRight k v p) (set l (i - 1) (getD l (i - 1 - k) 0))
+  right-turn h n j =
+      step-down j (omega arith) (omega (arith, length-right k v p))
+      (j .below (i - 1 - k) (omega arith) ∙ sym (right-kept k v p (i - 1) (omega arith) (omega arith)))
+
+  pub right-filled : {f : ℕ} → f ≡ length p - (length p - k) → i ≤ f → Joined i p (shiftRight k v p) l
+      → within 0 f (filled false v) l ≡ shiftRight k v p
+  right-filled {f} e n j =
+      filled-up 0 f v l (shiftRight k v p) (omega arith) (omega (arith, j .long, length-right k v p)) (j .long) (λ m b. absurd (omega arith))
+      (λ m b d. right-new k v p m (omega arith) (omega arith)) (λ m b d. j .above m (omega arith))
 
 -- ---- one row of a column
 

@@ -2,7 +2,8 @@
 --     open-cell, guarded-cell, short-open                         one cell
 --     cells-length, cells-put, cells-none, short-cells            cells of one row
 --     text-length                                                 how long the text is: the breaks between rows, and the cells
---     Sending, stop-range, first-fits, begin, anew, row-fits, go, finish     the loop that puts the text, a row a turn
+--     on-page, first-range, first-fits                            the first row
+--     Sending, stop-range, begin, anew, row-fits, place, go, finish     the loop that puts the text, a row a turn
 -- Assumes nothing.
 use mathlib.Core.Path.{_≡_, refl, sym, ap, _∙_}
 use mathlib.Core.Bool.{Bool, true, false}
@@ -17,6 +18,8 @@ use lib.ListN.{length, getD, set, take, drop, length-append, length-set, drop-of
 use lib.Seq.{drop-cons, drop-drop, take-add}
 use borrow.Author.Tests.{lt-ltb, le-ltb, ne-eqb, eqb-true, eqb-false}
 use borrow.Rule.Slice.PartMut.{mid-len}
+use mir.Syntax.{w64}
+use mir.Val.{Fits}
 use Rattle.rules.specs.Cell.{pick, both, guarded, sent}
 use Rattle.rules.specs.Row.{Width, rowEnd}
 use Rattle.rules.specs.Carry.{separator, openCell, textFrom, textOf}
@@ -189,9 +192,21 @@ pub record Sending (w : ℕ) (on : Bool) (p : List ℕ) (a e i m : ℕ) (q : Lis
   pub count : n + length (rest w on p a e at) ≡ m + length (rest w on p a e i)
   pub is : stored n (rest w on p a e at) r ≡ stored m (rest w on p a e i) q
 
+-- a cell's place in bytes is a number of the machine
+pub on-page : {w at : ℕ} → Width w → at ≤ 24 * w → Fits w64 (at * 2)
+on-page {w} {at} k h =
+    by-width (λ (w : ℕ). at ≤ 24 * w → Fits w64 (at * 2)) (λ h. record { fits = omega arith }) (λ h. record { fits = omega arith }) k h
+
+-- the first row ends no earlier than its first cell and no later than e
+pub first-range : {w a e s : ℕ} → Width w → a ≤ e → s ≡ min (rowEnd w a) e → (a ≤ s) × (s ≤ e)
+first-range {w} {a} k h es = omega (arith, row-after k a)
+
 -- the next row ends after `at` and no later than e
 pub stop-range : {w at e s : ℕ} → Width w → at < e → s ≡ min (rowEnd w at) e → (at < s) × (s ≤ e)
 stop-range {w} {at} k h es = omega (arith, row-after k at)
+
+pub nearer : {w at e s : ℕ} → Width w → at < e → s ≡ min (rowEnd w at) e → e - s < e - at
+nearer k h es = let r = stop-range k h es in omega arith
 
 module _ {w : ℕ} (k : Width w) (on : Bool) (p : List ℕ) (a e : ℕ) (f : e ≤ length p) where
   cut : (i s : ℕ) → i ≤ s → s ≤ e → rest w on p a e i ≡ textFrom w on a i (part p i s) ++ rest w on p a e s
@@ -272,6 +287,9 @@ module _ {w : ℕ} {on : Bool} {p : List ℕ} {a e i m : ℕ} {q : List ℕ} {at
     -- US and the row fit
     pub row-fits : n + 1 + length (cellsText on (part p at s)) ≤ length r
     row-fits = omega (arith, row-length)
+
+    pub place : n < length r
+    place = omega (arith, row-fits)
 
     -- a turn
     pub go : {n′ : ℕ} {r′ : List ℕ} → n′ ≡ n + 1 + length (cellsText on (part p at s))

@@ -1,13 +1,14 @@
 -- `page::change::shift_left` meets its contract. The loop: below i the cells are shifted, from i on they are as they were.
-use mathlib.Core.Path.{_≡_, refl, sym, _∙_}
-use Prim.Native.Nat.{_+_, _-_, _≤_}
+use mathlib.Core.Path.{_≡_, refl, _∙_}
+use Prim.Native.Nat.{_-_, _≤_}
+use native.Mathlib.Numerals.{add-one}
 use native.Mathlib.Omega.{arith}
 use borrow.Author.Needs.{needs}
 use denote.Ref.{now}
 use lib.ListN.{length}
 use Rattle.rules.specs.Change.{shiftLeft}
-use Rattle.page.proofs.Loop.{Joined, joined-start, step-up}
-use Rattle.page.proofs.Changes.{length-left, left-kept, left-new, filled-up}
+use Rattle.page.proofs.Loop.{Joined, joined-start}
+use Rattle.page.proofs.Changes.{length-left, left-turn, left-filled}
 use Rattle.page.proofs.change.shift_left.Statement.{statement}
 use Rattle.page.proofs.change.shift_left.Tie as tie
 
@@ -48,28 +49,16 @@ shift-left-spec =
     (λ c.
     let x = c .before .before .before .before .before .args in
     let l = c .before .before .loop in
-    let j = l .inv .1 .1 .1 in (
-      refl,
-      (
-        c .before .before .before .kept .ensures,
-        (
-          omega arith,
-          step-up j (omega arith) (j .above (l .i + x .count) (omega arith)
-              ∙ sym (left-kept (x .count) (x .value) (now (x .part)) (l .i) (omega arith))),
-        ),
-      ),
-    ))
+    let e = c .before .before .before .kept .ensures in
+    let more = c .before .loop-test .taken in
+    (refl, (e, (rw add-one more, left-turn (x .count) (x .value) (now (x .part)) (rw e at more) (l .inv .1 .1 .1)))))
     -- fill-cells-requires
-    (λ c κs. search needs)
+    (λ c κs. (omega arith, omega arith))
     -- same-length
     (λ c. search needs)
     -- returns
     (λ c.
     let x = c .before .before .before .before .before .before .before .before .args in
     let l = c .before .before .before .before .before .loop in
-    let j = l .inv .1 .1 .1 in
-    let y = now (x .part) in
-    let e = c .before .before .before .before .before .before .kept .ensures in
-    c .before .before .fill-cells .ensures ∙ filled-up (c .before .before .before .before .before .before .kept .result) (length y)
-    (x .value) (l .part) (shiftLeft (x .count) (x .value) y) (omega arith) (omega arith) (j .long ∙ sym (j .even))
-    (λ i b. j .below i (omega arith)) (λ i b d. left-new (x .count) (x .value) y i d (omega arith)) (λ i b d. absurd (omega arith))))
+    c .before .before .fill-cells .ensures ∙ left-filled (x .count) (x .value) (now (x .part)) (l .inv .1 .0)
+    (c .before .before .before .before .loop-test .left) (l .inv .1 .1 .0) (l .inv .1 .1 .1)))

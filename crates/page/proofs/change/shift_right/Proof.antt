@@ -6,8 +6,8 @@ use borrow.Author.Needs.{needs}
 use denote.Ref.{now}
 use lib.ListN.{length}
 use Rattle.rules.specs.Change.{shiftRight}
-use Rattle.page.proofs.Loop.{Joined, joined-end, step-down}
-use Rattle.page.proofs.Changes.{length-right, right-kept, right-new, filled-up}
+use Rattle.page.proofs.Loop.{Joined, joined-end}
+use Rattle.page.proofs.Changes.{length-right, right-range, right-turn, right-filled}
 use Rattle.page.proofs.change.shift_right.Statement.{statement}
 use Rattle.page.proofs.change.shift_right.Tie as tie
 
@@ -51,32 +51,17 @@ shift-right-spec =
     (λ c.
     let x = c .before .before .before .before .before .args in
     let l = c .before .before .loop in
-    let j = l .inv .1 .1 .1 in
-    let e = c .before .before .before .kept .ensures in
-    let z = length-right (x .count) (x .value) (now (x .part)) in (
-      refl,
-      (
-        rw e,
-        (
-          omega arith,
-          step-down j (omega arith) (omega arith)
-              (j .below (l .i - 1 - x .count) (omega arith) ∙ sym
-              (right-kept (x .count) (x .value) (now (x .part)) (l .i - 1) (omega arith) (omega arith))),
-        ),
-      ),
-    ))
+    let e = l .inv .1 .0 in
+    let more = c .before .loop-test .taken in
+    let top = l .inv .1 .1 .0 .1 in
+    (refl, (e, (right-range more top, right-turn (x .count) (x .value) (now (x .part)) (rw e at more) top (l .inv .1 .1 .1)))))
     -- fill-cells-requires
-    (λ c κs. search needs)
+    (λ c κs. (omega arith, omega arith))
     -- same-length
     (λ c. search needs)
     -- returns
     (λ c.
     let x = c .before .before .before .before .before .before .before .before .args in
     let l = c .before .before .before .before .before .loop in
-    let j = l .inv .1 .1 .1 in
-    let y = now (x .part) in
-    let e = c .before .before .before .before .before .before .kept .ensures in
-    let z = length-right (x .count) (x .value) y in
-    c .before .before .fill-cells .ensures ∙ filled-up 0 (length y - c .before .before .before .before .before .before .kept .result)
-    (x .value) (l .part) (shiftRight (x .count) (x .value) y) (omega arith) (omega arith) (j .long) (λ i b. absurd (omega arith))
-    (λ i b d. right-new (x .count) (x .value) y i (omega arith) (omega arith)) (λ i b d. j .above i (omega arith))))
+    c .before .before .fill-cells .ensures ∙ right-filled (x .count) (x .value) (now (x .part)) (l .inv .1 .0)
+    (c .before .before .before .before .loop-test .left) (l .inv .1 .1 .1)))

@@ -1,11 +1,10 @@
 -- `page::text::put_text` meets its contract. The loop: putting the rows to come makes of the room what they make of it after the first row.
 use mathlib.Core.Path.{_∙_}
 use Prim.Native.Nat.{_-_}
+use native.Mathlib.Nat.{le-trans, le-of-lt}
 use native.Mathlib.Omega.{arith}
-use borrow.Author.Needs.{needs}
 use denote.Ref.{now}
-use Rattle.rules.proofs.Rows.{row-after}
-use Rattle.page.proofs.Sends.{Sending, begin, finish, go, anew, stop-range, row-fits, first-fits}
+use Rattle.page.proofs.Sends.{Sending, begin, finish, go, anew, on-page, first-range, first-fits, stop-range, nearer, row-fits, place}
 use lib.ListN.{length-set}
 use Rattle.page.proofs.text.put_text.Statement.{statement}
 use Rattle.page.proofs.text.put_text.Tie as tie
@@ -24,27 +23,23 @@ put-text-spec =
     Inv-loop
     μ-loop
     -- row-stop-requires
-    (λ c κs. search needs)
+    (λ c κs. let k = c .before .before .pre in (k .0, (k .1 .0, rw (k .1 .1 .1 .0) at (k .1 .1 .0))))
     -- mul-put-cells
-    (λ c. search needs)
+    (λ c.
+    let k = c .before .before .before .before .pre in
+    on-page (k .0) (le-trans (k .1 .0) (rw (k .1 .1 .1 .0) at (k .1 .1 .0))))
     -- sub-put-cells
     (λ c.
-    let x = c .before .before .before .before .args in
     let k = c .before .before .before .before .pre in
-    let after = row-after (k .0) (x .from) in
-    omega (arith, c .before .row-stop .ensures))
+    first-range (k .0) (k .1 .0) (c .before .row-stop .ensures) .0)
     -- part-put-cells-start
     (λ c.
-    let x = c .before .before .before .before .args in
     let k = c .before .before .before .before .pre in
-    let after = row-after (k .0) (x .from) in
-    omega (arith, c .before .row-stop .ensures))
+    first-range (k .0) (k .1 .0) (c .before .row-stop .ensures) .0)
     -- part-put-cells-end
     (λ c.
-    let x = c .before .before .before .before .args in
     let k = c .before .before .before .before .pre in
-    let after = row-after (k .0) (x .from) in
-    omega (arith, c .before .row-stop .ensures))
+    le-trans (first-range (k .0) (k .1 .0) (c .before .row-stop .ensures) .1) (k .1 .1 .0))
     -- put-cells-requires
     (λ c κs.
     let x = c .before .before .before .before .before .args in
@@ -60,49 +55,42 @@ put-text-spec =
     (c .before .before .put-cells .ensures .1) in
     anew b)
     -- row-stop-requires-2
-    (λ c κs. search needs)
+    (λ c κs.
+    let k = c .before .before .before .before .before .before .before .before .before .before .pre in
+    let i = c .before .loop .inv in
+    (i .wide, (i .to, rw (k .1 .1 .1 .0) at (k .1 .1 .0))))
     -- slice-write-room
-    (λ c. omega (arith, row-fits (c .before .before .loop .inv) (c .before .loop-test .taken) (c .row-stop2 .ensures)))
+    (λ c. place (c .before .before .loop .inv) (c .before .loop-test .taken) (c .row-stop2 .ensures))
     -- add-put-cells
     (λ c. omega (
       arith,
-      row-fits (c .before .before .before .loop .inv) (c .before .before .loop-test .taken)
+      place (c .before .before .before .loop .inv) (c .before .before .loop-test .taken)
           (c .before .row-stop2 .ensures),
     ))
     -- mul-put-cells-2
-    (λ c. search needs)
+    (λ c.
+    let k = c .before .before .before .before .before .before .before .before .before .before .before .before .pre in
+    let i = c .before .before .before .loop .inv in
+    on-page (i .wide) (le-trans (i .to) (rw (k .1 .1 .1 .0) at (k .1 .1 .0))))
     -- sub-put-cells-2
-    (λ c. omega (
-      arith,
-      stop-range (c .before .before .before .loop .inv .wide) (c .before .before .loop-test .taken)
-          (c .before .row-stop2 .ensures),
-    ))
+    (λ c.
+    let i = c .before .before .before .loop .inv in
+    le-of-lt (stop-range (i .wide) (c .before .before .loop-test .taken) (c .before .row-stop2 .ensures) .0))
     -- part-put-cells-start-2
-    (λ c. omega (
-      arith,
-      stop-range (c .before .before .before .loop .inv .wide) (c .before .before .loop-test .taken)
-          (c .before .row-stop2 .ensures),
-    ))
+    (λ c.
+    let i = c .before .before .before .loop .inv in
+    le-of-lt (stop-range (i .wide) (c .before .before .loop-test .taken) (c .before .row-stop2 .ensures) .0))
     -- part-put-cells-end-2
-    (λ c. omega (
-      arith,
-      stop-range (c .before .before .before .loop .inv .wide) (c .before .before .loop-test .taken)
-          (c .before .row-stop2 .ensures),
-      c .before .before .before .before .before .before .before .before .before .before .before .before .pre,
-    ))
+    (λ c.
+    let i = c .before .before .before .loop .inv in
+    le-trans (stop-range (i .wide) (c .before .before .loop-test .taken) (c .before .row-stop2 .ensures) .1) (i .inside))
     -- put-cells-requires-2
-    (λ c κs. rw length-set (omega (
-      arith,
-      row-fits (c .before .before .before .before .loop .inv)
-          (c .before .before .before .loop-test .taken) (c .before .before .row-stop2 .ensures),
-    )))
+    (λ c κs. rw length-set (row-fits (c .before .before .before .before .loop .inv)
+    (c .before .before .before .loop-test .taken) (c .before .before .row-stop2 .ensures)))
     -- loop-less
-    (λ c. omega (
-      arith,
-      stop-range (c .before .before .before .before .before .before .before .loop .inv .wide)
-          (c .before .before .before .before .before .before .loop-test .taken)
-          (c .before .before .before .before .before .row-stop2 .ensures),
-    ))
+    (λ c. nearer (c .before .before .before .before .before .before .before .loop .inv .wide)
+    (c .before .before .before .before .before .before .loop-test .taken)
+    (c .before .before .before .before .before .row-stop2 .ensures))
     -- loop-again
     (λ c. go (c .before .before .before .before .before .before .before .loop .inv)
     (c .before .before .before .before .before .before .loop-test .taken)
