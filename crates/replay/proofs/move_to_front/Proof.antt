@@ -1,4 +1,4 @@
--- `move_to_front` is safe and ends.
+-- `replay::move_to_front` is safe and ends.
 use Prim.Native.Nat.{_-_, _≤_}
 use lib.ListN.{length, length-set}
 use mathlib.Core.Path.{_≡_}

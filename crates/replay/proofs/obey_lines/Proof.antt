@@ -1,4 +1,4 @@
--- `obey_lines` is safe and ends: each turn leaves fewer bytes.
+-- `replay::obey_lines` is safe and ends: each turn leaves fewer bytes.
 use Prim.Native.Nat.{_≤_}
 use lib.ListN.{length, length-take, length-drop}
 use mathlib.Core.Path.{_≡_}

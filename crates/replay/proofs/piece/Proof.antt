@@ -1,4 +1,4 @@
--- `piece` is safe.
+-- `replay::piece` is safe.
 use lib.ListN.{length-take}
 use borrow.Author.Needs.{needs}
 use native.Mathlib.Omega.{arith}

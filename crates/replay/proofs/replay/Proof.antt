@@ -1,4 +1,4 @@
--- `replay` is safe and ends. The measure is how many pieces are left.
+-- `replay::replay` is safe and ends. The measure is how many pieces are left.
 use lib.ListN.{length}
 use mathlib.Core.Path.{_≡_}
 use native.Mathlib.Omega.{arith}

@@ -1,5 +1,4 @@
--- `power_on_state` meets its contract.
--- Assumes nothing.
+-- `state::power_on_state` meets its contract.
 use Rattle.rules.specs.Possible.{powerOn}
 use borrow.Author.Needs.{needs}
 use Rattle.state.proofs.power_on_state.Statement.{statement}

@@ -1,4 +1,4 @@
--- `bounds::within` is right.
+-- `replay::bounds::within` is right.
 use lib.ListN.{length-take}
 use borrow.Author.Needs.{needs}
 use native.Mathlib.Omega.{arith}

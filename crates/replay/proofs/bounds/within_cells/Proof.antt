@@ -1,4 +1,4 @@
--- `bounds::within_cells` is right.
+-- `replay::bounds::within_cells` is right.
 use lib.ListN.{length-take}
 use borrow.Author.Needs.{needs}
 use native.Mathlib.Omega.{arith}

@@ -1,4 +1,4 @@
--- `call::press` is safe: what was replied lies within the room, as the terminal promises.
+-- `replay::call::press` is safe: what was replied lies within the room, as the terminal promises.
 use borrow.Author.Needs.{needs}
 use native.Mathlib.Omega.{arith}
 use Rattle.replay.proofs.call.press.Statement.{statement}

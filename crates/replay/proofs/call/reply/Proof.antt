@@ -1,4 +1,4 @@
--- `call::reply` is safe.
+-- `replay::call::reply` is safe.
 use lib.ListN.{length-take}
 use borrow.Author.Needs.{needs}
 use native.Mathlib.Omega.{arith}

@@ -1,4 +1,4 @@
--- `call::run` is safe: what was replied lies within the room, as the terminal promises.
+-- `replay::call::run` is safe: what was replied lies within the room, as the terminal promises.
 use borrow.Author.Needs.{needs}
 use native.Mathlib.Omega.{arith}
 use Rattle.replay.proofs.call.run.Statement.{statement}

@@ -1,4 +1,4 @@
--- `call::untouched` is right. The invariant: all is EEh before i.
+-- `replay::call::untouched` is right. The invariant: all is EEh before i.
 use Prim.Native.Nat.{_-_}
 use Rattle.replay.proofs.Rooms.{Looking, look-start, look-other, look-on, look-end}
 use lib.ListN.{length}

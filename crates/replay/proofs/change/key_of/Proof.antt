@@ -1,4 +1,4 @@
--- `change::key_of` is safe and ends.
+-- `replay::change::key_of` is safe and ends.
 use Prim.Native.Nat.{_-_, _≤_}
 use native.Mathlib.Omega.{arith}
 use Rattle.replay.proofs.change.key_of.Statement.{statement}

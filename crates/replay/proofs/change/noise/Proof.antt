@@ -1,4 +1,4 @@
--- `change::noise` is safe and ends.
+-- `replay::change::noise` is safe and ends.
 use Prim.Native.Nat.{_-_, _≤_}
 use lib.ListN.{length, length-set}
 use mathlib.Core.Path.{_≡_}

@@ -1,4 +1,4 @@
--- `digest::of` is right. The invariant: the digest is h after i cells.
+-- `replay::digest::of` is right. The invariant: the digest is h after i cells.
 use Prim.Native.Nat.{_-_}
 use Rattle.replay.proofs.Fnv.{Digesting, digest-start, digest-on, digest-end}
 use lib.ListN.{length}

@@ -1,4 +1,4 @@
--- `digest::times_prime` is right: the shifts add up to the product.
+-- `replay::digest::times_prime` is right: the shifts add up to the product.
 use Rattle.replay.proofs.Fnv.{product}
 use borrow.Author.Needs.{needs}
 use Rattle.replay.proofs.digest.times_prime.Statement.{statement}

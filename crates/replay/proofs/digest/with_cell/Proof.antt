@@ -1,4 +1,4 @@
--- `digest::with_cell` is right.
+-- `replay::digest::with_cell` is right.
 use Prim.Native.Nat.{ℕ, _/_}
 use Rattle.replay.specs.Digest.{withByte, withCell}
 use mathlib.Core.Path.{ap, _∙_}

@@ -1,4 +1,4 @@
--- `sequence::before_plus` is safe.
+-- `replay::sequence::before_plus` is safe.
 use lib.ListN.{length-take}
 use borrow.Author.Needs.{needs}
 use native.Mathlib.Omega.{arith}

@@ -1,4 +1,4 @@
--- `sequence::digits` is safe and ends.
+-- `replay::sequence::digits` is safe and ends.
 use Prim.Native.Nat.{_≤_, _<_}
 use native.Mathlib.Omega.{arith}
 use Rattle.replay.proofs.sequence.digits.Statement.{statement}

@@ -1,4 +1,4 @@
--- `sequence::key_text` is safe and ends.
+-- `replay::sequence::key_text` is safe and ends.
 use Prim.Native.Nat.{_-_, _≤_}
 use native.Mathlib.Omega.{arith}
 use Rattle.replay.proofs.sequence.key_text.Statement.{statement}

@@ -1,4 +1,4 @@
--- `state_text::tabs` is safe and ends.
+-- `replay::state_text::tabs` is safe and ends.
 use Prim.Native.Nat.{_-_, _%_, _≤_}
 use lib.ListN.{length}
 use mathlib.Core.Path.{_≡_}

@@ -1,4 +1,4 @@
--- `text::byte` is right.
+-- `replay::text::byte` is right.
 use Rattle.replay.proofs.Hex.{word-other, word-bad, word-byte}
 use borrow.Author.Needs.{needs}
 use Rattle.replay.proofs.text.byte.Statement.{statement}

@@ -1,4 +1,4 @@
--- `text::byte_string` is right.
+-- `replay::text::byte_string` is right.
 use Rattle.replay.proofs.Hex.{string-empty, string-dash, string-other}
 use borrow.Author.Needs.{needs}
 use Rattle.replay.proofs.text.byte_string.Statement.{statement}

@@ -1,4 +1,4 @@
--- `text::decimal_digit` is right.
+-- `replay::text::decimal_digit` is right.
 use Rattle.replay.proofs.Numbers.{digit-is, digit-below, digit-above}
 use borrow.Author.Needs.{needs}
 use Rattle.replay.proofs.text.decimal_digit.Statement.{statement}

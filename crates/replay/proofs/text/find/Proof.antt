@@ -1,4 +1,4 @@
--- `text::find` is right. The invariant: b does not stand before i.
+-- `replay::text::find` is right. The invariant: b does not stand before i.
 use Prim.Native.Nat.{_-_}
 use Rattle.replay.proofs.Words.{Searching, search-start, search-here, search-on, search-end}
 use lib.ListN.{length}

@@ -1,4 +1,4 @@
--- `text::first` is right.
+-- `replay::text::first` is right.
 use Prim.Native.Nat.{ℕ}
 use lib.ListN.{take, length-take}
 use mathlib.Core.Path.{ap}

@@ -1,4 +1,4 @@
--- `text::hex_byte` is right.
+-- `replay::text::hex_byte` is right.
 use Rattle.replay.proofs.Hex.{byte-bad-high, byte-bad-low, byte-is}
 use borrow.Author.Needs.{needs}
 use Rattle.replay.proofs.text.hex_byte.Statement.{statement}

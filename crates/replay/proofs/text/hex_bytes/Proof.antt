@@ -1,4 +1,4 @@
--- `text::hex_bytes` is right. The invariant: the first n bytes of the room are right.
+-- `replay::text::hex_bytes` is right. The invariant: the first n bytes of the room are right.
 use Prim.Native.Nat.{_-_, _/_}
 use Rattle.replay.proofs.Hex.{put-odd, put-small, Putting, put-start, put-bad, put-on, put-end}
 use lib.ListN.{length}

@@ -1,4 +1,4 @@
--- `text::hex_digit` is right.
+-- `replay::text::hex_digit` is right.
 use Rattle.replay.proofs.Hex.{hex-below, hex-decimal, hex-between, hex-letter, hex-above}
 use borrow.Author.Needs.{needs}
 use Rattle.replay.proofs.text.hex_digit.Statement.{statement}

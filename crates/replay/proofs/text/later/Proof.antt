@@ -1,4 +1,4 @@
--- `text::later` is right.
+-- `replay::text::later` is right.
 use Rattle.replay.proofs.Words.{later-some, later-none}
 use borrow.Author.Needs.{needs}
 use Rattle.replay.proofs.text.later.Statement.{statement}

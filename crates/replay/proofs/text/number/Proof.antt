@@ -1,4 +1,4 @@
--- `text::number` is right. The invariant: the number is n after i digits.
+-- `replay::text::number` is right. The invariant: the number is n after i digits.
 use Prim.Native.Nat.{_-_}
 use Rattle.replay.proofs.Numbers.{Reading, read-start, read-none, read-bad, read-large, read-on, read-end}
 use lib.ListN.{length}

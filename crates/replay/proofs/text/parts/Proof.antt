@@ -1,4 +1,4 @@
--- `text::parts` is right.
+-- `replay::text::parts` is right.
 use borrow.Author.Tests.{eq-eqb, ne-eqb}
 use native.Mathlib.Omega.{arith}
 use Rattle.replay.proofs.text.parts.Statement.{statement}

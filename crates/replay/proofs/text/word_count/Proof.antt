@@ -1,4 +1,4 @@
--- `text::word_count` is right. The invariant: n words are known after i bytes.
+-- `replay::text::word_count` is right. The invariant: n words are known after i bytes.
 use Prim.Native.Nat.{_-_}
 use Rattle.replay.proofs.Words.{Counting, count-start, count-on, count-end}
 use lib.ListN.{length}

@@ -1,4 +1,4 @@
--- `trace::hex_bytes` is safe and ends.
+-- `replay::trace::hex_bytes` is safe and ends.
 use Prim.Native.Nat.{_-_, _≤_}
 use lib.ListN.{length}
 use mathlib.Core.Path.{_≡_}

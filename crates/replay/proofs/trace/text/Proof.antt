@@ -1,4 +1,4 @@
--- `trace::text` is safe and ends.
+-- `replay::trace::text` is safe and ends.
 use Prim.Native.Nat.{_-_, _≤_}
 use lib.ListN.{length}
 use mathlib.Core.Path.{_≡_}

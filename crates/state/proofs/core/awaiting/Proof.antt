@@ -1,5 +1,4 @@
--- `awaiting` meets its contract: the key is the empty one.
--- Assumes nothing.
+-- `state::core::awaiting` meets its contract: the key is the empty one.
 use borrow.Author.Needs.{needs}
 use Rattle.state.proofs.core.awaiting.Statement.{statement}
 use Rattle.state.proofs.core.awaiting.Tie as tie

@@ -1,5 +1,4 @@
--- `with_mode` meets its contract: each arm is a clause of the definition.
--- Assumes nothing.
+-- `state::core::with_mode` meets its contract: each arm is a clause of the definition.
 use Rattle.rules.specs.State.{withMode}
 use borrow.Author.Needs.{needs}
 use Rattle.state.proofs.core.with_mode.Statement.{statement}

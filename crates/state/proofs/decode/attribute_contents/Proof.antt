@@ -1,5 +1,4 @@
--- `attribute_contents` meets its contract.
--- Assumes nothing.
+-- `state::decode::attribute_contents` meets its contract.
 use Rattle.state.proofs.Tests.{tests}
 use Rattle.rules.specs.Decode.{attributeContents}
 use Rattle.state.proofs.decode.attribute_contents.Statement.{statement}

@@ -1,5 +1,4 @@
--- `control` meets its contract: each arm is a row of the table, and the last one none of them.
--- Assumes nothing.
+-- `state::decode::control` meets its contract: each arm is a row of the table, and the last one none of them.
 use mathlib.Core.Path.{sym, ap}
 use Rattle.rules.specs.declared.Command.the-variants as Command
 use Rattle.rules.specs.declared.Decoded.the-variants as Decoded

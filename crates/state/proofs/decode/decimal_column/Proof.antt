@@ -1,5 +1,4 @@
--- `decimal_column` meets its contract: fewer than 3 digits make less than 100, so the sums fit.
--- Assumes nothing.
+-- `state::decode::decimal_column` meets its contract: fewer than 3 digits make less than 100, so the sums fit.
 use native.Mathlib.Omega.{arith}
 use borrow.Author.Tests.{lt-ltb, le-ltb, le-leb, lt-leb}
 use Rattle.state.proofs.Sequences.{smaller}

@@ -1,5 +1,4 @@
--- `decode` meets its contract: each arm is a clause of the definition; a possible sequence gives what its callees require.
--- Assumes nothing.
+-- `state::decode::decode` meets its contract: each arm is a clause of the definition; a possible sequence gives what its callees require.
 use mathlib.Core.Path.{_∙_}
 use Rattle.rules.specs.Decode.{decodeRule}
 use Rattle.state.proofs.Sequences.{row-digits, column-digits, text-key}

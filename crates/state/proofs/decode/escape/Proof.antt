@@ -1,5 +1,4 @@
--- `escape` meets its contract: each arm is a row of the table, and the last one none of them.
--- Assumes nothing.
+-- `state::decode::escape` meets its contract: each arm is a row of the table, and the last one none of them.
 use mathlib.Core.Path.{sym, ap}
 use Rattle.rules.specs.declared.Answer.the-variants as Answer
 use Rattle.rules.specs.declared.Decoded.the-variants as Decoded

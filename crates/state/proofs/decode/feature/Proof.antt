@@ -1,5 +1,4 @@
--- `feature` meets its contract.
--- Assumes nothing.
+-- `state::decode::feature` meets its contract.
 use mathlib.Core.Path.{_∙_}
 use borrow.Author.Tests.{ne-eqb}
 use Rattle.state.proofs.Tests.{tests}

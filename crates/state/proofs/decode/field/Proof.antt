@@ -1,5 +1,4 @@
--- `field` meets its contract.
--- Assumes nothing.
+-- `state::decode::field` meets its contract.
 use mathlib.Core.Path.{_∙_}
 use borrow.Author.Tests.{lt-leb}
 use Rattle.rules.specs.Decode.{judged, fieldRule}

@@ -1,5 +1,4 @@
--- `idle` meets its contract.
--- Assumes nothing.
+-- `state::decode::idle` meets its contract.
 use mathlib.Core.Path.{sym, _∙_}
 use borrow.Author.Tests.{lt-ltb}
 use Rattle.state.proofs.Tests.{tests, pick-true}

@@ -1,5 +1,4 @@
--- `judged` meets its contract.
--- Assumes nothing.
+-- `state::decode::judged` meets its contract.
 use Rattle.rules.specs.Decode.{judged}
 use Rattle.state.proofs.decode.judged.Statement.{statement}
 use Rattle.state.proofs.decode.judged.Tie as tie

@@ -1,5 +1,4 @@
--- `key_over` meets its contract.
--- Assumes nothing.
+-- `state::decode::key_over` meets its contract.
 use Rattle.state.proofs.Tests.{tests}
 use Rattle.rules.specs.Decode.{keyOverRule}
 use Rattle.state.proofs.decode.key_over.Statement.{statement}

@@ -1,5 +1,4 @@
--- `key_text` meets its contract.
--- Assumes nothing.
+-- `state::decode::key_text` meets its contract.
 use Rattle.state.proofs.Tests.{tests}
 use borrow.Author.Tests.{eq-eqb}
 use Rattle.rules.specs.Decode.{keyTextRule}

@@ -1,5 +1,4 @@
--- `key_value` meets its contract.
--- Assumes nothing.
+-- `state::decode::key_value` meets its contract.
 use Rattle.rules.specs.Decode.{keyValueRule}
 use borrow.Author.Needs.{needs}
 use Rattle.state.proofs.decode.key_value.Statement.{statement}

@@ -1,5 +1,4 @@
--- `split` meets its contract.
--- Assumes nothing.
+-- `state::decode::split` meets its contract.
 use Rattle.state.proofs.Tests.{tests}
 use Rattle.rules.specs.Decode.{splitRule}
 use Rattle.state.proofs.decode.split.Statement.{statement}

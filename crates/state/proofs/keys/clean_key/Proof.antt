@@ -1,5 +1,4 @@
--- `clean_key` meets its contract: at most 8 bytes, or a length that says more than there are.
--- Assumes nothing.
+-- `state::keys::clean_key` meets its contract: at most 8 bytes, or a length that says more than there are.
 use mathlib.Core.Path.{_≡_}
 use native.Mathlib.Omega.{arith}
 use lib.ListN.{length}

@@ -1,5 +1,4 @@
--- `grown` meets its contract: the byte is written where the zeros begin.
--- Assumes nothing.
+-- `state::keys::grown` meets its contract: the byte is written where the zeros begin.
 use mathlib.Core.Path.{_≡_}
 use lib.ListN.{length}
 use Rattle.state.proofs.KeyText.{grown-key}

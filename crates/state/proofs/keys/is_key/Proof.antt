@@ -1,5 +1,4 @@
--- `is_key` meets its contract.
--- Assumes nothing.
+-- `state::keys::is_key` meets its contract.
 use mathlib.Core.Path.{_∙_}
 use Rattle.rules.specs.Possible.{isKey}
 use borrow.Author.Needs.{needs}

@@ -1,5 +1,4 @@
--- `key_at` meets its contract: the place of a key value is below 32.
--- Assumes nothing.
+-- `state::keys::key_at` meets its contract: the place of a key value is below 32.
 use native.Mathlib.Omega.{arith}
 use Rattle.state.proofs.KeyText.{value}
 use borrow.Author.Needs.{needs}

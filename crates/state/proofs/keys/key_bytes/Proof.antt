@@ -1,5 +1,4 @@
--- `key_bytes`: the sum so far and the bytes of the keys from i on are the bytes of all.
--- Assumes nothing.
+-- `state::keys::key_bytes` meets its contract. The loop: the sum so far and the bytes of the keys from i on are the bytes of all.
 use mathlib.Core.Path.{_≡_, ap}
 use mathlib.Core.List.{[]}
 use Prim.Native.Nat.{_+_, _*_, _≤_, _<_, _-_}

@@ -1,5 +1,4 @@
--- `key_place` meets its contract: a key value is 40h or more.
--- Assumes nothing.
+-- `state::keys::key_place` meets its contract: a key value is 40h or more.
 use native.Mathlib.Omega.{arith}
 use Rattle.state.proofs.Tests.{tests}
 use Rattle.state.proofs.KeyText.{value}

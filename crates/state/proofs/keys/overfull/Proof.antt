@@ -1,5 +1,4 @@
--- `overfull` meets its contract.
--- Assumes nothing.
+-- `state::keys::overfull` meets its contract.
 use Rattle.rules.specs.Step.{overfull}
 use borrow.Author.Needs.{needs}
 use Rattle.state.proofs.keys.overfull.Statement.{statement}

@@ -1,5 +1,4 @@
--- `set_key` meets its contract.
--- Assumes nothing.
+-- `state::keys::set_key` meets its contract.
 use mathlib.Core.Path.{_≡_, sym}
 use native.Mathlib.Omega.{arith}
 use lib.ListN.{length}

@@ -1,5 +1,4 @@
--- `zeroed`: up to i the bytes are those of the key with zeros behind them.
--- Assumes nothing.
+-- `state::keys::zeroed` meets its contract. The loop: up to i the bytes are those of the key with zeros behind them.
 use mathlib.Core.Path.{_≡_, sym, _∙_}
 use Prim.Native.Nat.{_≤_, _-_}
 use native.Mathlib.Omega.{arith}

@@ -1,5 +1,4 @@
--- `attributes_ok` meets its contract: the array is its four elements.
--- Assumes nothing.
+-- `state::possible::attributes_ok` meets its contract: the array is its four elements.
 use mathlib.Core.Path.{_≡_, _∙_}
 use lib.ListN.{length}
 use Rattle.state.proofs.Tests.{both-true}

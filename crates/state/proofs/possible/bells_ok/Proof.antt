@@ -1,5 +1,4 @@
--- `bells_ok` meets its contract.
--- Assumes nothing.
+-- `state::possible::bells_ok` meets its contract.
 use mathlib.Core.Path.{sym}
 use native.Mathlib.Omega.{arith}
 use borrow.Author.Tests.{lt-ltb}

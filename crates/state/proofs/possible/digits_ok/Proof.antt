@@ -1,5 +1,4 @@
--- `digits_ok` meets its contract.
--- Assumes nothing.
+-- `state::possible::digits_ok` meets its contract.
 use borrow.Author.Tests.{le-leb, lt-leb}
 use borrow.Author.Needs.{needs}
 use Rattle.state.proofs.possible.digits_ok.Statement.{statement}

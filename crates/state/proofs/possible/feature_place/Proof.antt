@@ -1,5 +1,4 @@
--- `feature_place` meets its contract.
--- Assumes nothing.
+-- `state::possible::feature_place` meets its contract.
 use Rattle.rules.specs.Possible.{featurePlace}
 use borrow.Author.Needs.{needs}
 use Rattle.state.proofs.possible.feature_place.Statement.{statement}

@@ -1,5 +1,4 @@
--- `features_ok` meets its contract: the array is its five elements.
--- Assumes nothing.
+-- `state::possible::features_ok` meets its contract: the array is its five elements.
 use mathlib.Core.Path.{_≡_, _∙_}
 use lib.ListN.{length}
 use Rattle.state.proofs.Tests.{both-true}

@@ -1,5 +1,4 @@
--- `is_attribute` meets its contract.
--- Assumes nothing.
+-- `state::possible::is_attribute` meets its contract.
 use mathlib.Core.Path.{_∙_}
 use Rattle.rules.specs.Possible.{isAttribute}
 use borrow.Author.Needs.{needs}

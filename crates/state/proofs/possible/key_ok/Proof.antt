@@ -1,5 +1,4 @@
--- `key_ok` meets its contract.
--- Assumes nothing.
+-- `state::possible::key_ok` meets its contract.
 use borrow.Author.Tests.{le-leb, lt-leb}
 use Rattle.rules.specs.Possible.{keyOk}
 use borrow.Author.Needs.{needs}

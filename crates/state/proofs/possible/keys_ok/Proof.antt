@@ -1,5 +1,4 @@
--- `keys_ok`: the keys from i on decide.
--- Assumes nothing.
+-- `state::possible::keys_ok` meets its contract. The loop: the keys from i on decide.
 use mathlib.Core.Path.{_≡_, sym, _∙_}
 use mathlib.Core.List.{[]}
 use Prim.Native.Nat.{_≤_, _<_, _-_}

@@ -1,5 +1,4 @@
--- `pending_ok` meets its contract: each arm is a clause of the definition.
--- Assumes nothing.
+-- `state::possible::pending_ok` meets its contract: each arm is a clause of the definition.
 use mathlib.Core.Path.{_∙_}
 use Rattle.rules.specs.Possible.{pendingOk}
 use borrow.Author.Needs.{needs}

@@ -1,5 +1,4 @@
--- `possible` meets its contract.
--- Assumes nothing.
+-- `state::possible::possible` meets its contract.
 use mathlib.Core.Path.{_∙_}
 use Rattle.rules.specs.Possible.{possible}
 use borrow.Author.Needs.{needs}

@@ -1,5 +1,4 @@
--- `power_of_ten` meets its contract.
--- Assumes nothing.
+-- `state::possible::power_of_ten` meets its contract.
 use mathlib.Core.Path.{_≡_, sym, ap}
 use Prim.Native.Nat.{ℕ, _^_}
 use native.Mathlib.Omega.{arith}

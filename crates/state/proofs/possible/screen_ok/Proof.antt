@@ -1,5 +1,4 @@
--- `screen_ok` meets its contract.
--- Assumes nothing.
+-- `state::possible::screen_ok` meets its contract.
 use mathlib.Core.Path.{sym, _∙_}
 use borrow.Author.Tests.{eq-eqb, ne-eqb}
 use Rattle.state.proofs.Tests.{pick-true, pick-false}

@@ -1,5 +1,4 @@
--- `split_ok` meets its contract.
--- Assumes nothing.
+-- `state::possible::split_ok` meets its contract.
 use mathlib.Core.Path.{_∙_}
 use Rattle.rules.specs.Possible.{splitOk}
 use borrow.Author.Needs.{needs}

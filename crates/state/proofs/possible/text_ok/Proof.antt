@@ -1,5 +1,4 @@
--- `text_ok`: the bytes from i on decide.
--- Assumes nothing.
+-- `state::possible::text_ok` meets its contract. The loop: the bytes from i on decide.
 use mathlib.Core.Path.{_≡_, sym, _∙_}
 use Prim.Native.Nat.{_≤_, _<_, _-_}
 use native.Mathlib.Omega.{arith}

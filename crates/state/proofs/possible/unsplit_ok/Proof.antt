@@ -1,5 +1,4 @@
--- `unsplit_ok` meets its contract.
--- Assumes nothing.
+-- `state::possible::unsplit_ok` meets its contract.
 use mathlib.Core.Path.{_∙_}
 use Rattle.rules.specs.Possible.{unsplitOk}
 use borrow.Author.Needs.{needs}

@@ -1,5 +1,4 @@
--- `cursor_of` meets its contract.
--- Assumes nothing.
+-- `state::screen::cursor_of` meets its contract.
 use Rattle.state.proofs.Tests.{tests}
 use Rattle.rules.specs.State.{cursorOf}
 use Rattle.state.proofs.screen.cursor_of.Statement.{statement}

@@ -1,5 +1,4 @@
--- `segment_bottom` meets its contract.
--- Assumes nothing.
+-- `state::screen::segment_bottom` meets its contract.
 use Rattle.state.proofs.Tests.{tests}
 use Rattle.rules.specs.State.{segmentBottom}
 use borrow.Author.Needs.{needs}

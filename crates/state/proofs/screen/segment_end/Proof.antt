@@ -1,5 +1,4 @@
--- `segment_end` meets its contract: the last row is at most the split row or 24, so the product fits.
--- Assumes nothing.
+-- `state::screen::segment_end` meets its contract: the last row is at most the split row or 24, so the product fits.
 use native.Mathlib.Omega.{arith}
 use Rattle.state.proofs.Segments.{bottom-most}
 use borrow.Author.Needs.{needs}

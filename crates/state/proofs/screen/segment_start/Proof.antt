@@ -1,5 +1,4 @@
--- `segment_start` meets its contract: the first row is at most the split row, so the product fits.
--- Assumes nothing.
+-- `state::screen::segment_start` meets its contract: the first row is at most the split row, so the product fits.
 use native.Mathlib.Omega.{arith}
 use Rattle.state.proofs.Segments.{top-most}
 use borrow.Author.Needs.{needs}

@@ -1,5 +1,4 @@
--- `segment_top` meets its contract.
--- Assumes nothing.
+-- `state::screen::segment_top` meets its contract.
 use mathlib.Core.Path.{_≡_, sym, _∙_}
 use Prim.Native.Nat.{_-_}
 use native.Mathlib.Omega.{arith}

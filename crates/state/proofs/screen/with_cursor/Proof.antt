@@ -1,5 +1,4 @@
--- `with_cursor` meets its contract.
--- Assumes nothing.
+-- `state::screen::with_cursor` meets its contract.
 use Rattle.state.proofs.Tests.{tests}
 use Rattle.rules.specs.State.{withCursor}
 use Rattle.state.proofs.screen.with_cursor.Statement.{statement}

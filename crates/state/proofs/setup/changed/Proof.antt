@@ -1,5 +1,4 @@
--- `changed` meets its contract: each arm is a clause of the definition.
--- Assumes nothing.
+-- `state::setup::changed` meets its contract: each arm is a clause of the definition.
 use Rattle.rules.specs.State.{changed}
 use borrow.Author.Needs.{needs}
 use Rattle.state.proofs.setup.changed.Statement.{statement}

@@ -1,5 +1,4 @@
--- `set_tab` meets its contract.
--- Assumes nothing.
+-- `state::setup::set_tab` meets its contract.
 use mathlib.Core.Path.{_≡_, sym}
 use native.Mathlib.Omega.{arith}
 use lib.ListN.{length}
