@@ -85,8 +85,11 @@ put-text-spec =
     let i = c .before .before .before .loop .inv in
     le-trans (stop-range (i .wide) (c .before .before .loop-test .taken) (c .before .row-stop2 .ensures) .1) (i .inside))
     -- put-cells-requires-2
-    (λ c κs. rw length-set (row-fits (c .before .before .before .before .loop .inv)
-    (c .before .before .before .loop-test .taken) (c .before .before .row-stop2 .ensures)))
+    (λ c κs. rw length-set (omega (
+      arith,
+      row-fits (c .before .before .before .before .loop .inv)
+          (c .before .before .before .loop-test .taken) (c .before .before .row-stop2 .ensures),
+    )))
     -- loop-less
     (λ c. nearer (c .before .before .before .before .before .before .before .loop .inv .wide)
     (c .before .before .before .before .before .before .loop-test .taken)
