@@ -62,11 +62,12 @@ fn main() -> ExitCode {
 
 fn report() -> Result<String, String> {
     let rows = WORKLOADS.iter().map(row).collect::<Result<Vec<_>, _>>()?;
+    let growth = WORKLOADS.each_ref().map(grown);
     let singles = [single("step", 400.0, step), single("press", 300.0, press)];
     let mut out = String::new();
     introduction(&mut out);
     peers_table(&mut out, &rows);
-    growth_table(&mut out);
+    growth_table(&mut out, &growth);
     singles_table(&mut out, &singles);
     targets(&mut out, &rows, &singles);
     Ok(out)
@@ -113,6 +114,15 @@ fn best(least: &mut f64, stream: &[u8], play: fn(&[u8]) -> Page, expected: &Page
     }
     *least = least.min(time);
     Ok(())
+}
+
+/// The proved terminal alone, on a workload of each size.
+fn grown(workload: &Workload) -> [f64; 3] {
+    let stream = workload.stream(GROWTH[2]).wy50;
+    GROWTH.map(|size| {
+        let turns = ROUNDS * (GROWTH[1] / size).max(1); // a short one is easily disturbed
+        (0..turns).fold(f64::MAX, |least, _| least.min(timed(&stream[..size], peers::proved).0))
+    })
 }
 
 /// The page as it looks: a cell without text is a space.
@@ -218,16 +228,14 @@ fn peers_table(out: &mut String, rows: &[Row]) {
     line!(out);
 }
 
-fn growth_table(out: &mut String) {
+fn growth_table(out: &mut String, growth: &[[f64; 3]]) {
     line!(out, "## As the input grows");
     line!(out);
     line!(out, "Nanoseconds a host byte of the proved terminal.");
     line!(out);
     line!(out, "| workload | {} |", GROWTH.map(|size| format!("{} MB", size / 1_000_000)).join(" | "));
     line!(out, "|---|---|---|---|");
-    for workload in &WORKLOADS {
-        let stream = workload.stream(GROWTH[2]).wy50;
-        let times = GROWTH.map(|size| (0..ROUNDS).fold(f64::MAX, |least, _| least.min(timed(&stream[..size], peers::proved).0)));
+    for (workload, times) in WORKLOADS.iter().zip(growth) {
         line!(out, "| {} | {} |", workload.name, times.map(|time| format!("{time:.2}")).join(" | "));
     }
     line!(out);
