@@ -120,7 +120,14 @@ module _ (a e v : ℕ) (p x : List ℕ) (h : a ≤ e) (k : e ≤ length p) where
       let r = drop (e - a) (drop a p) in
       let s : a + (e - a + (i - a - (e - a))) ≡ i = omega arith in
       getD-second (take a p) (q ++ r) i (rw front (omega arith))
-      ∙ rw (front, getD-second q r (i - a) (rw middle (omega arith)), middle, getD-drop (e - a) (drop a p) (i - a - (e - a)) 0, getD-drop a p (e - a + (i - a - (e - a))) 0, s)
+      ∙ rw (
+        front,
+        getD-second q r (i - a) (rw middle (omega arith)),
+        middle,
+        getD-drop (e - a) (drop a p) (i - a - (e - a)) 0,
+        getD-drop a p (e - a + (i - a - (e - a))) 0,
+        s,
+      )
 
   at-front : (i : ℕ) → i < a → getD (within a e (filled false v) p) i 0 ≡ getD p i 0
   unfolding within

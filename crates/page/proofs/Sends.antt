@@ -153,13 +153,15 @@ module _ {w : ℕ} (k : Width w) (on : Bool) (a : ℕ) where
   unfolding textFrom cellsText
   rest-of-row r i [] h n = refl
   rest-of-row r i (v ∷ l) h n =
-      rw (no-break w a i (inside-row k r i h (omega arith))) (ap (λ (t : List ℕ). openCell on v ++ t) (rest-of-row r (suc i) l (omega arith) (omega arith)))
+      rw (no-break w a i (inside-row k r i h (omega arith)))
+      (ap (λ (t : List ℕ). openCell on v ++ t) (rest-of-row r (suc i) l (omega arith) (omega arith)))
 
   row-text : (i : ℕ) (l : List ℕ) → 0 < length l → i + length l ≤ rowEnd w i → textFrom w on a i l ≡ separator w a i ++ cellsText on l
   unfolding textFrom cellsText
   row-text i [] h n = absurd (omega arith)
   row-text i (v ∷ l) h n =
-      ap (λ (t : List ℕ). separator w a i ++ (openCell on v ++ t)) (rest-of-row (i / w) (suc i) l (omega (arith, row-start-le k i)) (omega (arith, row-is k i)))
+      ap (λ (t : List ℕ). separator w a i ++ (openCell on v ++ t))
+      (rest-of-row (i / w) (suc i) l (omega (arith, row-start-le k i)) (omega (arith, row-is k i)))
 
   first-row-text : (l : List ℕ) → a + length l ≤ rowEnd w a → textFrom w on a a l ≡ cellsText on l
   unfolding textFrom cellsText
@@ -307,5 +309,6 @@ module _ {w : ℕ} {on : Bool} {p : List ℕ} {a e i m : ℕ} {q : List ℕ} {at
           long = rw er (length-stored x (n + 1) (set r n 0x1f) ∙ length-set r n 0x1f ∙ c .long);
           fits = c .fits;
           count = omega (arith, row-length);
-          is = rw (en, er) (sym (stored-append x (rest w on p a e s) (n + 1) (set r n 0x1f))) ∙ sym (ap (λ (t : List ℕ). stored n t r) next-row) ∙ c .is;
+          is = rw (en, er) (sym (stored-append x (rest w on p a e s) (n + 1) (set r n 0x1f)))
+              ∙ sym (ap (λ (t : List ℕ). stored n t r) next-row) ∙ c .is;
         }

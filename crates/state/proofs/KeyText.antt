@@ -24,8 +24,16 @@ pub record Value (v : ℕ) : Type 0 where
 pub value : (v : ℕ) → isKey v ≡ true → Value v
 unfolding isKey
 value v h =
-    ⊎-elim (λ e. let r = among-range 0x40 16 v e in record { least = omega arith; below = omega arith; place = rw (lt-ltb v 0x60 (omega arith)) (omega arith) })
-    (λ e. let r = among-range 0x60 16 v e in record { least = omega arith; below = omega arith; place = rw (le-ltb v 0x60 (omega arith)) (omega arith) })
+    ⊎-elim (λ e. let r = among-range 0x40 16 v e in record {
+      least = omega arith;
+      below = omega arith;
+      place = rw (lt-ltb v 0x60 (omega arith)) (omega arith);
+    })
+    (λ e. let r = among-range 0x60 16 v e in record {
+      least = omega arith;
+      below = omega arith;
+      place = rw (le-ltb v 0x60 (omega arith)) (omega arith);
+    })
     (either-cases (among 0x40 16 v) (among 0x60 16 v) h)
 
 -- the bytes of a key of n bytes, with zeros behind them

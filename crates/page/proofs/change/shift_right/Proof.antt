@@ -13,7 +13,8 @@ use Rattle.page.proofs.change.shift_right.Tie as tie
 
 abbrev Inv-loop : tie.InvT-loop
 Inv-loop part₀ count value n first i₀ part i =
-    (n ≡ length part₀) × ((first ≡ length part₀ - (length part₀ - count)) × (((first ≤ i) × (i ≤ n)) × Joined i part₀ (shiftRight count value part₀) part))
+    (n ≡ length part₀) × ((first ≡ length part₀ - (length part₀ - count))
+    × (((first ≤ i) × (i ≤ n)) × Joined i part₀ (shiftRight count value part₀) part))
 
 abbrev μ-loop : tie.MeasureT-loop
 μ-loop part₀ count value n first i₀ part i = i

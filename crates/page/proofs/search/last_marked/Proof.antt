@@ -11,7 +11,8 @@ use Rattle.page.proofs.search.last_marked.Tie as tie
 
 abbrev Inv-loop : tie.InvT-loop
 Inv-loop page protect mark first end none at₀ at =
-    (first ≤ at) × ((at ≤ end) × (lastIn none (marksOf mark (guardedAt protect page)) first end ≡ lastIn none (marksOf mark (guardedAt protect page)) first at))
+    (first ≤ at) × ((at ≤ end)
+    × (lastIn none (marksOf mark (guardedAt protect page)) first end ≡ lastIn none (marksOf mark (guardedAt protect page)) first at))
 
 abbrev μ-loop : tie.MeasureT-loop
 μ-loop page protect mark first end none at₀ at = at

@@ -25,8 +25,12 @@ loop-again : tie.Need-loop-again Inv-loop μ-loop
 loop-again c =
     let x = c .before .loop in
     let a = c .before .before .args in
-    let f : length (a .bytes) ≡ 8 = search needs in
-    (omega arith, omega arith, length-set (x .t) (x .i) 0 ∙ x .inv .2, zero-step (a .n) (a .bytes) (x .t) (x .i) (x .inv .0) (omega arith) (x .inv .2) f (x .inv .3))
+    let f : length (a .bytes) ≡ 8 = search needs in (
+      omega arith,
+      omega arith,
+      length-set (x .t) (x .i) 0 ∙ x .inv .2,
+      zero-step (a .n) (a .bytes) (x .t) (x .i) (x .inv .0) (omega arith) (x .inv .2) f (x .inv .3),
+    )
 
 returns : tie.Need-returns Inv-loop μ-loop
 returns c =

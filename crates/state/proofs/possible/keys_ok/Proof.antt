@@ -24,15 +24,26 @@ returns c =
     let x = c .before .before .before .before .loop in
     let keys = c .before .before .before .before .before .args .t1 in
     let h : x .i < length keys = search needs in
-    sym (x .inv .1 ∙ rw (drop-cons keys (x .i) record { len = 0; bytes = [] } h, ← c .before .key-ok .ensures, not-true (c .before .key-ok .result) (c .if1 .taken)))
+    sym (x .inv .1 ∙ rw (
+      drop-cons keys (x .i) record { len = 0; bytes = [] } h,
+      ← c .before .key-ok .ensures,
+      not-true (c .before .key-ok .result) (c .if1 .taken),
+    ))
 
 loop-again : tie.Need-loop-again Inv-loop μ-loop
 unfolding keysOk
 loop-again c =
     let x = c .before .before .before .before .loop in
     let keys = c .before .before .before .before .before .args .t1 in
-    let h : x .i < length keys = search needs in
-    (omega arith, x .inv .1 ∙ rw (drop-cons keys (x .i) record { len = 0; bytes = [] } h, ← c .before .key-ok .ensures, not-false (c .before .key-ok .result) (c .if1 .left), add-one))
+    let h : x .i < length keys = search needs in (
+      omega arith,
+      x .inv .1 ∙ rw (
+        drop-cons keys (x .i) record { len = 0; bytes = [] } h,
+        ← c .before .key-ok .ensures,
+        not-false (c .before .key-ok .result) (c .if1 .left),
+        add-one,
+      ),
+    )
 
 returns-2 : tie.Need-returns-2 Inv-loop μ-loop
 unfolding keysOk
