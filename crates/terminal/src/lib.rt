@@ -82,7 +82,7 @@ pub fn step(page: &mut [u16], state: State, byte: u8, reply: &mut [u8]) -> StepR
     }
 }
 
-// The run over many bytes. Ruled out: one that takes no byte, or counts the byte that answered 6 as taken.
+// The run over many bytes. Ruled out: one that makes up a count, or counts the byte that answered 6 as taken.
 pub fn run(page: &mut [u16], state: State, input: &[u8], reply: &mut [u8]) -> RunResult
     ensures { λ r. ⌜ Completed (runRule (now (page .entry)) state (now (input .entry)) (length (now (reply .entry)))) r (now (input .entry)) (now (page .exit)) (now (reply .entry)) (now (reply .exit)) ⌝ }
 {
@@ -111,8 +111,8 @@ pub fn run(page: &mut [u16], state: State, input: &[u8], reply: &mut [u8]) -> Ru
     }
 }
 
-// The bytes that a run did not take, as that part of the input; past its end there are none. Ruled out: one that hands back the bytes
-// taken, or none.
+// The bytes that a run did not take, as that part of the input; past its end there are none. Ruled out: one that hands back none, or all
+// of the input past its end.
 pub fn rest(input: &[u8], taken: usize) -> &[u8]
     ensures { λ r. ⌜ now r ≡ drop taken (now (input .entry)) ⌝ }
 {
