@@ -16,7 +16,6 @@ use Rattle.page.proofs.Room.{stored-append, stored-over}
 use Rattle.rules.specs.declared.Reply.{Reply}
 use Rattle.rules.specs.declared.Reply.the-variants as Reply
 use Rattle.rules.specs.Cell.{pick}
-use Rattle.rules.specs.Row.{width}
 use Rattle.rules.specs.Carry.{replied, textOf}
 use Rattle.rules.specs.Room.{over}
 
@@ -32,26 +31,26 @@ pub bytes-none : (bytes : List ℕ) (i : ℕ) → length bytes ≤ i → drop i 
 bytes-none bytes i h = drop-of-length-le bytes h
 
 -- the text of one cell
-pub cell-put : (on : Bool) (p : List ℕ) {x : Reply} {at : ℕ} → x ≡ Reply.Cell at → (w : List ℕ) → length (replied on p x) ≤ length w
-    → {w′ : List ℕ} → w′ ≡ stored 0 (textOf width on p at (at + 1)) w → w′ ≡ over (replied on p x) w
+pub cell-put : (width : ℕ) (on : Bool) (p : List ℕ) {x : Reply} {at : ℕ} → x ≡ Reply.Cell at → (w : List ℕ) → length (replied width on p x) ≤ length w
+    → {w′ : List ℕ} → w′ ≡ stored 0 (textOf width on p at (at + 1)) w → w′ ≡ over (replied width on p x) w
 unfolding replied
-cell-put on p {x} {at} told w fits h = rw (h, told) (stored-over (textOf width on p at (at + 1)) w (rw told at fits))
+cell-put width on p {x} {at} told w fits h = rw (h, told) (stored-over (textOf width on p at (at + 1)) w (rw told at fits))
 
 -- a text and CR: t is whether guarded cells are left out
-module _ (on : Bool) (p : List ℕ) {x : Reply} {all t : Bool} {a e : ℕ} (told : x ≡ Reply.Text all a e) (out : t ≡ pick all false on) where
-  text-told : replied on p x ≡ textOf width t p a e ++ 0x0d ∷ []
+module _ (width : ℕ) (on : Bool) (p : List ℕ) {x : Reply} {all t : Bool} {a e : ℕ} (told : x ≡ Reply.Text all a e) (out : t ≡ pick all false on) where
+  text-told : replied width on p x ≡ textOf width t p a e ++ 0x0d ∷ []
   unfolding replied
   text-told = rw (told, out)
 
-  pub text-counted : {n : ℕ} → n ≡ length (textOf width t p a e) → n + 1 ≡ length (replied on p x)
+  pub text-counted : {n : ℕ} → n ≡ length (textOf width t p a e) → n + 1 ≡ length (replied width on p x)
   text-counted h = rw text-told (omega (arith, length-append (textOf width t p a e) (0x0d ∷ [])))
 
-  module _ (w : List ℕ) (fits : length (replied on p x) ≤ length w) where
+  module _ (w : List ℕ) (fits : length (replied width on p x) ≤ length w) where
     pub text-fits : length (textOf width t p a e) + 1 ≤ length w
     text-fits = omega (arith, text-counted refl)
 
     pub text-put : {n : ℕ} {w′ : List ℕ} → n ≡ length (textOf width t p a e) → w′ ≡ stored 0 (textOf width t p a e) w
-        → set w′ n 0x0d ≡ over (replied on p x) w
+        → set w′ n 0x0d ≡ over (replied width on p x) w
     unfolding stored
     text-put h k =
         let r = textOf width t p a e in

@@ -10,7 +10,7 @@ use Prim.Native.Nat.{ℕ, zero-le, _<_, _≤_}
 use borrow.Author.Tests.{le-leb, lt-leb}
 use lib.ListN.{length}
 use Rattle.rules.specs.Search.{guardedAt}
-use Rattle.rules.specs.Carry.{Effect, quiet, applied, replied, landed, done, carried}
+use Rattle.rules.specs.Carry.{Effect, quiet, applied, replied, planWidth, landed, done, carried}
 use Rattle.rules.specs.Room.{over}
 use Rattle.rules.specs.declared.Core.{Core}
 use Rattle.rules.specs.declared.Plan.{Plan}
@@ -22,27 +22,28 @@ use Rattle.carry.specs.Carried.{Carried}
 pub carried-is : {e e′ : Effect} {r : CoreResult} {p w w′ : List ℕ} → e ≡ e′ → Carried e′ r p w w′ → Carried e r p w w′
 carried-is {e} {e′} {r} {p} {w} {w′} h k = subst (λ (x : Effect). Carried x r p w w′) (sym h) k
 
-module _ (p : List ℕ) (c : Core) (x : Plan) (w : List ℕ) {n : ℕ} (e : n ≡ length (replied (c .modes .protect) p (x .reply))) where
+module _ (p : List ℕ) (c : Core) (x : Plan) (w : List ℕ) {m n : ℕ} (wide : m ≡ planWidth x)
+    (e : n ≡ length (replied m (c .modes .protect) p (x .reply))) where
   pub no-room : length w < n
       → Carried (carried p c x (length w)) (record { answer = Answer.NoRoom; replied = 0; core = x .next; change = SetupChange.Nothing }) p w w
   unfolding carried over
   no-room h =
-      carried-is {e′ = quiet 6 c p} (rw (← e, lt-leb n (length w) h))
+      carried-is {e′ = quiet 6 c p} (rw (← wide, ← e, lt-leb n (length w) h))
       (record { answer = refl; core = λ z. absurd (false≢true (sym z)); change = refl; replied = refl; page = refl; room = refl; fits = zero-le })
 
-  pub carried-out : {p₁ p₂ w′ : List ℕ} {c′ : Core} → n ≤ length w → w′ ≡ over (replied (c .modes .protect) p (x .reply)) w
-      → p₁ ≡ applied (c .modes .protect) (x .first) p → p₂ ≡ applied (c .modes .protect) (x .second) p₁
+  pub carried-out : {p₁ p₂ w′ : List ℕ} {c′ : Core} → n ≤ length w → w′ ≡ over (replied m (c .modes .protect) p (x .reply)) w
+      → p₁ ≡ applied m (c .modes .protect) (x .first) p → p₂ ≡ applied m (c .modes .protect) (x .second) p₁
       → c′ ≡ landed (guardedAt (x .next .modes .protect) p₂) (x .land) (x .next)
       → Carried (carried p c x (length w)) (record { answer = x .answer; replied = n; core = c′; change = x .change }) p₂ w w′
   unfolding carried done
   carried-out h hw h₁ h₂ hc =
-      carried-is {e′ = done (c .modes .protect) p x} (rw (← e, le-leb n (length w) h))
+      carried-is {e′ = done (c .modes .protect) p x} (rw (← wide, ← e, le-leb n (length w) h))
       (record {
         answer = refl;
-        core = λ z. rw (hc, h₂, h₁);
+        core = λ z. rw (hc, h₂, h₁, ← wide);
         change = refl;
-        replied = e;
-        page = h₂ ∙ ap (applied (c .modes .protect) (x .second)) h₁;
-        room = hw;
+        replied = rw (← wide) e;
+        page = rw (← wide) (h₂ ∙ ap (applied m (c .modes .protect) (x .second)) h₁);
+        room = rw (← wide) hw;
         fits = h;
       })

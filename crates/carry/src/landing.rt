@@ -3,6 +3,7 @@ ghost use mathlib.Core.Path.{_≡_};
 ghost use mathlib.Core.Bool.{true};
 ghost use lib.ListN.{length};
 ghost use Rattle.rules.specs.Search.{guardedAt};
+ghost use Rattle.rules.specs.State.{pageLength};
 ghost use Rattle.rules.specs.Possible.{screenOk};
 ghost use Rattle.rules.specs.Good.{GoodLand};
 ghost use Rattle.rules.specs.Carry.{landed};
@@ -15,7 +16,7 @@ use state::screen::segment_start;
 use state::screen::with_cursor;
 
 pub fn land(page: &[u16], core: Core, l: Land) -> Core
-    requires { ⌜ (length (now page) ≡ 1920) × ((screenOk (core .screen) ≡ true) × GoodLand (core .screen) l) ⌝ }
+    requires { ⌜ (length (now page) ≡ pageLength (core .screen)) × ((screenOk (core .screen) ≡ true) × GoodLand (core .screen) l) ⌝ }
     ensures { λ r. ⌜ r ≡ landed (guardedAt (core .modes .protect) (now (page .entry))) l core ⌝ }
 {
     match l {

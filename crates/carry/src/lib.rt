@@ -1,6 +1,7 @@
 // A plan carried out: the only place that reads or writes a cell's contents.
 ghost use mathlib.Core.Path.{_≡_};
 ghost use lib.ListN.{length};
+ghost use Rattle.rules.specs.State.{pageLength};
 ghost use Rattle.rules.specs.Good.{GoodPlan};
 ghost use Rattle.rules.specs.Carry.{carried};
 ghost use Rattle.carry.specs.Carried.{Carried};
@@ -17,16 +18,19 @@ use rules::Core;
 use rules::CoreResult;
 use rules::Plan;
 use rules::SetupChange;
+use state::screen::width_of;
 use writes::write;
 
 // The room is judged before anything is written: a reply longer than it answers 6, and nothing has changed.
 pub fn carry_out(page: &mut [u16], core: Core, plan: Plan, room: &mut [u8]) -> CoreResult
-    requires { ⌜ (length (now page) ≡ 1920) × GoodPlan plan ⌝ }
+    requires { ⌜ (length (now page) ≡ pageLength (plan .next .screen)) × GoodPlan plan ⌝ }
     ensures { λ r. ⌜ Carried (carried (now (page .entry)) core plan (length (now (room .entry)))) r (now (page .exit)) (now (room .entry)) (now (room .exit)) ⌝ }
 {
     let on = core.modes.protect;
+    let screen = plan.next.screen;
+    let width = width_of(screen) as usize;
     let reply = plan.reply;
-    let n = reply_length(page, on, reply);
+    let n = reply_length(page, width, on, reply);
     if room.len() < n {
         let next = plan.next;
         return CoreResult {
@@ -36,11 +40,11 @@ pub fn carry_out(page: &mut [u16], core: Core, plan: Plan, room: &mut [u8]) -> C
             change: SetupChange::Nothing,
         };
     }
-    put_reply(page, on, reply, room);
+    put_reply(page, width, on, reply, room);
     let first = plan.first;
-    write(page, on, first);
+    write(page, width, on, first);
     let second = plan.second;
-    write(page, on, second);
+    write(page, width, on, second);
     let next = plan.next;
     let place = plan.land;
     let c = land(page, next, place);

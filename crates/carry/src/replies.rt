@@ -1,10 +1,11 @@
 // What a plan replies: its length, so that the room is judged first, and its bytes.
 ghost use mathlib.Core.Path.{_≡_};
-ghost use Prim.Native.Nat.{_+_, _/_, _%_, _≤_};
+ghost use Prim.Native.Nat.{_+_, _*_, _/_, _%_, _≤_};
 ghost use mathlib.Core.List.{[], _∷_};
 ghost use lib.ListN.{length};
 ghost use mathlib.Core.Bool.{false};
 ghost use Rattle.rules.specs.Cell.{pick};
+ghost use Rattle.rules.specs.Row.{Width};
 ghost use Rattle.rules.specs.Good.{GoodReply};
 ghost use Rattle.rules.specs.Carry.{digit as digitOf, replied};
 ghost use Rattle.rules.specs.Room.{over};
@@ -19,9 +20,9 @@ fn leaves_out(on: bool, all: bool) -> bool
     if all { false } else { on }
 }
 
-pub fn reply_length(page: &[u16], on: bool, x: Reply) -> usize
-    requires { ⌜ (length (now page) ≡ 1920) × GoodReply x ⌝ }
-    ensures { λ r. ⌜ r ≡ length (replied on (now (page .entry)) x) ⌝ }
+pub fn reply_length(page: &[u16], width: usize, on: bool, x: Reply) -> usize
+    requires { ⌜ (length (now page) ≡ 24 * width) × (GoodReply width x × Width width) ⌝ }
+    ensures { λ r. ⌜ r ≡ length (replied width on (now (page .entry)) x) ⌝ }
 {
     match x {
         Reply::Nothing => 0,
@@ -30,10 +31,10 @@ pub fn reply_length(page: &[u16], on: bool, x: Reply) -> usize
         Reply::Address(_, _) => 3,
         Reply::SegmentAddress(_, _, _) => 4,
         Reply::Decimal(_, _) => 7,
-        Reply::Cell(at) => text_length(page, 80, on, at as usize, at as usize + 1),
+        Reply::Cell(at) => text_length(page, width, on, at as usize, at as usize + 1),
         Reply::Text { all, from, to } => text_length(
             page,
-            80,
+            width,
             leaves_out(on, all),
             from as usize,
             to as usize,
@@ -78,9 +79,9 @@ fn put_decimal(room: &mut [u8], r: u8, c: u8)
     put_bytes(room, &bytes);
 }
 
-pub fn put_reply(page: &[u16], on: bool, x: Reply, room: &mut [u8])
-    requires { ⌜ (length (now page) ≡ 1920) × (GoodReply x × (length (replied on (now page) x) ≤ length (now room))) ⌝ }
-    ensures { λ r. ⌜ now (room .exit) ≡ over (replied on (now (page .entry)) x) (now (room .entry)) ⌝ }
+pub fn put_reply(page: &[u16], width: usize, on: bool, x: Reply, room: &mut [u8])
+    requires { ⌜ (length (now page) ≡ 24 * width) × ((GoodReply width x × Width width) × (length (replied width on (now page) x) ≤ length (now room))) ⌝ }
+    ensures { λ r. ⌜ now (room .exit) ≡ over (replied width on (now (page .entry)) x) (now (room .entry)) ⌝ }
 {
     match x {
         Reply::Nothing => {}
@@ -90,13 +91,13 @@ pub fn put_reply(page: &[u16], on: bool, x: Reply, room: &mut [u8])
         Reply::SegmentAddress(n, r, c) => put_bytes(room, &[n, r, c, 0x0d]),
         Reply::Decimal(r, c) => put_decimal(room, r, c),
         Reply::Cell(at) => {
-            put_text(room, page, 80, on, at as usize, at as usize + 1);
+            put_text(room, page, width, on, at as usize, at as usize + 1);
         }
         Reply::Text { all, from, to } => {
             let n = put_text(
                 room,
                 page,
-                80,
+                width,
                 leaves_out(on, all),
                 from as usize,
                 to as usize,

@@ -1,6 +1,8 @@
 // What a plan writes to the page.
 ghost use mathlib.Core.Path.{_≡_};
+ghost use Prim.Native.Nat.{_*_};
 ghost use lib.ListN.{length};
+ghost use Rattle.rules.specs.Row.{Width};
 ghost use Rattle.rules.specs.Good.{GoodWrite};
 ghost use Rattle.rules.specs.Carry.{applied};
 use page::change::fill_cells;
@@ -9,9 +11,9 @@ use page::change::shift_edit_run;
 use page::change::shift_rows;
 use rules::Write;
 
-pub fn write(page: &mut [u16], on: bool, w: Write)
-    requires { ⌜ (length (now page) ≡ 1920) × GoodWrite w ⌝ }
-    ensures { λ r. ⌜ now (page .exit) ≡ applied on w (now (page .entry)) ⌝ }
+pub fn write(page: &mut [u16], width: usize, on: bool, w: Write)
+    requires { ⌜ (length (now page) ≡ 24 * width) × (GoodWrite width w × Width width) ⌝ }
+    ensures { λ r. ⌜ now (page .exit) ≡ applied width on w (now (page .entry)) ⌝ }
 {
     match w {
         Write::Nothing => {}
@@ -31,7 +33,7 @@ pub fn write(page: &mut [u16], on: bool, w: Write)
         } => {
             fill_column(
                 page,
-                80,
+                width,
                 on,
                 top as usize,
                 bottom as usize,
@@ -39,10 +41,17 @@ pub fn write(page: &mut [u16], on: bool, w: Write)
                 value,
             )
         }
-        Write::Edit { right, at, value } => shift_edit_run(page, 80, on, right, at as usize, value),
+        Write::Edit { right, at, value } => shift_edit_run(
+            page,
+            width,
+            on,
+            right,
+            at as usize,
+            value,
+        ),
         Write::Rows { down, top, bottom } => shift_rows(
             page,
-            80,
+            width,
             down,
             top as usize,
             bottom as usize,

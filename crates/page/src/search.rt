@@ -1,7 +1,7 @@
 // Searches: one loop up and one down over the marks of the cells, and the same over the tab stops.
 ghost use mathlib.Core.Path.{_≡_};
 ghost use mathlib.Core.Bool.{false};
-ghost use Prim.Native.Nat.{_-_, _*_, _<_, _≤_};
+ghost use Prim.Native.Nat.{_-_, _*_, _/_, _<_, _≤_};
 ghost use lib.Dec.{eqb};
 ghost use lib.ListN.{length, getD};
 ghost use Rattle.rules.specs.Cell.{either};
@@ -162,12 +162,20 @@ pub fn previous_field(page: &[u16], protect: bool, first: usize, end: usize, at:
     marked_back(page, protect, Mark::FieldStart(first), first, end, at)
 }
 
+// A cell's row. Each division is by a number that is known when the program is built: these are fast.
+pub fn row_of(width: usize, at: usize) -> usize
+    requires { ⌜ Width width ⌝ }
+    ensures { λ r. ⌜ r ≡ at / width ⌝ }
+{
+    if width == 132 { at / 132 } else { at / 80 }
+}
+
 // The end of a cell's row.
 pub fn row_end(width: usize, at: usize) -> usize
     requires { ⌜ Width width × (at < 24 * width) ⌝ }
     ensures { λ r. ⌜ r ≡ rowEnd width at ⌝ }
 {
-    at / width * width + width
+    row_of(width, at) * width + width
 }
 
 // The end of the edit run: the next guarded cell, or the end of the row.
@@ -179,12 +187,12 @@ pub fn edit_end(page: &[u16], width: usize, protect: bool, at: usize) -> usize
 }
 
 // 09h with protect off: the next tab stop to the right, or `column`.
-pub fn next_tab(tabs: [bool; 80], column: usize) -> usize
-    requires { ⌜ column < 80 ⌝ }
-    ensures { λ r. ⌜ r ≡ nextTab 80 tabs column ⌝ }
+pub fn next_tab(tabs: [bool; 132], width: usize, column: usize) -> usize
+    requires { ⌜ (column < width) × (width ≤ 132) ⌝ }
+    ensures { λ r. ⌜ r ≡ nextTab width tabs column ⌝ }
 {
     let mut stop = column + 1;
-    while stop < 80 {
+    while stop < width {
         if tabs[stop] {
             return stop;
         }
@@ -194,8 +202,8 @@ pub fn next_tab(tabs: [bool; 80], column: usize) -> usize
 }
 
 // ESC I with protect off: the previous tab stop, or column 1.
-pub fn previous_tab(tabs: [bool; 80], column: usize) -> usize
-    requires { ⌜ column ≤ 80 ⌝ }
+pub fn previous_tab(tabs: [bool; 132], column: usize) -> usize
+    requires { ⌜ column ≤ 132 ⌝ }
     ensures { λ r. ⌜ r ≡ previousTab tabs column ⌝ }
 {
     let mut stop = column;

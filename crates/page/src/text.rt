@@ -2,13 +2,14 @@
 ghost use mathlib.Core.Path.{_≡_};
 ghost use Prim.Native.Nat.{_+_, _-_, _*_, _/_, _≤_, min};
 ghost use lib.ListN.{length};
-ghost use Rattle.rules.specs.Row.{Width, rowEnd};
+ghost use Rattle.rules.specs.Row.{Width, wideCells, rowEnd};
 ghost use Rattle.rules.specs.Carry.{openCell, textOf};
 ghost use Rattle.page.specs.Room.{stored};
 ghost use Rattle.page.specs.Text.{cellsText};
 use crate::cell::is_guarded;
 use crate::cell::sent_code;
 use crate::search::row_end;
+use crate::search::row_of;
 
 fn cell_length(protect: bool, v: u16) -> u16
     ensures { λ r. ⌜ r ≡ length (openCell protect v) ⌝ }
@@ -18,7 +19,7 @@ fn cell_length(protect: bool, v: u16) -> u16
 
 // How many bytes the cells give. (A narrow count makes the loop four times as fast.)
 fn cells_length(part: &[u16], protect: bool) -> u16
-    requires { ⌜ length (now part) ≤ 3168 ⌝ }
+    requires { ⌜ length (now part) ≤ wideCells ⌝ }
     ensures { λ r. ⌜ r ≡ length (cellsText protect (now (part .entry))) ⌝ }
 {
     let mut n: u16 = 0;
@@ -36,7 +37,7 @@ fn row_breaks(width: usize, from: usize, to: usize) -> usize
     ensures { λ r. ⌜ r ≡ (to - 1) / width - from / width ⌝ }
 {
     if from < to {
-        (to - 1) / width - from / width
+        row_of(width, to - 1) - row_of(width, from)
     } else {
         0
     }

@@ -12,34 +12,37 @@ use native.Mathlib.Omega.{arith}
 use borrow.Author.Tests.{ltb-false}
 use lib.ListN.{length}
 use Rattle.rules.specs.declared.Screen.{Screen}
-use Rattle.rules.specs.Row.{width, height, pageLength}
+use Rattle.rules.specs.Row.{height}
 use Rattle.rules.specs.Search.{guardedAt, previousOpen, nextField, previousField}
-use Rattle.rules.specs.State.{segmentStart, segmentEnd, cursorOf, Inside}
+use Rattle.rules.specs.State.{widthOf, pageLength, segmentStart, segmentEnd, cursorOf, Inside}
 use Rattle.rules.specs.Possible.{screenOk}
-use Rattle.rules.specs.Plan.{atTop, cursorRow}
+use Rattle.rules.specs.Plan.{atTop, cursorRow, cursorColumn}
 use Rattle.rules.proofs.Marks.{length-guards}
 use Rattle.rules.proofs.Screens.{screen-inside}
 use Rattle.rules.proofs.Places.{in-back, in-next-field, in-previous-field}
 
 module _ (x : Screen) (ok : screenOk x ≡ true) {n : ℕ} where
-  pub cursor-below : n ≡ cursorOf x → n < pageLength
+  pub cursor-below : n ≡ cursorOf x → (n < pageLength x) × (n < 3168)
   cursor-below h = omega (arith, screen-inside x ok)
+
+  pub column-below : n ≡ cursorColumn x → n < 132
+  column-below h = omega (arith, screen-inside x ok)
 
   pub row-below : n ≡ cursorRow x → n < height
   row-below h = omega (arith, screen-inside x ok)
 
-pub below-top : (x : Screen) {t : Bool} → t ≡ atTop x → t ≡ false → segmentStart x + width ≤ cursorOf x
+pub below-top : (x : Screen) {t : Bool} → t ≡ atTop x → t ≡ false → segmentStart x + widthOf x ≤ cursorOf x
 unfolding atTop
-below-top x h k = ltb-false (cursorOf x) (segmentStart x + width) (sym h ∙ k)
+below-top x h k = ltb-false (cursorOf x) (segmentStart x + widthOf x) (sym h ∙ k)
 
-module _ (x : Screen) (i : Inside x) (on : Bool) (p : List ℕ) (long : length p ≡ pageLength) {a at n : ℕ}
+module _ (x : Screen) (i : Inside x) (on : Bool) (p : List ℕ) (long : length p ≡ pageLength x) {a at n : ℕ}
     (start : a ≡ segmentStart x) (cursor : at ≡ cursorOf x) where
-  pub open-range : n ≡ previousOpen (guardedAt on p) a at → n < pageLength
+  pub open-range : n ≡ previousOpen (guardedAt on p) a at → n < 3168
   open-range h = rw (h, start, cursor) (omega (arith, in-back x i (guardedAt on p) (length-guards on p ∙ long)))
 
   module _ {e : ℕ} (end : e ≡ segmentEnd x) where
-    pub next-field-range : n ≡ nextField (guardedAt on p) a e at → n < pageLength
+    pub next-field-range : n ≡ nextField (guardedAt on p) a e at → n < 3168
     next-field-range h = rw (h, start, cursor, end) (omega (arith, in-next-field x i (guardedAt on p) (length-guards on p ∙ long)))
 
-    pub previous-field-range : n ≡ previousField (guardedAt on p) a e at → n < pageLength
+    pub previous-field-range : n ≡ previousField (guardedAt on p) a e at → n < 3168
     previous-field-range h = rw (h, start, cursor, end) (omega (arith, in-previous-field x i (guardedAt on p) (length-guards on p ∙ long)))

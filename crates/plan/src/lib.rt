@@ -3,6 +3,7 @@ ghost use mathlib.Core.Path.{_≡_};
 ghost use mathlib.Core.Bool.{true};
 ghost use lib.ListN.{length};
 ghost use Rattle.rules.specs.Search.{guardedAt};
+ghost use Rattle.rules.specs.State.{pageLength};
 ghost use Rattle.rules.specs.Possible.{screenOk};
 ghost use Rattle.rules.specs.Plan.{planRule};
 
@@ -33,8 +34,8 @@ use writes::plan_clear;
 use writes::plan_edit;
 use writes::plan_store;
 
-pub fn plan_for(page: &[u16], tabs: &[bool; 80], core: Core, d: Command) -> Plan
-    requires { ⌜ (length (now page) ≡ 1920) × (screenOk (core .screen) ≡ true) ⌝ }
+pub fn plan_for(page: &[u16], tabs: &[bool; 132], core: Core, d: Command) -> Plan
+    requires { ⌜ (length (now page) ≡ pageLength (core .screen)) × (screenOk (core .screen) ≡ true) ⌝ }
     ensures { λ r. ⌜ r ≡ planRule (guardedAt (core .modes .protect) (now (page .entry))) (now (tabs .entry)) core d ⌝ }
 {
     match d {

@@ -3,7 +3,7 @@ ghost use mathlib.Core.Path.{_≡_};
 ghost use mathlib.Core.Bool.{true};
 ghost use lib.ListN.{length};
 ghost use Rattle.rules.specs.Search.{guardedAt};
-ghost use Rattle.rules.specs.State.{Inside};
+ghost use Rattle.rules.specs.State.{Inside, pageLength};
 ghost use Rattle.rules.specs.Possible.{screenOk};
 ghost use Rattle.rules.specs.Plan.{settingPlan, cursorRow, cursorColumn, sendPlan, clearAll as clearAllOf, protectOff as protectOffOf, excludedPlan};
 use super::forms::changing;
@@ -27,7 +27,9 @@ use state::core::idle;
 use state::core::with_modes;
 use state::core::with_protect;
 use state::possible::feature_place;
+use state::screen;
 use state::screen::cursor_of;
+use state::screen::row_start;
 use state::screen::segment_end;
 use state::screen::segment_start;
 use state::screen::segment_top;
@@ -35,10 +37,12 @@ use state::screen::segment_top;
 pub fn plan_setting(core: Core, s: Setting) -> Plan
     ensures { λ r. ⌜ r ≡ settingPlan core s ⌝ }
 {
-    let at = cursor_of(core.screen);
     let next = idle(core);
     match s {
-        Setting::Tab(b) => changing(next, SetupChange::Tab(at % 80, b)),
+        Setting::Tab(b) => changing(
+            next,
+            SetupChange::Tab(screen::cursor_column(core.screen), b),
+        ),
         Setting::ClearTabs => changing(next, SetupChange::ClearTabs),
         Setting::Attribute(n, a) => changing(next, SetupChange::Attribute(n, a)),
         Setting::Feature(f) => changing(next, SetupChange::Feature(feature_place(f), f)),
@@ -61,17 +65,17 @@ fn cursor_row(x: Screen) -> u8
     requires { ⌜ Inside x ⌝ }
     ensures { λ r. ⌜ r ≡ cursorRow x ⌝ }
 {
-    (cursor_of(x) / 80 - segment_top(x)) as u8
+    (screen::cursor_row(x) - segment_top(x)) as u8
 }
 
 fn cursor_column(x: Screen) -> u8
     ensures { λ r. ⌜ r ≡ cursorColumn x ⌝ }
 {
-    (cursor_of(x) % 80) as u8
+    screen::cursor_column(x) as u8
 }
 
 pub fn plan_send(page: &[u16], core: Core, s: Send) -> Plan
-    requires { ⌜ (length (now page) ≡ 1920) × (screenOk (core .screen) ≡ true) ⌝ }
+    requires { ⌜ (length (now page) ≡ pageLength (core .screen)) × (screenOk (core .screen) ≡ true) ⌝ }
     ensures { λ r. ⌜ r ≡ sendPlan (guardedAt (core .modes .protect) (now (page .entry))) core s ⌝ }
 {
     let x = core.screen;
@@ -94,7 +98,7 @@ pub fn plan_send(page: &[u16], core: Core, s: Send) -> Plan
             }
             replying(next, Reply::Cell(at))
         }
-        Send::OpenRow => replying(next, text(false, at - at % 80, at + 1)),
+        Send::OpenRow => replying(next, text(false, row_start(x), at + 1)),
         Send::OpenSegment => replying(next, text(false, segment_start(x), at + 1)),
     }
 }
@@ -126,7 +130,7 @@ pub fn plan_excluded(core: Core, e: Excluded) -> Plan
         Excluded::ClearNulls => clear_all(next, 0),
         Excluded::ClearSpaces => clear_all(next, 32),
         Excluded::ClearProtected => clear_all(off, 160),
-        Excluded::SendRow => replying(next, text(true, at - at % 80, at + 1)),
+        Excluded::SendRow => replying(next, text(true, row_start(x), at + 1)),
         Excluded::SendSegment => replying(next, text(true, segment_start(x), at + 1)),
     }
 }

@@ -18,11 +18,14 @@ use state::core::idle;
 use state::core::with_screen;
 use state::screen::activated;
 use state::screen::cursor_of;
+use state::width::ADDRESSED;
+use state::width::cells;
 
-fn unsplit_screen() -> Screen
-    ensures { λ r. ⌜ r ≡ unsplitScreen ⌝ }
+fn unsplit_screen(wide: bool) -> Screen
+    ensures { λ r. ⌜ r ≡ unsplitScreen wide ⌝ }
 {
     Screen {
+        wide: wide,
         active: 0,
         split: 0,
         cursor0: 0,
@@ -31,15 +34,16 @@ fn unsplit_screen() -> Screen
 }
 
 // Split at row s, which is 2 to 24.
-fn split_screen(s: u8) -> Screen
+fn split_screen(wide: bool, s: u8) -> Screen
     requires { ⌜ (1 ≤ s) × (s ≤ 24) ⌝ }
-    ensures { λ r. ⌜ r ≡ splitScreen s ⌝ }
+    ensures { λ r. ⌜ r ≡ splitScreen wide s ⌝ }
 {
     Screen {
+        wide: wide,
         active: 0,
         split: s,
         cursor0: 0,
-        cursor1: (s - 1) as u16 * 80,
+        cursor1: cells(wide, (s - 1) as u16),
     }
 }
 
@@ -66,7 +70,14 @@ fn place(core: Core, n: u8, r: u8, k: u8) -> Plan
 {
     let x = core.screen;
     if is_segment(x, n) {
-        return address_plan(core, activated(x, n - 0x30), 0x20, r as u16, k as u16);
+        return address_plan(
+            core,
+            activated(x, n - 0x30),
+            0x20,
+            ADDRESSED,
+            r as u16,
+            k as u16,
+        );
     }
     refusing(idle(core), Answer::BadArgument)
 }
@@ -76,7 +87,10 @@ fn split(core: Core, r: u8) -> Plan
 {
     let next = idle(core);
     if among(0x21, 23, r as u16) {
-        return settling(with_screen(next, split_screen(r - 0x1f)), 0);
+        return settling(
+            with_screen(next, split_screen(core.screen.wide, r - 0x1f)),
+            0,
+        );
     }
     refusing(next, Answer::BadArgument)
 }
@@ -107,7 +121,7 @@ pub fn plan_window(core: Core, w: Window) -> Plan
     ensures { λ p. ⌜ p ≡ windowPlan core w ⌝ }
 {
     match w {
-        Window::Unsplit => settling(with_screen(idle(core), unsplit_screen()), 0),
+        Window::Unsplit => settling(with_screen(idle(core), unsplit_screen(core.screen.wide)), 0),
         Window::Split(r) => split(core, r),
         Window::Other => other(core),
         Window::First => activate(core, 0),

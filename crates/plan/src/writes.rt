@@ -3,9 +3,10 @@ ghost use mathlib.Core.Path.{_≡_};
 ghost use mathlib.Core.Bool.{false};
 ghost use Prim.Native.Nat.{_<_};
 ghost use lib.ListN.{length, getD};
+ghost use Rattle.rules.specs.Row.{wideCells};
 ghost use Rattle.rules.specs.Search.{guardedAt};
 ghost use Rattle.rules.specs.Cell.{written};
-ghost use Rattle.rules.specs.State.{Inside, cursorOf, idle as idleOf};
+ghost use Rattle.rules.specs.State.{Inside, pageLength, cursorOf, idle as idleOf};
 ghost use Rattle.rules.specs.Plan.{unlessGuarded, writing as writingOf, storing as storingOf, advancing as advancingOf, storePlan, rowEditPlan, editPlan, clearPlan};
 use super::forms::refusing;
 use super::forms::writing;
@@ -14,7 +15,6 @@ use super::moves::scroll;
 use super::moves::scrolls;
 use page::cell::written_cell;
 use page::search::is_guarded_at;
-use page::search::row_end;
 use rules::Answer;
 use rules::Clear;
 use rules::Contents;
@@ -24,22 +24,26 @@ use rules::Land;
 use rules::Plan;
 use rules::Write;
 use state::core::idle;
+use state::screen::cursor_column;
 use state::screen::cursor_of;
+use state::screen::cursor_row;
+use state::screen::row_start;
 use state::screen::segment_bottom;
 use state::screen::segment_end;
 use state::screen::segment_start;
 use state::screen::segment_top;
+use state::screen::width_of;
 
 // Whether the cell is guarded.
 pub fn guarded_at(page: &[u16], on: bool, at: u16) -> bool
-    requires { ⌜ (length (now page) ≡ 1920) × (at < 1920) ⌝ }
+    requires { ⌜ at < length (now page) ⌝ }
     ensures { λ r. ⌜ r ≡ getD (guardedAt on (now (page .entry))) at false ⌝ }
 {
     is_guarded_at(page, on, at as usize)
 }
 
 fn storing(insert: bool, at: u16, v: u16) -> Write
-    requires { ⌜ at < 1920 ⌝ }
+    requires { ⌜ at < wideCells ⌝ }
     ensures { λ r. ⌜ r ≡ storingOf insert at v ⌝ }
 {
     if insert {
@@ -70,13 +74,13 @@ fn advancing(core: Core, w: Write) -> Plan
         return writing(next, w, Land::Settle(at + 1));
     }
     if scrolls(m) {
-        return writing_two(next, w, scroll(x, false), Land::Settle(end - 80));
+        return writing_two(next, w, scroll(x, false), Land::Settle(end - width_of(x)));
     }
     writing(next, w, Land::Settle(segment_start(x)))
 }
 
 pub fn plan_store(page: &[u16], core: Core, k: Contents) -> Plan
-    requires { ⌜ (length (now page) ≡ 1920) × Inside (core .screen) ⌝ }
+    requires { ⌜ (length (now page) ≡ pageLength (core .screen)) × Inside (core .screen) ⌝ }
     ensures { λ r. ⌜ r ≡ storePlan (guardedAt (core .modes .protect) (now (page .entry))) core k ⌝ }
 {
     let x = core.screen;
@@ -90,7 +94,7 @@ pub fn plan_store(page: &[u16], core: Core, k: Contents) -> Plan
 
 // ESC Q and ESC W: the edit run moves by one cell and a space comes in.
 fn edit_cells(page: &[u16], core: Core, right: bool) -> Plan
-    requires { ⌜ (length (now page) ≡ 1920) × Inside (core .screen) ⌝ }
+    requires { ⌜ (length (now page) ≡ pageLength (core .screen)) × Inside (core .screen) ⌝ }
     ensures { λ r. ⌜ r ≡ unlessGuarded (guardedAt (core .modes .protect) (now (page .entry))) core (writingOf (idleOf core) (Write.Edit right (cursorOf (core .screen)) 32) Land.Stay) ⌝ }
 {
     let x = core.screen;
@@ -113,21 +117,20 @@ fn edit_rows(core: Core, down: bool) -> Plan
     ensures { λ r. ⌜ r ≡ rowEditPlan core down ⌝ }
 {
     let x = core.screen;
-    let at = cursor_of(x);
     let next = idle(core);
     if core.modes.protect {
         return refusing(next, Answer::Barred);
     }
     let w = Write::Rows {
         down: down,
-        top: at / 80,
+        top: cursor_row(x),
         bottom: segment_bottom(x),
     };
-    writing(next, w, Land::Settle(at - at % 80))
+    writing(next, w, Land::Settle(row_start(x)))
 }
 
 pub fn plan_edit(page: &[u16], core: Core, e: Edit) -> Plan
-    requires { ⌜ (length (now page) ≡ 1920) × Inside (core .screen) ⌝ }
+    requires { ⌜ (length (now page) ≡ pageLength (core .screen)) × Inside (core .screen) ⌝ }
     ensures { λ r. ⌜ r ≡ editPlan (guardedAt (core .modes .protect) (now (page .entry))) core e ⌝ }
 {
     match e {
@@ -157,7 +160,7 @@ pub fn plan_clear(core: Core, x: Clear) -> Plan
     let at = cursor_of(s);
     let start = segment_start(s);
     let end = segment_end(s);
-    let row = row_end(80, at as usize) as u16;
+    let row = row_start(s) + width_of(s);
     let next = idle(core);
     match x {
         Clear::Row(k) => writing(next, fill(k, at, row), Land::Stay),
@@ -167,7 +170,7 @@ pub fn plan_clear(core: Core, x: Clear) -> Plan
             let w = Write::Column {
                 top: segment_top(s),
                 bottom: segment_bottom(s),
-                column: at % 80,
+                column: cursor_column(s),
                 value: 160,
             };
             writing(next, w, Land::Settle(at))

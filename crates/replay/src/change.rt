@@ -1,4 +1,5 @@
 // Lines that set something: the page's cells, and the parts of a state.
+use crate::narrow::COLUMNS;
 use crate::script::Setting;
 use rules::Key;
 use rules::Modes;
@@ -67,7 +68,7 @@ fn with_cursor(s: Screen, second: bool, i: u16) -> Screen {
 
 fn with_tab(u: Setup, c: usize, b: bool) -> Setup {
     let mut t = u;
-    if c < 80 {
+    if c < COLUMNS {
         t.tabs[c] = b;
     }
     t

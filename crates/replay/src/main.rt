@@ -3,6 +3,7 @@ mod bounds;
 mod call;
 mod change;
 mod digest;
+mod narrow;
 mod progress;
 mod script;
 mod sequence;

@@ -3,6 +3,7 @@ use crate::bounds::within;
 use crate::bounds::within_cells;
 use crate::call;
 use crate::change;
+use crate::narrow::CELLS;
 use crate::script::Call;
 use crate::script::Command;
 use crate::script::PageLine;
@@ -30,14 +31,14 @@ pub struct Progress {
     pub going: bool,
 }
 
-// As at power-on, with a page of 1,920 cells.
+// As at power-on.
 pub fn start() -> Progress {
-    let mut page = [0u16; 1920];
+    let mut page = [0u16; CELLS];
     let on = terminal::power_on(&mut page);
     let state = on.state;
     Progress {
         state: state,
-        cells: 1920,
+        cells: CELLS,
         written: 0,
         line: 0,
         at: 0,

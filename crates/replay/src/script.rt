@@ -1,4 +1,5 @@
 // A line of a script as a command of numbers. Its byte strings are read where it is carried out.
+use crate::narrow::COLUMNS;
 use crate::text::NONE;
 use crate::text::byte;
 use crate::text::first;
@@ -173,7 +174,7 @@ fn switch(word: &[u8], i: usize, n: usize) -> Command {
         return given(i < 6, Command::Set(Setting::Mode(i, n == 1)));
     }
     if same(word, b"tab") {
-        return given(i < 80, Command::Set(Setting::Tab(i, n == 1)));
+        return given(i < COLUMNS, Command::Set(Setting::Tab(i, n == 1)));
     }
     Command::Bad
 }

@@ -1,6 +1,7 @@
 // The sequence under way, as text: the bytes since and with ESC, and `+` where a key's text was too long.
 ghost use Prim.Native.Nat.{_+_, _≤_};
 use crate::bounds::within;
+use crate::narrow::CELLS;
 use crate::text::byte_string;
 use check::same;
 use rules::Core;
@@ -147,7 +148,7 @@ fn over(v: u8) -> Spelling {
 
 // What bytes leave of a terminal that was just turned on, on a page of its own. Where a key's text is to be too long, nine more bytes follow.
 fn fed(bytes: &[u8], is_over: bool) -> Core {
-    let mut page = [0u16; 1920];
+    let mut page = [0u16; CELLS];
     let mut room = [0u8; 1];
     let on = terminal::power_on(&mut page);
     let start = on.state;

@@ -1,6 +1,7 @@
 // The STATE of an output line.
 ghost use Prim.Native.Nat.{_≤_};
 use crate::bounds::within;
+use crate::narrow::COLUMNS;
 use crate::sequence::spelled;
 use crate::trace::byte_string;
 use crate::trace::comma;
@@ -73,10 +74,10 @@ fn feature_bytes(out: &mut [u8], at: usize, bytes: [u8; 5]) -> usize {
 }
 
 // Four columns to a digit, column 1 first.
-fn tabs(out: &mut [u8], at: usize, stops: [bool; 80]) -> usize {
+fn tabs(out: &mut [u8], at: usize, stops: [bool; 132]) -> usize {
     let mut n = at;
     let mut i = 0;
-    while i < 80 {
+    while i < COLUMNS {
         let high = bit(stops[i]) * 2 + bit(stops[i + 1]);
         let low = bit(stops[i + 2]) * 2 + bit(stops[i + 3]);
         n = hex_digit(out, n, high * 4 + low);

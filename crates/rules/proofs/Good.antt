@@ -41,23 +41,24 @@ use Rattle.rules.specs.declared.SetupChange.the-variants as SetupChange
 use Rattle.rules.specs.declared.Reply.{Reply}
 use Rattle.rules.specs.declared.Land.{Land}
 use Rattle.rules.specs.Cell.{pick, both, among}
-use Rattle.rules.specs.Row.{width, pageLength, columnOf, rowStart, rowEnd}
-use Rattle.rules.specs.State.{number, segmentTop, segmentBottom, segmentStart, segmentEnd, cursorOf, activated, withScreen, withModes, withProtect, withMode, idle, Inside}
+use Rattle.rules.specs.Row.{columnOf, rowStart}
+use Rattle.rules.specs.State.{number, widthOf, pageLength, segmentTop, segmentBottom, segmentStart, segmentEnd, cursorOf, activated, withScreen, withModes, withProtect, withMode, idle, Inside}
 use Rattle.rules.specs.Possible.{screenOk, keyOk, isAttribute, featurePlace}
 use Rattle.rules.specs.Plan.{refusing, plain, writingTwo, settling, replying, changing, unlessGuarded, scrolls, atTop, reversePlan, downPlan, tabCell, backTabCell, addressPlan, movePlan, unsplitScreen, splitScreen, activate, isSegment, windowPlan, storing, advancing, storePlan, rowEditPlan, editPlan, clearPlan, settingPlan, sendPlan, clearAll, excludedPlan, planRule}
 use Rattle.rules.specs.Good.{GoodWrite, GoodReply, GoodLand, GoodPlan}
 use Rattle.rules.proofs.Tests.{pick-if, both-parts, both-true, among-parts}
+use Rattle.rules.proofs.Rows.{columns-width, column-below, rows-le, cell-inside}
 use Rattle.rules.proofs.Places.{In, segment-there, in-next, in-up, in-next-tab, in-previous-tab, in-back, in-next-field, in-previous-field}
 use Rattle.rules.proofs.Screens.{screen-inside, activated-kept, unsplit-screen, split-screen}
 
--- a change that fits the set-up: its place is there, and its value from its list. k is the key text gathered
-unfoldable pub changeOk : Key → SetupChange → Bool
-changeOk k SetupChange.Nothing = true
-changeOk k (SetupChange.Tab c b) = ltb c width
-changeOk k SetupChange.ClearTabs = true
-changeOk k (SetupChange.Attribute n a) = both (ltb n 4) (isAttribute a)
-changeOk k (SetupChange.Feature n f) = both (ltb n 5) (eqb (featurePlace f) n)
-changeOk k (SetupChange.Key n) = both (ltb n 32) (keyOk k)
+-- a change that fits the set-up: its place is there, and its value from its list. w is the width of the page, k the key text gathered
+unfoldable pub changeOk : ℕ → Key → SetupChange → Bool
+changeOk w k SetupChange.Nothing = true
+changeOk w k (SetupChange.Tab c b) = ltb c w
+changeOk w k SetupChange.ClearTabs = true
+changeOk w k (SetupChange.Attribute n a) = both (ltb n 4) (isAttribute a)
+changeOk w k (SetupChange.Feature n f) = both (ltb n 5) (eqb (featurePlace f) n)
+changeOk w k (SetupChange.Key n) = both (ltb n 32) (keyOk k)
 
 -- a setting, and a command, that makes such a change
 unfoldable pub settingOk : Setting → Bool
@@ -83,15 +84,17 @@ commandOk (Command.Excluded x) = true
 -- the next core of a plan
 record Next (c n : Core) : Type 0 where
   screen : screenOk (n .screen) ≡ true
+  wide : n .screen .wide ≡ c .screen .wide
   idle : n .pending ≡ Pending.Idle
   bells : c .bells < 256 → n .bells < 256
 
 -- what holds of every plan; t says whether its command is good
 pub record PlanKept (t : Bool) (c : Core) (x : Plan) : Type 0 where
   pub good : GoodPlan x
+  pub wide : x .next .screen .wide ≡ c .screen .wide
   pub idle : x .next .pending ≡ Pending.Idle
   pub bells : c .bells < 256 → x .next .bells < 256
-  pub change : t ≡ true → (k : Key) → changeOk k (x .change) ≡ true
+  pub change : t ≡ true → (k : Key) → changeOk (widthOf (c .screen)) k (x .change) ≡ true
   pub answer : eqb (number (x .answer)) 6 ≡ false
 
 -- ---- the forms of plans
@@ -102,38 +105,42 @@ module _ {t : Bool} {c n : Core} (h : Next c n) where
   kept-refusing a e =
       record {
         good = record { one = tt; two = tt; text = tt; screen = h .screen; place = tt };
+        wide = h .wide;
         idle = h .idle;
         bells = h .bells;
         change = λ u k. refl;
         answer = e;
       }
 
-  kept-writing : {w v : Write} {l : Land} → GoodWrite w → GoodWrite v → GoodLand (n .screen) l → PlanKept t c (writingTwo n w v l)
+  kept-writing : {w v : Write} {l : Land} → GoodWrite (widthOf (n .screen)) w → GoodWrite (widthOf (n .screen)) v → GoodLand (n .screen) l → PlanKept t c (writingTwo n w v l)
   unfolding changeOk
   kept-writing a b d =
       record {
         good = record { one = a; two = b; text = tt; screen = h .screen; place = d };
+        wide = h .wide;
         idle = h .idle;
         bells = h .bells;
         change = λ u k. refl;
         answer = refl;
       }
 
-  kept-replying : {r : Reply} → GoodReply r → PlanKept t c (replying n r)
+  kept-replying : {r : Reply} → GoodReply (widthOf (n .screen)) r → PlanKept t c (replying n r)
   unfolding changeOk
   kept-replying a =
       record {
         good = record { one = tt; two = tt; text = a; screen = h .screen; place = tt };
+        wide = h .wide;
         idle = h .idle;
         bells = h .bells;
         change = λ u k. refl;
         answer = refl;
       }
 
-  kept-changing : {x : SetupChange} → (t ≡ true → (k : Key) → changeOk k x ≡ true) → PlanKept t c (changing n x)
+  kept-changing : {x : SetupChange} → (t ≡ true → (k : Key) → changeOk (widthOf (c .screen)) k x ≡ true) → PlanKept t c (changing n x)
   kept-changing f =
       record {
         good = record { one = tt; two = tt; text = tt; screen = h .screen; place = tt };
+        wide = h .wide;
         idle = h .idle;
         bells = h .bells;
         change = f;
@@ -144,13 +151,13 @@ module _ {t : Bool} {c n : Core} (h : Next c n) where
 
 module _ (c : Core) (ok : screenOk (c .screen) ≡ true) (i : Inside (c .screen)) where
   here : Next c (idle c)
-  here = record { screen = ok; idle = refl; bells = λ h. h }
+  here = record { screen = ok; wide = refl; idle = refl; bells = λ h. h }
 
-  on-screen : (x : Screen) → screenOk x ≡ true → Next c (withScreen (idle c) x)
-  on-screen x h = record { screen = h; idle = refl; bells = λ h. h }
+  on-screen : (x : Screen) → screenOk x ≡ true → x .wide ≡ c .screen .wide → Next c (withScreen (idle c) x)
+  on-screen x h w = record { screen = h; wide = w; idle = refl; bells = λ h. h }
 
   in-modes : (m : Modes) → Next c (withModes (idle c) m)
-  in-modes m = record { screen = ok; idle = refl; bells = λ h. h }
+  in-modes m = record { screen = ok; wide = refl; idle = refl; bells = λ h. h }
 
   module _ {t : Bool} where
     kept-pick : (s : Bool) {x y : Plan} → (s ≡ true → PlanKept t c x) → (s ≡ false → PlanKept t c y) → PlanKept t c (pick s x y)
@@ -175,28 +182,36 @@ module _ (c : Core) (ok : screenOk (c .screen) ≡ true) (i : Inside (c .screen)
     kept-reverse : PlanKept t c (reversePlan c)
     unfolding reversePlan atTop
     kept-reverse =
-        kept-pick (ltb (cursorOf (c .screen)) (segmentStart (c .screen) + width))
+        kept-pick (ltb (cursorOf (c .screen)) (segmentStart (c .screen) + widthOf (c .screen)))
         (λ e. kept-pick (c .modes .protect) (λ u. kept-settling (omega arith)) (λ u. kept-writing here (omega arith) tt (omega arith)))
-        (λ e. kept-settling (omega (arith, ltb-false (cursorOf (c .screen)) (segmentStart (c .screen) + width) e)))
+        (λ e. kept-settling (omega (arith, ltb-false (cursorOf (c .screen)) (segmentStart (c .screen) + widthOf (c .screen)) e)))
 
     kept-down : (n : ℕ) → In (c .screen) n → PlanKept t c (downPlan c n)
     unfolding downPlan
     kept-down n h =
-        kept-pick (ltb (n + width) (segmentEnd (c .screen))) (λ e. kept-settling (omega (arith, ltb-true (n + width) (segmentEnd (c .screen)) e)))
-        (λ e. kept-pick (scrolls (c .modes)) (λ u. kept-writing here (omega arith) tt h) (λ u. kept-settling (omega arith)))
+        kept-pick (ltb (n + widthOf (c .screen)) (segmentEnd (c .screen))) (λ e. kept-settling (omega (arith, ltb-true (n + widthOf (c .screen)) (segmentEnd (c .screen)) e)))
+        (λ e. kept-pick (scrolls (c .modes)) (λ u. kept-writing here (omega arith) tt h) (λ u. kept-settling (omega (arith, column-below (columns-width (c .screen .wide)) n))))
 
-    kept-address : (x : Screen) (base row column : ℕ) → screenOk x ≡ true → PlanKept t c (addressPlan c x base row column)
+    kept-address : (x : Screen) (base most row column : ℕ) → screenOk x ≡ true → x .wide ≡ c .screen .wide → most ≤ widthOf x
+        → PlanKept t c (addressPlan c x base most row column)
     unfolding addressPlan
-    kept-address x base row column h =
-        kept-pick (both (among base (segmentBottom x - segmentTop x) row) (among base width column))
+    kept-address x base most row column h w m =
+        kept-pick (both (among base (segmentBottom x - segmentTop x) row) (among base most column))
         (λ e.
         let r = both-parts _ _ e in
         let a = among-parts base _ row (r .0) in
         let b = among-parts base _ column (r .1) in
-        kept-writing (on-screen x h) tt tt (omega (arith, screen-inside x h)))
+        let s = screen-inside x h in
+        let k = columns-width (x .wide) in
+        kept-writing (on-screen x h w) tt tt
+        (omega (
+          arith,
+          rows-le k {a = segmentTop x} {b = segmentTop x + (row - base)} (omega arith),
+          cell-inside k {row = segmentTop x + (row - base)} {column = column - base} {bottom = segmentBottom x} (omega arith) (omega arith),
+        )))
         (λ e. kept-bad)
 
-    kept-move : (g tabs : List Bool) → length g ≡ pageLength → (m : Move) → PlanKept t c (movePlan g tabs c m)
+    kept-move : (g tabs : List Bool) → length g ≡ pageLength (c .screen) → (m : Move) → PlanKept t c (movePlan g tabs c m)
     unfolding movePlan tabCell backTabCell
     kept-move g tabs n Move.Back = kept-settling (in-back (c .screen) i g n)
     kept-move g tabs n Move.Right = kept-settling (in-next (c .screen) i)
@@ -205,32 +220,35 @@ module _ (c : Core) (ok : screenOk (c .screen) ≡ true) (i : Inside (c .screen)
     kept-move g tabs n Move.Up = kept-settling (in-up (c .screen) i)
     kept-move g tabs n Move.Reverse = kept-reverse
     kept-move g tabs n Move.Down = kept-down (cursorOf (c .screen)) (omega arith)
-    kept-move g tabs n Move.NextLine = kept-down (rowStart width (cursorOf (c .screen))) (omega arith)
+    kept-move g tabs n Move.NextLine = kept-down (rowStart (widthOf (c .screen)) (cursorOf (c .screen))) (omega arith)
     kept-move g tabs n Move.Tab =
         kept-settling (pick-if (In (c .screen)) (c .modes .protect) (λ e. in-next-field (c .screen) i g n) (λ e. in-next-tab (c .screen) i tabs))
     kept-move g tabs n Move.BackTab =
         kept-settling (pick-if (In (c .screen)) (c .modes .protect) (λ e. in-previous-field (c .screen) i g n)
         (λ e. in-previous-tab (c .screen) i tabs))
-    kept-move g tabs n (Move.Address r k) = kept-address (c .screen) 0x20 r k ok
-    kept-move g tabs n (Move.Decimal r k) = kept-address (c .screen) 1 r k ok
+    kept-move g tabs n (Move.Address r k) = kept-address (c .screen) 0x20 80 r k ok refl (omega arith)
+    kept-move g tabs n (Move.Decimal r k) = kept-address (c .screen) 1 (widthOf (c .screen)) r k ok refl (omega arith)
 
     kept-activate : (n : ℕ) → n ≤ 1 → n ≤ c .screen .split → PlanKept t c (activate c n)
     unfolding activate
     kept-activate n h k =
         let x = activated (c .screen) n in
         let s = activated-kept (c .screen) n ok h k in
-        kept-writing (on-screen x s) tt tt (omega (arith, screen-inside x s))
+        kept-writing (on-screen x s refl) tt tt (omega (arith, screen-inside x s))
 
     kept-window : (x : Window) → PlanKept t c (windowPlan c x)
     unfolding windowPlan cursorOf
-    kept-window Window.Unsplit = kept-writing (on-screen unsplitScreen unsplit-screen) tt tt
-        (omega (arith, screen-inside unsplitScreen unsplit-screen))
+    kept-window Window.Unsplit =
+        let x = unsplitScreen (c .screen .wide) in
+        let s = unsplit-screen (c .screen .wide) in
+        kept-writing (on-screen x s refl) tt tt (omega (arith, screen-inside x s))
     kept-window (Window.Split r) =
         kept-pick (among 0x21 23 r)
         (λ e.
         let a = among-parts 0x21 23 r e in
-        let s = split-screen (r - 0x1f) (omega arith) (omega arith) in
-        kept-writing (on-screen (splitScreen (r - 0x1f)) s) tt tt (omega (arith, screen-inside (splitScreen (r - 0x1f)) s)))
+        let x = splitScreen (c .screen .wide) (r - 0x1f) in
+        let s = split-screen (c .screen .wide) (r - 0x1f) (omega arith) (omega arith) in
+        kept-writing (on-screen x s refl) tt tt (omega (arith, screen-inside x s)))
         (λ e. kept-bad)
     kept-window Window.Other =
         kept-pick (eqb (c .screen .split) 0) (λ e. kept-done)
@@ -242,10 +260,10 @@ module _ (c : Core) (ok : screenOk (c .screen) ≡ true) (i : Inside (c .screen)
         kept-pick (isSegment (c .screen) n)
         (λ e.
         let s = segment-there (c .screen) n e in
-        kept-address (activated (c .screen) (n - 0x30)) 0x20 r k (activated-kept (c .screen) (n - 0x30) ok (s .0) (s .1)))
+        kept-address (activated (c .screen) (n - 0x30)) 0x20 80 r k (activated-kept (c .screen) (n - 0x30) ok (s .0) (s .1)) refl (omega arith))
         (λ e. kept-bad)
 
-    kept-advancing : (w : Write) → GoodWrite w → PlanKept t c (advancing c w)
+    kept-advancing : (w : Write) → GoodWrite (widthOf (c .screen)) w → PlanKept t c (advancing c w)
     unfolding advancing
     kept-advancing w h =
         kept-pick (ltb (cursorOf (c .screen) + 1) (segmentEnd (c .screen)))
@@ -254,7 +272,7 @@ module _ (c : Core) (ok : screenOk (c .screen) ≡ true) (i : Inside (c .screen)
 
     kept-store : (g : List Bool) (k : Contents) → PlanKept t c (storePlan g c k)
     unfolding storePlan storing
-    kept-store g k = kept-unless g (kept-advancing _ (pick-if GoodWrite (c .modes .insert) (λ e. omega arith) (λ e. omega arith)))
+    kept-store g k = kept-unless g (kept-advancing _ (pick-if (GoodWrite (widthOf (c .screen))) (c .modes .insert) (λ e. omega arith) (λ e. omega arith)))
 
     kept-row-edit : (down : Bool) → PlanKept t c (rowEditPlan c down)
     unfolding rowEditPlan
@@ -268,7 +286,7 @@ module _ (c : Core) (ok : screenOk (c .screen) ≡ true) (i : Inside (c .screen)
     kept-edit g Edit.DeleteRow = kept-row-edit false
 
     kept-clear : (x : Clear) → PlanKept t c (clearPlan c x)
-    unfolding clearPlan rowEnd
+    unfolding clearPlan
     kept-clear (Clear.Row k) = kept-writing here (omega arith) tt tt
     kept-clear (Clear.Rest k) = kept-writing here (omega arith) tt tt
     kept-clear (Clear.Segment k) = kept-writing here (omega arith) tt (omega arith)
@@ -299,12 +317,12 @@ module _ (c : Core) (ok : screenOk (c .screen) ≡ true) (i : Inside (c .screen)
 
   kept-setting : (x : Setting) → PlanKept (settingOk x) c (settingPlan c x)
   unfolding settingPlan settingOk changeOk
-  kept-setting (Setting.Tab b) = kept-changing here (λ e k. lt-ltb (columnOf width (cursorOf (c .screen))) width (omega arith))
+  kept-setting (Setting.Tab b) = kept-changing here (λ e k. lt-ltb (columnOf (widthOf (c .screen)) (cursorOf (c .screen))) (widthOf (c .screen)) (omega arith))
   kept-setting Setting.ClearTabs = kept-changing here (λ e k. refl)
   kept-setting (Setting.Attribute n a) = kept-changing here (λ e k. e)
   kept-setting (Setting.Feature f) = kept-changing here (λ e k. both-true e (eq-eqb (featurePlace f) (featurePlace f) refl))
 
-  kept-command : (g : List Bool) → length g ≡ pageLength → (tabs : List Bool) (d : Command) → PlanKept (commandOk d) c (planRule g tabs c d)
+  kept-command : (g : List Bool) → length g ≡ pageLength (c .screen) → (tabs : List Bool) (d : Command) → PlanKept (commandOk d) c (planRule g tabs c d)
   unfolding planRule commandOk
   kept-command g n tabs Command.Nothing = kept-done
   kept-command g n tabs (Command.Go m) = kept-move g tabs n m
@@ -314,12 +332,12 @@ module _ (c : Core) (ok : screenOk (c .screen) ≡ true) (i : Inside (c .screen)
   kept-command g n tabs (Command.Clear x) = kept-clear x
   kept-command g n tabs (Command.Turn m b) = kept-refusing (in-modes (withMode (c .modes) m b)) Answer.Done refl
   kept-command g n tabs Command.ProtectOn = kept-writing (in-modes (withProtect (c .modes) true)) tt tt (omega arith)
-  kept-command g n tabs Command.Bell = kept-refusing record { screen = ok; idle = refl; bells = λ h. omega arith } Answer.Done refl
+  kept-command g n tabs Command.Bell = kept-refusing record { screen = ok; wide = refl; idle = refl; bells = λ h. omega arith } Answer.Done refl
   kept-command g n tabs (Command.Set x) = kept-setting x
   kept-command g n tabs (Command.Send x) = kept-send g x
   kept-command g n tabs (Command.Excluded x) = kept-excluded x
 
-module _ (c : Core) (ok : screenOk (c .screen) ≡ true) (g : List Bool) (n : length g ≡ pageLength) (tabs : List Bool) (d : Command) where
+module _ (c : Core) (ok : screenOk (c .screen) ≡ true) (g : List Bool) (n : length g ≡ pageLength (c .screen)) (tabs : List Bool) (d : Command) where
   pub plan-kept : PlanKept (commandOk d) c (planRule g tabs c d)
   plan-kept = kept-command c ok (screen-inside (c .screen) ok) g n tabs d
 

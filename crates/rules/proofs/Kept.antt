@@ -5,13 +5,14 @@
 --     step-good, run-good, call-good, play-good               a good page and state stay good
 --     powerOn-possible, powerOn-good, powerOn-length
 -- Assumes nothing.
-use mathlib.Core.Path.{_≡_, refl, sym, _∙_}
-use mathlib.Core.Bool.{Bool, true}
+use mathlib.Core.Path.{_≡_, refl, sym, ap, subst, _∙_}
+use mathlib.Core.Bool.{Bool, true, false, not}
 use mathlib.Core.List.{List, [], _∷_}
-use Prim.Native.Nat.{ℕ, zero, suc, _+_, _-_, _<_}
+use Prim.Native.Nat.{ℕ, zero, suc, _+_, _-_, _*_, _<_}
 use native.Mathlib.Omega.{arith}
 use lib.Dec.{ltb, leb, eqb}
-use lib.ListN.{length, set}
+use lib.ListN.{length, set, replicate}
+use lib.Seq.{drop-set-lt}
 use borrow.Author.Tests.{ltb-true, lt-ltb, eqb-true, eq-eqb}
 use Rattle.rules.specs.declared.Core.{Core}
 use Rattle.rules.specs.declared.Key.{Key}
@@ -25,14 +26,14 @@ use Rattle.rules.specs.declared.SetupChange.{SetupChange}
 use Rattle.rules.specs.declared.SetupChange.the-variants as SetupChange
 use Rattle.rules.specs.declared.Land.{Land}
 use Rattle.rules.specs.declared.Land.the-variants as Land
-use Rattle.rules.specs.Row.{pageLength}
+use Rattle.rules.specs.Row.{columns}
 use Rattle.rules.specs.Search.{guardedAt}
-use Rattle.rules.specs.State.{idle, changed, keyOf, keyText}
-use Rattle.rules.specs.Possible.{powerOn, blank, unsplitOk, screenOk, allBelow, keyOk, keysOk, isAttribute, attributesOk, featurePlace, featuresOk, pendingOk, possible, good}
+use Rattle.rules.specs.State.{widthOf, pageLength, withCursor, idle, changed, keyOf, keyText}
+use Rattle.rules.specs.Possible.{powerOn, blank, unsplitOk, screenOk, allBelow, keyOk, keysOk, isAttribute, attributesOk, featurePlace, featuresOk, pendingOk, noStops, tabsOk, narrow, possible, good}
 use Rattle.rules.specs.Decode.{decodeRule}
 use Rattle.rules.specs.Plan.{planRule}
 use Rattle.rules.specs.Good.{GoodLand}
-use Rattle.rules.specs.Carry.{replied, landed, Effect, pageAfter, done, carried}
+use Rattle.rules.specs.Carry.{replyOf, landed, Effect, pageAfter, done, carried}
 use Rattle.rules.specs.Step.{overfull, programmed, obeyed, innerRule, Outcome, stepRule}
 use Rattle.rules.specs.Calls.{powerOnRule, Ran, joined, repeated, runRule, Call, Step, Run, Press, ofStep, ofRun, ofPress, callRule, after, play}
 use Rattle.rules.proofs.Tests.{pick-if, both-parts, both-true}
@@ -51,33 +52,43 @@ pub record PossibleCore (c : Core) : Type 0 where
   pub bells : c .bells < 256
   pub pending : pendingOk (c .pending) (c .gathered) ≡ true
 
-pub record PossibleSetup (u : Setup) : Type 0 where
+-- w is the width of the page
+pub record PossibleSetup (w : ℕ) (u : Setup) : Type 0 where
+  pub tabs : tabsOk w (u .tabs) ≡ true
   pub keys : keysOk (u .keys) ≡ true
   pub attributes : attributesOk (u .attributes) ≡ true
   pub features : featuresOk 0 (u .features) ≡ true
 
 pub record PossibleState (s : State) : Type 0 where
+  pub narrow : s .core .screen .wide ≡ false
   pub core : PossibleCore (s .core)
-  pub setup : PossibleSetup (s .setup)
+  pub setup : PossibleSetup (widthOf (s .core .screen)) (s .setup)
+
+not-wide : (b : Bool) → not b ≡ true → b ≡ false
+not-wide true h = sym h
+not-wide false h = refl
 
 pub possible-parts : (s : State) → possible s ≡ true → PossibleState s
 unfolding possible
 possible-parts s h =
-    let r1 = both-parts (screenOk (s .core .screen)) _ h in
+    let r0 = both-parts (narrow (s .core .screen)) _ h in
+    let r1 = both-parts (screenOk (s .core .screen)) _ (r0 .1) in
     let r2 = both-parts (keysOk (s .setup .keys)) _ (r1 .1) in
     let r3 = both-parts (attributesOk (s .setup .attributes)) _ (r2 .1) in
     let r4 = both-parts (featuresOk 0 (s .setup .features)) _ (r3 .1) in
-    let r5 = both-parts (ltb (s .core .bells) 256) _ (r4 .1) in
+    let r5 = both-parts (tabsOk (widthOf (s .core .screen)) (s .setup .tabs)) _ (r4 .1) in
+    let r6 = both-parts (ltb (s .core .bells) 256) _ (r5 .1) in
     record {
-      core = record { screen = r1 .0; bells = ltb-true (s .core .bells) 256 (r5 .0); pending = r5 .1 };
-      setup = record { keys = r2 .0; attributes = r3 .0; features = r4 .0 };
+      narrow = not-wide (s .core .screen .wide) (r0 .0);
+      core = record { screen = r1 .0; bells = ltb-true (s .core .bells) 256 (r6 .0); pending = r6 .1 };
+      setup = record { tabs = r5 .0; keys = r2 .0; attributes = r3 .0; features = r4 .0 };
     }
 
-pub possible-whole : (s : State) → PossibleCore (s .core) → PossibleSetup (s .setup) → possible s ≡ true
+pub possible-whole : (s : State) → s .core .screen .wide ≡ false → PossibleCore (s .core) → PossibleSetup (widthOf (s .core .screen)) (s .setup) → possible s ≡ true
 unfolding possible
-possible-whole s c u =
-    both-true (c .screen) (both-true (u .keys) (both-true (u .attributes)
-    (both-true (u .features) (both-true (lt-ltb (s .core .bells) 256 (c .bells)) (c .pending)))))
+possible-whole s n c u =
+    both-true (ap not n) (both-true (c .screen) (both-true (u .keys) (both-true (u .attributes)
+    (both-true (u .features) (both-true (u .tabs) (both-true (lt-ltb (s .core .bells) 256 (c .bells)) (c .pending)))))))
 
 -- ---- the set-up after a change that fits it
 
@@ -98,26 +109,36 @@ features-set first (x ∷ l) (suc n) f e h =
     let r = both-parts (eqb (featurePlace x) first) (featuresOk (suc first) l) e in
     both-true (r .0) (features-set (suc first) l n f (r .1) (omega arith))
 
-pub changed-kept : (x : SetupChange) (k : Key) (u : Setup) → changeOk k x ≡ true → PossibleSetup u → PossibleSetup (changed x k u)
+-- no tab stop is beyond either width after all are cleared
+cleared-tabs : (wide : Bool) → tabsOk (columns wide) (replicate 132 false) ≡ true
+unfolding columns noStops
+cleared-tabs true = refl
+cleared-tabs false = refl
+
+pub changed-kept : (wide : Bool) (x : SetupChange) (k : Key) (u : Setup) → changeOk (columns wide) k x ≡ true → PossibleSetup (columns wide) u
+    → PossibleSetup (columns wide) (changed x k u)
 unfolding changed changeOk
-changed-kept SetupChange.Nothing k u e h = h
-changed-kept (SetupChange.Tab c b) k u e h = record { keys = h .keys; attributes = h .attributes; features = h .features }
-changed-kept SetupChange.ClearTabs k u e h = record { keys = h .keys; attributes = h .attributes; features = h .features }
-changed-kept (SetupChange.Attribute n a) k u e h =
+changed-kept w SetupChange.Nothing k u e h = h
+changed-kept w (SetupChange.Tab c b) k u e h = record { tabs = rw (drop-set-lt (columns w) (u .tabs) c b (ltb-true c (columns w) e)) (h .tabs); keys = h .keys; attributes = h .attributes; features = h .features }
+changed-kept w SetupChange.ClearTabs k u e h = record { tabs = cleared-tabs w; keys = h .keys; attributes = h .attributes; features = h .features }
+changed-kept w (SetupChange.Attribute n a) k u e h =
     record {
+      tabs = h .tabs;
       keys = h .keys;
       attributes = attributes-set (u .attributes) n a (h .attributes) (both-parts (ltb n 4) (isAttribute a) e .1);
       features = h .features;
     }
-changed-kept (SetupChange.Feature n f) k u e h =
+changed-kept w (SetupChange.Feature n f) k u e h =
     record {
+      tabs = h .tabs;
       keys = h .keys;
       attributes = h .attributes;
       features = features-set 0 (u .features) n f (h .features)
           (omega (arith, eqb-true (featurePlace f) n (both-parts (ltb n 5) (eqb (featurePlace f) n) e .1)));
     }
-changed-kept (SetupChange.Key n) k u e h =
+changed-kept w (SetupChange.Key n) k u e h =
     record {
+      tabs = h .tabs;
       keys = keys-set (u .keys) n (keyOf (keyText k)) (h .keys) (key-copied k (both-parts (ltb n 32) (keyOk k) e .1));
       attributes = h .attributes;
       features = h .features;
@@ -125,24 +146,30 @@ changed-kept (SetupChange.Key n) k u e h =
 
 -- ---- the inner step
 
-landed-kept : (g : List Bool) → length g ≡ pageLength → (l : Land) (c : Core) → PossibleCore c → GoodLand (c .screen) l → PossibleCore (landed g l c)
+landed-kept : (g : List Bool) (l : Land) (c : Core) → length g ≡ pageLength (c .screen) → PossibleCore c → GoodLand (c .screen) l → PossibleCore (landed g l c)
 unfolding landed
-landed-kept g n Land.Stay c h k = h
-landed-kept g n (Land.Settle i) c h k =
+landed-kept g Land.Stay c n h k = h
+landed-kept g (Land.Settle i) c n h k =
     let r = in-settled (c .screen) (screen-inside (c .screen) (h .screen)) g n i k in
     record { screen = cursor-kept (c .screen) _ (h .screen) (r .0) (r .1); bells = h .bells; pending = h .pending }
 
--- what holds of the effect of a byte on a good page and core; k is the key text that was gathered
-pub record EffectKept (k : Key) (e : Effect) : Type 0 where
-  pub size : length (e .page) ≡ pageLength
+landed-wide : (g : List Bool) (l : Land) (c : Core) → landed g l c .screen .wide ≡ c .screen .wide
+unfolding landed withCursor
+landed-wide g Land.Stay c = refl
+landed-wide g (Land.Settle i) c = refl
+
+-- what holds of the effect of a byte on a good page and core
+pub record EffectKept (c : Core) (e : Effect) : Type 0 where
+  pub size : length (e .page) ≡ pageLength (c .screen)
+  pub wide : e .core .screen .wide ≡ c .screen .wide
   pub core : PossibleCore (e .core)
-  pub change : changeOk k (e .change) ≡ true
+  pub change : changeOk (widthOf (c .screen)) (c .gathered) (e .change) ≡ true
 
 idle-kept : (c : Core) → PossibleCore c → PossibleCore (idle c)
 unfolding pendingOk
 idle-kept c h = record { screen = h .screen; bells = h .bells; pending = refl }
 
-module _ (p : List ℕ) (c : Core) (n : length p ≡ pageLength) (h : PossibleCore c) where
+module _ (p : List ℕ) (c : Core) (n : length p ≡ pageLength (c .screen)) (h : PossibleCore c) where
   -- the plan of a command, from the page's own guarded cells
   pub planned-kept : (tabs : List Bool) (d : Command) → PlanKept (commandOk d) c (planRule (guardedAt (c .modes .protect) p) tabs c d)
   planned-kept tabs d = plan-kept c (h .screen) (guardedAt (c .modes .protect) p) (length-guards (c .modes .protect) p ∙ n) tabs d
@@ -151,67 +178,75 @@ module _ (p : List ℕ) (c : Core) (n : length p ≡ pageLength) (h : PossibleCo
   unfolding pendingOk
   next-kept {t} {x} k = record { screen = k .good .screen; bells = k .bells (h .bells); pending = rw (k .idle) }
 
-  pub carried-kept : {t : Bool} (x : Plan) (room : ℕ) → PlanKept t c x → t ≡ true → EffectKept (c .gathered) (carried p c x room)
+  pub carried-kept : {t : Bool} (x : Plan) (room : ℕ) → PlanKept t c x → t ≡ true → EffectKept c (carried p c x room)
   unfolding carried done changeOk
   carried-kept x room k good =
-      pick-if (EffectKept (c .gathered)) (leb (length (replied (c .modes .protect) p (x .reply))) room)
+      pick-if (EffectKept c) (leb (length (replyOf (c .modes .protect) p x)) room)
       (λ e. let on = c .modes .protect in let q = pageAfter on x p in
       record {
         size = length-after on x p ∙ n;
-        core = landed-kept (guardedAt (x .next .modes .protect) q) (length-guards (x .next .modes .protect) q ∙ (length-after on x p ∙ n))
-            (x .land) (x .next) (next-kept k) (k .good .place);
+        wide = landed-wide (guardedAt (x .next .modes .protect) q) (x .land) (x .next) ∙ k .wide;
+        core = landed-kept (guardedAt (x .next .modes .protect) q) (x .land) (x .next)
+            (length-guards (x .next .modes .protect) q ∙ (length-after on x p ∙ (n ∙ ap (λ (b : Bool). 24 * columns b) (sym (k .wide)))))
+            (next-kept k) (k .good .place);
         change = k .change good (c .gathered);
       })
-      (λ e. record { size = n; core = h; change = refl })
+      (λ e. record { size = n; wide = refl; core = h; change = refl })
 
-  obeyed-kept : (u : Setup) (d : Decoded) (room : ℕ) → decodedOk (c .pending) (c .gathered) d ≡ true → EffectKept (c .gathered) (obeyed p c u d room)
+  obeyed-kept : (u : Setup) (d : Decoded) (room : ℕ) → decodedOk (c .pending) (c .gathered) d ≡ true → EffectKept c (obeyed p c u d room)
   unfolding obeyed decodedOk programmed changeOk
-  obeyed-kept u (Decoded.Wait q) room e = record { size = n; core = record { screen = h .screen; bells = h .bells; pending = e }; change = refl }
-  obeyed-kept u (Decoded.Gather b) room e = record { size = n; core = record { screen = h .screen; bells = h .bells; pending = e }; change = refl }
+  obeyed-kept u (Decoded.Wait q) room e = record { size = n; wide = refl; core = record { screen = h .screen; bells = h .bells; pending = e }; change = refl }
+  obeyed-kept u (Decoded.Gather b) room e = record { size = n; wide = refl; core = record { screen = h .screen; bells = h .bells; pending = e }; change = refl }
   obeyed-kept u (Decoded.Program i) room e =
-      pick-if (EffectKept (c .gathered)) (overfull (u .keys) i (c .gathered)) (λ z. record { size = n; core = idle-kept c h; change = refl })
-      (λ z. record { size = n; core = idle-kept c h; change = e })
-  obeyed-kept u (Decoded.Reject a) room e = record { size = n; core = idle-kept c h; change = refl }
+      pick-if (EffectKept c) (overfull (u .keys) i (c .gathered)) (λ z. record { size = n; wide = refl; core = idle-kept c h; change = refl })
+      (λ z. record { size = n; wide = refl; core = idle-kept c h; change = e })
+  obeyed-kept u (Decoded.Reject a) room e = record { size = n; wide = refl; core = idle-kept c h; change = refl }
   obeyed-kept u (Decoded.Do d) room e = carried-kept _ room (planned-kept (u .tabs) d) e
 
-  pub inner-kept : (u : Setup) (b room : ℕ) → EffectKept (c .gathered) (innerRule p c u b room)
+  pub inner-kept : (u : Setup) (b room : ℕ) → EffectKept c (innerRule p c u b room)
   unfolding innerRule changeOk
   inner-kept u b room =
-      pick-if (EffectKept (c .gathered)) (ltb b 128)
+      pick-if (EffectKept c) (ltb b 128)
       (λ e. obeyed-kept u (decodeRule (c .pending) (c .gathered .len) b) room
       (decoded-ok (c .pending) (c .gathered) b (ltb-true b 128 e) (h .pending)))
-      (λ e. record { size = n; core = h; change = refl })
+      (λ e. record { size = n; wide = refl; core = h; change = refl })
 
-  pub inner-setup : (u : Setup) (b room : ℕ) → PossibleSetup u → PossibleSetup (changed (innerRule p c u b room .change) (c .gathered) u)
-  inner-setup u b room w = changed-kept (innerRule p c u b room .change) (c .gathered) u (inner-kept u b room .change) w
+  pub inner-setup : (u : Setup) (b room : ℕ) → PossibleSetup (widthOf (c .screen)) u
+      → PossibleSetup (widthOf (innerRule p c u b room .core .screen)) (changed (innerRule p c u b room .change) (c .gathered) u)
+  inner-setup u b room w =
+      let e = innerRule p c u b room in
+      let k = inner-kept u b room in
+      subst (λ (t : Bool). PossibleSetup (columns t) (changed (e .change) (c .gathered) u)) (sym (k .wide))
+      (changed-kept (c .screen .wide) (e .change) (c .gathered) u (k .change) w)
 
 -- ---- the calls
 
--- from a page and a state to a page and a state: the length stays, and possible stays possible
+-- from a page and a state to a page and a state: the length and the width stay, and possible stays possible
 pub record Keeps (p : List ℕ) (s : State) (q : List ℕ) (t : State) : Type 0 where
   pub size : length q ≡ length p
+  pub wide : t .core .screen .wide ≡ s .core .screen .wide
   pub state : possible s ≡ true → possible t ≡ true
 
 keeps-same : {p : List ℕ} {s : State} → Keeps p s p s
-keeps-same = record { size = refl; state = λ h. h }
+keeps-same = record { size = refl; wide = refl; state = λ h. h }
 
 keeps-then : {p q r : List ℕ} {s t u : State} → Keeps p s q t → Keeps q t r u → Keeps p s r u
-keeps-then a b = record { size = b .size ∙ a .size; state = λ h. b .state (a .state h) }
+keeps-then a b = record { size = b .size ∙ a .size; wide = b .wide ∙ a .wide; state = λ h. b .state (a .state h) }
 
-pub good-parts : (p : List ℕ) (s : State) → good p s ≡ true → (length p ≡ pageLength) × (possible s ≡ true)
+pub good-parts : (p : List ℕ) (s : State) → good p s ≡ true → (length p ≡ pageLength (s .core .screen)) × (possible s ≡ true)
 unfolding good
 good-parts p s h =
-    let r = both-parts (eqb (length p) pageLength) (possible s) h in
-    (eqb-true (length p) pageLength (r .0), r .1)
+    let r = both-parts (eqb (length p) (pageLength (s .core .screen))) (possible s) h in
+    (eqb-true (length p) (pageLength (s .core .screen)) (r .0), r .1)
 
-pub good-whole : (p : List ℕ) (s : State) → length p ≡ pageLength → possible s ≡ true → good p s ≡ true
+pub good-whole : (p : List ℕ) (s : State) → length p ≡ pageLength (s .core .screen) → possible s ≡ true → good p s ≡ true
 unfolding good
-good-whole p s n h = both-true (eq-eqb (length p) pageLength n) h
+good-whole p s n h = both-true (eq-eqb (length p) (pageLength (s .core .screen)) n) h
 
 pub keeps-good : {p q : List ℕ} {s t : State} → Keeps p s q t → good p s ≡ true → good q t ≡ true
 keeps-good {p} {q} {s} {t} k h =
     let r = good-parts p s h in
-    good-whole q t (k .size ∙ r .0) (k .state (r .1))
+    good-whole q t (k .size ∙ (r .0 ∙ ap (λ (b : Bool). 24 * columns b) (sym (k .wide)))) (k .state (r .1))
 
 pub step-keeps : (p : List ℕ) (s : State) (b room : ℕ) → Keeps p s (stepRule p s b room .page) (stepRule p s b room .state)
 unfolding stepRule
@@ -223,7 +258,8 @@ step-keeps p s b room =
     let k = inner-kept p (s .core) (r .0) (w .core) (s .setup) b room in
     record {
       size = k .size ∙ sym (r .0);
-      state = λ h. possible-whole _ (k .core)
+      wide = k .wide;
+      state = λ h. possible-whole _ (k .wide ∙ w .narrow) (k .core)
           (inner-setup p (s .core) (r .0) (w .core) (s .setup) b room (w .setup));
     })
     (λ g. keeps-same)
@@ -273,15 +309,15 @@ play-good calls p s h = keeps-good (play-keeps calls p s) h
 -- ---- power-on
 
 pub powerOn-possible : possible powerOn ≡ true
-unfolding possible powerOn screenOk unsplitOk keysOk keyOk allBelow attributesOk isAttribute featuresOk featurePlace pendingOk
+unfolding possible powerOn columns noStops screenOk unsplitOk keysOk keyOk allBelow attributesOk isAttribute featuresOk featurePlace pendingOk
 powerOn-possible = refl
 
-pub powerOn-good : (p : List ℕ) → length p ≡ pageLength → good (powerOnRule p .page) (powerOnRule p .state) ≡ true
-unfolding powerOnRule blank
+pub powerOn-good : (p : List ℕ) → length p ≡ 1920 → good (powerOnRule p .page) (powerOnRule p .state) ≡ true
+unfolding powerOnRule blank powerOn columns
 powerOn-good p n = rw n (good-whole blank powerOn refl powerOn-possible)
 
 -- a page of the wrong length is left
 pub powerOn-length : (p : List ℕ) → length (powerOnRule p .page) ≡ length p
 unfolding powerOnRule blank
 powerOn-length p =
-    pick-if (λ (o : Outcome). length (o .page) ≡ length p) (eqb (length p) pageLength) (λ e. sym (eqb-true (length p) pageLength e)) (λ e. refl)
+    pick-if (λ (o : Outcome). length (o .page) ≡ length p) (eqb (length p) 1920) (λ e. sym (eqb-true (length p) 1920 e)) (λ e. refl)

@@ -23,7 +23,7 @@ use Rattle.rules.specs.Search.{guardedAt}
 use Rattle.rules.specs.State.{number, idle, changed}
 use Rattle.rules.specs.Possible.{pendingOk, good}
 use Rattle.rules.specs.Decode.{decodeRule}
-use Rattle.rules.specs.Carry.{Effect, quiet, applied, replied, landed, done, carried}
+use Rattle.rules.specs.Carry.{Effect, quiet, applied, replied, replyOf, landed, done, carried}
 use Rattle.rules.specs.Step.{Outcome, outcomeOf, overfull, programmed, obeyed, innerRule, stepRule}
 use Rattle.rules.specs.Left.{Left, Unchanged}
 use Rattle.rules.proofs.Tests.{pick-if, among-parts}
@@ -41,7 +41,7 @@ module _ (p : List ℕ) (c : Core) where
   carried-ends : (x : Plan) (room : ℕ) → Planned c x → Ended p c (carried p c x room)
   unfolding carried done applied replied landed
   carried-ends x room (obeys e) =
-      pick-if (Ended p c) (leb (length (replied (c .modes .protect) p (x .reply))) room) (λ t. ends (ap number e)) (λ t. keeps 6 refl (omega arith))
+      pick-if (Ended p c) (leb (length (replyOf (c .modes .protect) p x)) room) (λ t. ends (ap number e)) (λ t. keeps 6 refl (omega arith))
   carried-ends x room (refuses a e) = rw (leb·zero room) (clears (number a) e)
 
   module _ (u : Setup) (room : ℕ) where

@@ -11,10 +11,9 @@ use lib.ListN.{length, length-append, length-take, length-drop, length-map, leng
 use Rattle.rules.specs.declared.Plan.{Plan}
 use Rattle.rules.specs.declared.Write.{Write}
 use Rattle.rules.specs.declared.Write.the-variants as Write
-use Rattle.rules.specs.Row.{width}
 use Rattle.rules.specs.Search.{guardedAt, editEnd}
 use Rattle.rules.specs.Change.{within, fillCell, filled, shiftLeft, shiftRight, shifted, editShifted, rowsShifted, columnFilled}
-use Rattle.rules.specs.Carry.{applied, pageAfter}
+use Rattle.rules.specs.Carry.{applied, planWidth, pageAfter}
 
 pub length-within : (a e : ℕ) (f : List ℕ → List ℕ) → ((l : List ℕ) → length (f l) ≡ length l) → (p : List ℕ) → length (within a e f p) ≡ length p
 unfolding within
@@ -36,15 +35,16 @@ length-column w on v column zero row p = refl
 length-column w on v column (suc n) row p =
     length-column w on v column n (suc row) _ ∙ length-within (row * w + column) (row * w + column + 1) (filled on v) (length-filled on v) p
 
-pub length-applied : (on : Bool) (w : Write) (p : List ℕ) → length (applied on w p) ≡ length p
+pub length-applied : (w : ℕ) (on : Bool) (x : Write) (p : List ℕ) → length (applied w on x p) ≡ length p
 unfolding applied editShifted rowsShifted
-length-applied on Write.Nothing p = refl
-length-applied on (Write.Fill a e v) p = length-within a e (filled on v) (length-filled on v) p
-length-applied on (Write.FillAll a e v) p = length-within a e (filled false v) (length-filled false v) p
-length-applied on (Write.Column top bottom c v) p = length-column width on v c (bottom - top) top p
-length-applied on (Write.Edit right at v) p = length-within at (editEnd width (guardedAt on p) at) (shifted right 1 v) (length-shifted right 1 v) p
-length-applied on (Write.Rows down top bottom) p = length-within
-    (top * width) (bottom * width) (shifted down width 32) (length-shifted down width 32) p
+length-applied w on Write.Nothing p = refl
+length-applied w on (Write.Fill a e v) p = length-within a e (filled on v) (length-filled on v) p
+length-applied w on (Write.FillAll a e v) p = length-within a e (filled false v) (length-filled false v) p
+length-applied w on (Write.Column top bottom c v) p = length-column w on v c (bottom - top) top p
+length-applied w on (Write.Edit right at v) p = length-within at (editEnd w (guardedAt on p) at) (shifted right 1 v) (length-shifted right 1 v) p
+length-applied w on (Write.Rows down top bottom) p = length-within
+    (top * w) (bottom * w) (shifted down w 32) (length-shifted down w 32) p
 
 pub length-after : (on : Bool) (x : Plan) (p : List ℕ) → length (pageAfter on x p) ≡ length p
-length-after on x p = length-applied on (x .second) (applied on (x .first) p) ∙ length-applied on (x .first) p
+length-after on x p =
+    length-applied (planWidth x) on (x .second) (applied (planWidth x) on (x .first) p) ∙ length-applied (planWidth x) on (x .first) p

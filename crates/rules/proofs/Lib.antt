@@ -1,5 +1,6 @@
 pub mod Bench
 pub mod Cases
+pub mod Wide
 pub mod Tests
 pub mod Rows
 pub mod Marks

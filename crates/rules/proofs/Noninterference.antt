@@ -24,7 +24,7 @@ use Rattle.rules.specs.State.{number, idle}
 use Rattle.rules.specs.Possible.{good}
 use Rattle.rules.specs.Decode.{decodeRule}
 use Rattle.rules.specs.Plan.{planRule}
-use Rattle.rules.specs.Carry.{Effect, effect, replied, landed, pageAfter, done, carried}
+use Rattle.rules.specs.Carry.{Effect, effect, planWidth, replyOf, landed, pageAfter, done, carried}
 use Rattle.rules.specs.Step.{overfull, programmed, obeyed, innerRule, Outcome, outcomeOf, stepRule}
 use Rattle.rules.specs.Calls.{Ran, ended, joined, repeated, runRule, pressRule, Call, Step, Run, Press, Called, ofStep, ofRun, ofPress, callRule, Played, after, play}
 use Rattle.rules.specs.Noninterference.{afterEscape, anyOf, excludedBytes, completes, runCompletes, callCompletes, anyCompleted, Demand3}
@@ -67,14 +67,14 @@ module _ (on : Bool) (e : on ≡ true) {p q x y : List ℕ} (h : Related p q x y
   guards-agree : guardedAt on x ≡ guardedAt on y
   guards-agree = rw e (related-guards h)
 
-  length-agrees : (k : Plan) → length (replied on x (k .reply)) ≡ length (replied on y (k .reply))
-  length-agrees k = rw e (related-reply-length (k .reply) h)
+  length-agrees : (k : Plan) → length (replyOf on x k) ≡ length (replyOf on y k)
+  length-agrees k = rw e (related-reply-length (planWidth k) (k .reply) h)
 
-  reply-agrees : (k : Plan) → Unrevealing k → replied on x (k .reply) ≡ replied on y (k .reply)
-  reply-agrees k f = rw e (related-reply (k .reply) (f .reply) h)
+  reply-agrees : (k : Plan) → Unrevealing k → replyOf on x k ≡ replyOf on y k
+  reply-agrees k f = rw e (related-reply (planWidth k) (k .reply) (f .reply) h)
 
   pages-related : (k : Plan) → Unrevealing k → Related p q (pageAfter on k x) (pageAfter on k y)
-  pages-related k f = rw e (related-write (k .second) (f .second) (related-write (k .first) (f .first) h))
+  pages-related k f = rw e (related-write (planWidth k) (k .second) (f .second) (related-write (planWidth k) (k .first) (f .first) h))
 
 module _ {p q x y : List ℕ} (h : Related p q x y) (s : State) (on : protects s ≡ true) where
   good-agrees : good x s ≡ good y s
@@ -97,14 +97,14 @@ module _ {p q x y : List ℕ} (h : Related p q x y) (s : State) (on : protects s
       }
 
   -- a plan is carried out in both or, for want of room, in neither
-  carried-agrees : (k : Plan) (room : ℕ) → (leb (length (replied (protects s) x (k .reply))) room ≡ true → Unrevealing k)
+  carried-agrees : (k : Plan) (room : ℕ) → (leb (length (replyOf (protects s) x k)) room ≡ true → Unrevealing k)
       → AgreeFrom s p q (carried x (s .core) k room) (carried y (s .core) k room)
   unfolding carried
   carried-agrees k room f =
       rw (← (length-agrees (protects s) on h k))
       (pick-agrees (AgreeFrom s p q) _ (λ t. done-agrees k (f t)) (λ t. untouched _ _ _ on))
 
-  carried-answer : (k : Plan) (room : ℕ) → leb (length (replied (protects s) x (k .reply))) room ≡ true
+  carried-answer : (k : Plan) (room : ℕ) → leb (length (replyOf (protects s) x k)) room ≡ true
       → (carried x (s .core) k room) .answer ≡ number (k .answer)
   unfolding carried done
   carried-answer k room e = rw e

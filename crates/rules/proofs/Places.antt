@@ -17,10 +17,10 @@ use Rattle.rules.specs.declared.Screen.{Screen}
 use Rattle.rules.specs.declared.Land.{Land}
 use Rattle.rules.specs.declared.Land.the-variants as Land
 use Rattle.rules.specs.Cell.{both, either}
-use Rattle.rules.specs.Row.{width, pageLength, columnOf, rowStart}
+use Rattle.rules.specs.Row.{columnOf, rowStart}
 use Rattle.rules.specs.Search.{others, marksOf, firstIn, lastIn, lastMark, previousOpen, nextField, previousField, nextTab, previousTab, settled}
 use Rattle.rules.specs.declared.Mark.the-variants as Mark
-use Rattle.rules.specs.State.{segmentStart, segmentEnd, cursorOf, Inside}
+use Rattle.rules.specs.State.{widthOf, pageLength, segmentStart, segmentEnd, cursorOf, Inside}
 use Rattle.rules.specs.Plan.{nextCell, atTop, upCell, isSegment}
 use Rattle.rules.specs.Good.{GoodLand}
 use Rattle.rules.proofs.Tests.{pick-if, both-parts}
@@ -28,9 +28,9 @@ use Rattle.rules.proofs.Marks.{length-marks, last-range, around-range, 
 
 -- ---- tab stops, whatever their number
 
-pub next-tab-below : (tabs : List Bool) (column : ℕ) → column < width → nextTab width tabs column < width
-next-tab-below tabs column h =
-    pick-if (λ (n : ℕ). n < width) (ltb (firstIn tabs (column + 1) width) width) (ltb-true (firstIn tabs (column + 1) width) width) (λ e. h)
+pub next-tab-below : (w : ℕ) (tabs : List Bool) (column : ℕ) → column < w → nextTab w tabs column < w
+next-tab-below w tabs column h =
+    pick-if (λ (n : ℕ). n < w) (ltb (firstIn tabs (column + 1) w) w) (ltb-true (firstIn tabs (column + 1) w) w) (λ e. h)
 
 last-at-most : (none at most : ℕ) (m : List Bool) → none ≤ most → at + length m ≤ most + 1 → lastMark none at m ≤ most
 last-at-most none at most [] a b = a
@@ -64,16 +64,16 @@ module _ (x : Screen) (i : Inside x) where
 
   pub in-up : In x (upCell x)
   unfolding upCell atTop
-  in-up = pick-if (In x) (ltb (cursorOf x) (segmentStart x + width)) (λ e. omega arith)
-      (λ e. omega (arith, ltb-false (cursorOf x) (segmentStart x + width) e))
+  in-up = pick-if (In x) (ltb (cursorOf x) (segmentStart x + widthOf x)) (λ e. omega arith)
+      (λ e. omega (arith, ltb-false (cursorOf x) (segmentStart x + widthOf x) e))
 
-  pub in-next-tab : (tabs : List Bool) → In x (rowStart width (cursorOf x) + nextTab width tabs (columnOf width (cursorOf x)))
-  in-next-tab tabs = omega (arith, next-tab-below tabs (columnOf width (cursorOf x)) (omega arith))
+  pub in-next-tab : (tabs : List Bool) → In x (rowStart (widthOf x) (cursorOf x) + nextTab (widthOf x) tabs (columnOf (widthOf x) (cursorOf x)))
+  in-next-tab tabs = omega (arith, next-tab-below (widthOf x) tabs (columnOf (widthOf x) (cursorOf x)) (omega arith))
 
-  pub in-previous-tab : (tabs : List Bool) → In x (rowStart width (cursorOf x) + previousTab tabs (columnOf width (cursorOf x)))
-  in-previous-tab tabs = omega (arith, previous-tab-below tabs (columnOf width (cursorOf x)))
+  pub in-previous-tab : (tabs : List Bool) → In x (rowStart (widthOf x) (cursorOf x) + previousTab tabs (columnOf (widthOf x) (cursorOf x)))
+  in-previous-tab tabs = omega (arith, previous-tab-below tabs (columnOf (widthOf x) (cursorOf x)))
 
-  module _ (g : List Bool) (n : length g ≡ pageLength) where
+  module _ (g : List Bool) (n : length g ≡ pageLength x) where
     pub in-back : In x (previousOpen g (segmentStart x) (cursorOf x))
     in-back =
         let k = length-marks Mark.Open g in

@@ -46,9 +46,9 @@ module _ (c : Core) where
   unfolding unlessGuarded
   unless g h = search planning
 
-  addressed : (x : Screen) (base row column : ℕ) → Planned c (addressPlan c x base row column)
+  addressed : (x : Screen) (base most row column : ℕ) → Planned c (addressPlan c x base most row column)
   unfolding addressPlan
-  addressed x base row column = search planning
+  addressed x base most row column = search planning
 
   activates : (n : ℕ) → Planned c (activate c n)
   unfolding activate
@@ -66,8 +66,8 @@ module _ (c : Core) where
   moves g tabs Move.NextLine = search planning
   moves g tabs Move.Tab = obeys refl
   moves g tabs Move.BackTab = obeys refl
-  moves g tabs (Move.Address r k) = addressed (c .screen) 0x20 r k
-  moves g tabs (Move.Decimal r k) = addressed (c .screen) 1 r k
+  moves g tabs (Move.Address r k) = addressed (c .screen) 0x20 80 r k
+  moves g tabs (Move.Decimal r k) = addressed (c .screen) 1 _ r k
 
   windows : (w : Window) → Planned c (windowPlan c w)
   unfolding windowPlan

@@ -18,9 +18,10 @@ use Rattle.rules.specs.declared.Pending.{Pending}
 use Rattle.rules.specs.declared.Pending.the-variants as Pending
 use Rattle.rules.specs.declared.Decoded.{Decoded}
 use Rattle.rules.specs.declared.Decoded.the-variants as Decoded
+use Rattle.rules.specs.Row.{columns}
 use Rattle.rules.specs.Cell.{both, either, among}
 use Rattle.rules.specs.State.{keyText, keyOf, noKey, changed}
-use Rattle.rules.specs.Possible.{powerOn, blank, unsplitOk, screenOk, allBelow, keyOk, keysOk, isAttribute, attributesOk, featurePlace, featuresOk, isKey, pendingOk, possible, good}
+use Rattle.rules.specs.Possible.{powerOn, blank, unsplitOk, screenOk, allBelow, keyOk, keysOk, isAttribute, attributesOk, featurePlace, featuresOk, isKey, pendingOk, noStops, possible, good}
 use Rattle.rules.specs.Decode.{lookup, idleRule, escapeRule, splitRule, digitRule, decimalRowRule, decimalColumnRule, keyValueRule, keyTextRule, decodeRule}
 use Rattle.rules.specs.Carry.{digit}
 use Rattle.rules.specs.Step.{Outcome, grown, obeyed, innerRule, stepRule}
@@ -61,7 +62,7 @@ leads-append (wait h e x) y = wait h e (leads-append x y)
 leads-append (gather h e x) y = gather h e (leads-append x y)
 
 good-waiting : (q : Pending) (k : Key) → pendingOk q k ≡ true → good blank (waiting q k) ≡ true
-unfolding good possible blank powerOn screenOk unsplitOk keysOk keyOk allBelow attributesOk isAttribute featuresOk featurePlace
+unfolding good possible blank powerOn columns noStops screenOk unsplitOk keysOk keyOk allBelow attributesOk isAttribute featuresOk featurePlace
 good-waiting q k e = e
 
 abbrev quietly : State → Outcome

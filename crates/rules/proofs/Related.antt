@@ -16,7 +16,7 @@ use Rattle.rules.specs.declared.Write.the-variants as Write
 use Rattle.rules.specs.declared.Reply.{Reply}
 use Rattle.rules.specs.declared.Reply.the-variants as Reply
 use Rattle.rules.specs.Cell.{protected}
-use Rattle.rules.specs.Row.{width, rowEnd}
+use Rattle.rules.specs.Row.{rowEnd}
 use Rattle.rules.specs.Search.{marksBy, guardedAt, firstMark, firstIn, editEnd}
 use Rattle.rules.specs.Change.{within, fillCell, filled, shiftLeft, shiftRight, shifted, editShifted, columnFilled}
 use Rattle.rules.specs.Carry.{applied, openCell, textFrom, replied}
@@ -123,30 +123,30 @@ conceals (Reply.Cell at) = true
 conceals (Reply.Text true a e) = false
 conceals (Reply.Text false a e) = true
 
-pub related-reply : (r : Reply) → conceals r ≡ true → {p q x y : List ℕ} → Related p q x y → replied true x r ≡ replied true y r
+pub related-reply : (w : ℕ) (r : Reply) → conceals r ≡ true → {p q x y : List ℕ} → Related p q x y → replied w true x r ≡ replied w true y r
 unfolding replied
-related-reply Reply.Nothing e h = refl
-related-reply Reply.Acknowledge e h = refl
-related-reply Reply.Identity e h = refl
-related-reply (Reply.Address r c) e h = refl
-related-reply (Reply.SegmentAddress n r c) e h = refl
-related-reply (Reply.Decimal r c) e h = refl
-related-reply (Reply.Cell at) e h = related-text width at at (related-take (at + 1 - at) (related-drop at h))
-related-reply (Reply.Text true a e) c h = absurd (false≢true c)
-related-reply (Reply.Text false a e) c h = rw (related-text width a a (related-take (e - a) (related-drop a h)))
+related-reply w Reply.Nothing e h = refl
+related-reply w Reply.Acknowledge e h = refl
+related-reply w Reply.Identity e h = refl
+related-reply w (Reply.Address r c) e h = refl
+related-reply w (Reply.SegmentAddress n r c) e h = refl
+related-reply w (Reply.Decimal r c) e h = refl
+related-reply w (Reply.Cell at) e h = related-text w at at (related-take (at + 1 - at) (related-drop at h))
+related-reply w (Reply.Text true a e) c h = absurd (false≢true c)
+related-reply w (Reply.Text false a e) c h = rw (related-text w a a (related-take (e - a) (related-drop a h)))
 
 -- any reply fits the room of both terminals or of neither
-pub related-reply-length : (r : Reply) {p q x y : List ℕ} → Related p q x y → length (replied true x r) ≡ length (replied true y r)
+pub related-reply-length : (w : ℕ) (r : Reply) {p q x y : List ℕ} → Related p q x y → length (replied w true x r) ≡ length (replied w true y r)
 unfolding replied
-related-reply-length Reply.Nothing h = refl
-related-reply-length Reply.Acknowledge h = refl
-related-reply-length Reply.Identity h = refl
-related-reply-length (Reply.Address r c) h = refl
-related-reply-length (Reply.SegmentAddress n r c) h = refl
-related-reply-length (Reply.Decimal r c) h = refl
-related-reply-length (Reply.Cell at) h = ap length (related-reply (Reply.Cell at) refl h)
-related-reply-length (Reply.Text true a e) h = simp length-append (rw (related-all width a a (related-take (e - a) (related-drop a h))))
-related-reply-length (Reply.Text false a e) h = ap length (related-reply (Reply.Text false a e) refl h)
+related-reply-length w Reply.Nothing h = refl
+related-reply-length w Reply.Acknowledge h = refl
+related-reply-length w Reply.Identity h = refl
+related-reply-length w (Reply.Address r c) h = refl
+related-reply-length w (Reply.SegmentAddress n r c) h = refl
+related-reply-length w (Reply.Decimal r c) h = refl
+related-reply-length w (Reply.Cell at) h = ap length (related-reply w (Reply.Cell at) refl h)
+related-reply-length w (Reply.Text true a e) h = simp length-append (rw (related-all w a a (related-take (e - a) (related-drop a h))))
+related-reply-length w (Reply.Text false a e) h = ap length (related-reply w (Reply.Text false a e) refl h)
 
 -- ---- what is written
 
@@ -254,11 +254,11 @@ spares (Write.Column top bottom c v) = true
 spares (Write.Edit right at v) = true
 spares (Write.Rows down top bottom) = false
 
-pub related-write : (w : Write) → spares w ≡ true → {p q x y : List ℕ} → Related p q x y → Related p q (applied true w x) (applied true w y)
+pub related-write : (w : ℕ) (r : Write) → spares r ≡ true → {p q x y : List ℕ} → Related p q x y → Related p q (applied w true r x) (applied w true r y)
 unfolding applied
-related-write Write.Nothing e h = h
-related-write (Write.Fill a e v) s h = related-fill a e v h
-related-write (Write.FillAll a e v) s h = absurd (false≢true s)
-related-write (Write.Column top bottom c v) e h = related-column width v c (bottom - top) top h
-related-write (Write.Edit right at v) e h = related-edit width right v at h
-related-write (Write.Rows down top bottom) e h = absurd (false≢true e)
+related-write w Write.Nothing e h = h
+related-write w (Write.Fill a e v) s h = related-fill a e v h
+related-write w (Write.FillAll a e v) s h = absurd (false≢true s)
+related-write w (Write.Column top bottom c v) e h = related-column w v c (bottom - top) top h
+related-write w (Write.Edit right at v) e h = related-edit w right v at h
+related-write w (Write.Rows down top bottom) e h = absurd (false≢true e)

@@ -1,16 +1,36 @@
 -- Laws of rows and columns over the width. `by-width` is the one place where the widths are gone through.
 -- Assumes nothing.
 use mathlib.Core.Path.{_≡_, refl, sym, subst}
-use mathlib.Core.Logic.{⊎-elim}
+use mathlib.Core.Bool.{Bool, true, false}
+use mathlib.Core.Logic.{⊎-elim, inl, inr}
 use Prim.Native.Nat.{ℕ, suc, _+_, _-_, _*_, _/_, _%_, _≤_, _<_}
 use native.Mathlib.Omega.{arith}
-use Rattle.rules.specs.Row.{Width, rowEnd}
+use Rattle.rules.specs.Row.{Width, columns, rowEnd, Placed}
 
 -- what holds at each width: with a numeral for the width, `omega` does the rest
 pub by-width : (P : ℕ → Type 0) → P 80 → P 132 → {w : ℕ} → Width w → P w
 by-width P a b k = ⊎-elim (λ e. subst P (sym e) a) (λ e. subst P (sym e) b) k
 
+pub columns-width : (wide : Bool) → Width (columns wide)
+unfolding columns
+columns-width true = inr refl
+columns-width false = inl refl
+
 module _ {w : ℕ} (k : Width w) where
+  pub placed : {top bottom at : ℕ} → top < bottom → bottom ≤ 24 → top * w ≤ at → at < bottom * w → Placed w top bottom at
+  unfolding rowEnd
+  placed {top} {bottom} {at} r m a b =
+      by-width (λ (w : ℕ). top * w ≤ at → at < bottom * w → Placed w top bottom at) (λ a b. omega arith) (λ a b. omega arith) k a b
+
+  pub width-range : (80 ≤ w) × (w ≤ 132)
+  width-range = by-width (λ (w : ℕ). (80 ≤ w) × (w ≤ 132)) (omega arith) (omega arith) k
+
+  pub column-most : (at : ℕ) → at % w ≤ at
+  column-most at = by-width (λ (w : ℕ). at % w ≤ at) (omega arith) (omega arith) k
+
+  pub column-below : (at : ℕ) → at % w < w
+  column-below at = by-width (λ (w : ℕ). at % w < w) (omega arith) (omega arith) k
+
   -- so many rows begin no later
   pub rows-le : {a b : ℕ} → a ≤ b → a * w ≤ b * w
   rows-le {a} {b} h = by-width (λ (w : ℕ). a * w ≤ b * w) (omega arith) (omega arith) k
@@ -33,6 +53,6 @@ module _ {w : ℕ} (k : Width w) where
   pub page-small : 24 * w ≤ 3168
   page-small = by-width (λ (w : ℕ). 24 * w ≤ 3168) (omega arith) (omega arith) k
 
-  pub cell-inside : {row column : ℕ} → row < 24 → column < w → row * w + column < 24 * w
-  cell-inside {row} {column} h i =
-      by-width (λ (w : ℕ). column < w → row * w + column < 24 * w) (λ i. omega arith) (λ i. omega arith) k i
+  pub cell-inside : {row column bottom : ℕ} → row < bottom → column < w → row * w + column < bottom * w
+  cell-inside {row} {column} {bottom} h i =
+      by-width (λ (w : ℕ). column < w → row * w + column < bottom * w) (λ i. omega arith) (λ i. omega arith) k i

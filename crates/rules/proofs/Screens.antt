@@ -13,33 +13,34 @@ use lib.Dec.{leb, ltb, eqb}
 use borrow.Author.Tests.{ltb-true, leb-true, eqb-true, eq-eqb, ne-eqb}
 use Rattle.rules.specs.declared.Screen.{Screen}
 use Rattle.rules.specs.Cell.{pick}
-use Rattle.rules.specs.Row.{width, height, pageLength}
-use Rattle.rules.specs.State.{segmentTop, segmentBottom, segmentStart, segmentEnd, cursorOf, withCursor, activated, Inside}
+use Rattle.rules.specs.Row.{columns, height}
+use Rattle.rules.specs.State.{widthOf, pageLength, segmentTop, segmentBottom, segmentStart, segmentEnd, cursorOf, withCursor, activated, Inside}
 use Rattle.rules.specs.Possible.{unsplitOk, splitOk, screenOk}
 use Rattle.rules.specs.Plan.{unsplitScreen, splitScreen}
 use Rattle.rules.proofs.Tests.{both-parts, either-way, tests}
+use Rattle.rules.proofs.Rows.{columns-width, placed, width-range, cell-inside}
 
 -- the two forms of a possible screen
 record Unsplit (x : Screen) : Type 0 where
   none : eqb (x .split) 0 ≡ true
   first : eqb (x .active) 0 ≡ true
-  zeroth : x .cursor0 < pageLength
-  other : x .cursor1 < pageLength
+  zeroth : x .cursor0 < pageLength x
+  other : x .cursor1 < pageLength x
 
 record Split (x : Screen) : Type 0 where
   some : eqb (x .split) 0 ≡ false
   least : 2 ≤ x .split
   most : x .split ≤ height
   one : x .active ≤ 1
-  low : x .cursor0 < (x .split - 1) * width
-  top : (x .split - 1) * width ≤ x .cursor1
-  high : x .cursor1 < pageLength
+  low : x .cursor0 < (x .split - 1) * widthOf x
+  top : (x .split - 1) * widthOf x ≤ x .cursor1
+  high : x .cursor1 < pageLength x
 
 unsplit-parts : (x : Screen) → eqb (x .split) 0 ≡ true → unsplitOk x ≡ true → Unsplit x
 unfolding unsplitOk
 unsplit-parts x z h =
     let r1 = both-parts (eqb (x .active) 0) _ h in
-    let r2 = both-parts (ltb (x .cursor0) pageLength) _ (r1 .1) in
+    let r2 = both-parts (ltb (x .cursor0) (pageLength x)) _ (r1 .1) in
     record { none = z; first = r1 .0; zeroth = ltb-true _ _ (r2 .0); other = ltb-true _ _ (r2 .1) }
 
 split-parts : (x : Screen) → eqb (x .split) 0 ≡ false → splitOk x ≡ true → Split x
@@ -48,8 +49,8 @@ split-parts x z h =
     let r1 = both-parts (leb 2 (x .split)) _ h in
     let r2 = both-parts (leb (x .split) height) _ (r1 .1) in
     let r3 = both-parts (leb (x .active) 1) _ (r2 .1) in
-    let r4 = both-parts (ltb (x .cursor0) ((x .split - 1) * width)) _ (r3 .1) in
-    let r5 = both-parts (leb ((x .split - 1) * width) (x .cursor1)) _ (r4 .1) in
+    let r4 = both-parts (ltb (x .cursor0) ((x .split - 1) * widthOf x)) _ (r3 .1) in
+    let r5 = both-parts (leb ((x .split - 1) * widthOf x) (x .cursor1)) _ (r4 .1) in
     record {
       some = z;
       least = leb-true _ _ (r1 .0);
@@ -76,30 +77,22 @@ split-whole : (x : Screen) → Split x → screenOk x ≡ true
 unfolding screenOk splitOk
 split-whole x s = rw (s .some) (search (tests, arith))
 
+-- where the cursor is in a row of its segment, its row and column follow
+inside : (x : Screen) → segmentTop x < segmentBottom x → segmentBottom x ≤ height → segmentStart x ≤ cursorOf x → cursorOf x < segmentEnd x → Inside x
+inside x r m f b = record { rows = r; most = m; from = f; below = b; placed = placed (columns-width (x .wide)) r m f b }
+
 pub screen-inside : (x : Screen) → screenOk x ≡ true → Inside x
 unfolding segmentTop segmentBottom cursorOf
 screen-inside x h = by (screen-parts x h) (either-way (eqb (x .active) 0))
   where
     by : Unsplit x ⊎ Split x → (eqb (x .active) 0 ≡ true) ⊎ (eqb (x .active) 0 ≡ false) → Inside x
     by (inl u) t =
-        record {
-          rows = rw (u .none, u .first) (omega arith);
-          most = rw (u .none) (omega arith);
-          from = rw (u .first) (omega arith);
-          below = rw (u .none, u .first) (omega arith);
-        }
-    by (inr s) (inl a) = record {
-      rows = rw (s .some, a) (omega arith);
-      most = rw (s .some, a) (omega arith);
-      from = rw a (omega arith);
-      below = rw (s .some, a) (s .low);
-    }
-    by (inr s) (inr a) = record {
-      rows = rw (s .some, a) (omega arith);
-      most = rw (s .some, a) (omega arith);
-      from = rw a (s .top);
-      below = rw (s .some, a) (s .high);
-    }
+        inside x (rw (u .none, u .first) (omega arith)) (rw (u .none) (omega arith)) (rw (u .first) (omega arith))
+        (rw (u .none, u .first) (omega arith))
+    by (inr s) (inl a) =
+        inside x (rw (s .some, a) (omega arith)) (rw (s .some, a) (omega arith)) (rw a (omega arith)) (rw (s .some, a) (s .low))
+    by (inr s) (inr a) =
+        inside x (rw (s .some, a) (omega arith)) (rw (s .some, a) (omega arith)) (rw a (s .top)) (rw (s .some, a) (s .high))
 
 pub cursor-kept : (x : Screen) (n : ℕ) → screenOk x ≡ true → segmentStart x ≤ n → n < segmentEnd x → screenOk (withCursor x n) ≡ true
 unfolding segmentTop segmentBottom withCursor
@@ -107,10 +100,10 @@ cursor-kept x n h l e = by (screen-parts x h) (either-way (eqb (x .active) 0))
   where
     by : Unsplit x ⊎ Split x → (eqb (x .active) 0 ≡ true) ⊎ (eqb (x .active) 0 ≡ false) → screenOk (withCursor x n) ≡ true
     by (inl u) t =
-        let k : n < pageLength = (rw (u .none) at e) in
+        let k : n < pageLength x = (rw (u .none) at e) in
         unsplit-whole _ record { none = u .none; first = u .first; zeroth = rw (u .first) k; other = rw (u .first) (u .other) }
     by (inr s) (inl a) =
-        let k : n < (x .split - 1) * width = (rw (s .some, a) at e) in
+        let k : n < (x .split - 1) * widthOf x = (rw (s .some, a) at e) in
         split-whole _ record {
           some = s .some;
           least = s .least;
@@ -122,8 +115,8 @@ cursor-kept x n h l e = by (screen-parts x h) (either-way (eqb (x .active) 0))
               a (s .high);
         }
     by (inr s) (inr a) =
-        let j : (x .split - 1) * width ≤ n = (rw a at l) in
-        let k : n < pageLength = (rw (s .some, a) at e) in
+        let j : (x .split - 1) * widthOf x ≤ n = (rw a at l) in
+        let k : n < pageLength x = (rw (s .some, a) at e) in
         split-whole _ record { some = s .some; least = s .least; most = s .most; one = s .one; low = rw a (s .low); top = rw a j; high = rw a k }
 
 -- segment 1 is there where the page is split
@@ -139,17 +132,21 @@ activated-kept x n h one some = by (screen-parts x h)
     }
     by (inr s) = split-whole _ record { some = s .some; least = s .least; most = s .most; one = one; low = s .low; top = s .top; high = s .high }
 
-pub unsplit-screen : screenOk unsplitScreen ≡ true
-unfolding screenOk unsplitOk
-unsplit-screen = refl
+pub unsplit-screen : (wide : Bool) → screenOk (unsplitScreen wide) ≡ true
+unfolding screenOk unsplitOk columns
+unsplit-screen true = refl
+unsplit-screen false = refl
 
-pub split-screen : (s : ℕ) → 2 ≤ s → s ≤ height → screenOk (splitScreen s) ≡ true
-split-screen s l h = split-whole (splitScreen s) record {
-  some = ne-eqb s 0 (λ e. omega arith);
-  least = l;
-  most = h;
-  one = omega arith;
-  low = omega arith;
-  top = omega arith;
-  high = omega arith;
-}
+pub split-screen : (wide : Bool) (s : ℕ) → 2 ≤ s → s ≤ height → screenOk (splitScreen wide s) ≡ true
+split-screen wide s l h =
+    let k = columns-width wide in
+    let r = width-range k in
+    split-whole (splitScreen wide s) record {
+      some = ne-eqb s 0 (λ e. omega arith);
+      least = l;
+      most = h;
+      one = omega arith;
+      low = omega (arith, cell-inside k {row = 0} {column = 0} {bottom = s - 1} (omega arith) (omega arith));
+      top = omega arith;
+      high = omega (arith, cell-inside k {row = s - 1} {column = 0} {bottom = 24} (omega arith) (omega arith));
+    }

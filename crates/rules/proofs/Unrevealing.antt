@@ -95,9 +95,9 @@ module _ (g tabs : List Bool) (c : Core) (on : c .modes .protect ≡ true) where
   unfolding unlessGuarded
   unless-guarded f = search forms
 
-  address : (x : Screen) (base row column : ℕ) → Unrevealing (addressPlan c x base row column)
+  address : (x : Screen) (base most row column : ℕ) → Unrevealing (addressPlan c x base most row column)
   unfolding addressPlan
-  address x base row column = search forms
+  address x base most row column = search forms
 
   reverse : Unrevealing (reversePlan c)
   unfolding reversePlan
@@ -119,8 +119,8 @@ module _ (g tabs : List Bool) (c : Core) (on : c .modes .protect ≡ true) where
   move Move.NextLine = down _
   move Move.Tab = search forms
   move Move.BackTab = search forms
-  move (Move.Address r k) = address _ _ _ _
-  move (Move.Decimal r k) = address _ _ _ _
+  move (Move.Address r k) = address _ _ _ _ _
+  move (Move.Decimal r k) = address _ _ _ _ _
 
   window : (x : Window) → Unrevealing (windowPlan c x)
   unfolding windowPlan activate

@@ -7,15 +7,15 @@ use lib.ListN.{length, getD}
 use Rattle.rules.specs.declared.State.{State}
 use Rattle.rules.specs.declared.Key.{Key}
 use Rattle.rules.specs.Cell.{pick, among}
-use Rattle.rules.specs.Row.{pageLength}
+use Rattle.rules.specs.Row.{narrowCells}
 use Rattle.rules.specs.State.{keyText, keyPlace, noKey}
 use Rattle.rules.specs.Possible.{powerOn, blank, isKey, good}
 use Rattle.rules.specs.Step.{Outcome, stepRule}
 
--- power-on: all cells 0. A wrong page length answers 7 and leaves the page
+-- power-on: a narrow page, all cells 0. A wrong page length answers 7 and leaves the page
 unfoldable pub powerOnRule : List ℕ → Outcome
 powerOnRule p =
-    pick (eqb (length p) pageLength) (record { answer = 0; state = powerOn; page = blank; reply = [] })
+    pick (eqb (length p) narrowCells) (record { answer = 0; state = powerOn; page = blank; reply = [] })
     (record { answer = 7; state = powerOn; page = p; reply = [] })
 
 -- a run: its answer, bytes taken, how many of these answered 1 to 5, the reply, the bytes not taken

@@ -15,19 +15,18 @@ use Rattle.rules.specs.declared.Reply.the-variants as Reply
 use Rattle.rules.specs.declared.Land.{Land}
 use Rattle.rules.specs.declared.Land.the-variants as Land
 use Rattle.rules.specs.Cell.{pick, both, guarded, sent}
-use Rattle.rules.specs.Row.{width}
 use Rattle.rules.specs.Search.{guardedAt, settled}
 use Rattle.rules.specs.Change.{within, filled, columnFilled, editShifted, rowsShifted}
-use Rattle.rules.specs.State.{number, segmentStart, segmentEnd, withCursor, withScreen}
+use Rattle.rules.specs.State.{number, widthOf, segmentStart, segmentEnd, withCursor, withScreen}
 
--- the page after a write
-unfoldable pub applied : Bool → Write → List ℕ → List ℕ
-applied on Write.Nothing p = p
-applied on (Write.Fill a e v) p = within a e (filled on v) p
-applied on (Write.FillAll a e v) p = within a e (filled false v) p
-applied on (Write.Column top bottom c v) p = columnFilled width on v c (bottom - top) top p
-applied on (Write.Edit right at v) p = editShifted width on right v at p
-applied on (Write.Rows down top bottom) p = rowsShifted width down top bottom p
+-- the page after a write, w being its width
+unfoldable pub applied : ℕ → Bool → Write → List ℕ → List ℕ
+applied w on Write.Nothing p = p
+applied w on (Write.Fill a e v) p = within a e (filled on v) p
+applied w on (Write.FillAll a e v) p = within a e (filled false v) p
+applied w on (Write.Column top bottom c v) p = columnFilled w on v c (bottom - top) top p
+applied w on (Write.Edit right at v) p = editShifted w on right v at p
+applied w on (Write.Rows down top bottom) p = rowsShifted w down top bottom p
 
 -- US before each row but the first of a send from cell a on, at cell i
 unfoldable pub separator : ℕ → ℕ → ℕ → List ℕ
@@ -49,15 +48,15 @@ textOf w on p a e = textFrom w on a a (take (e - a) (drop a p))
 abbrev pub digit : ℕ → ℕ
 digit n = 0x30 + n % 10
 
-unfoldable pub replied : Bool → List ℕ → Reply → List ℕ
-replied on p Reply.Nothing = []
-replied on p Reply.Acknowledge = 0x06 ∷ []
-replied on p Reply.Identity = 0x35 ∷ 0x30 ∷ 0x0d ∷ []
-replied on p (Reply.Address r c) = r ∷ c ∷ 0x0d ∷ []
-replied on p (Reply.SegmentAddress n r c) = n ∷ r ∷ c ∷ 0x0d ∷ []
-replied on p (Reply.Decimal r c) = digit (r / 10) ∷ digit r ∷ 0x52 ∷ digit (c / 100) ∷ digit (c / 10) ∷ digit c ∷ 0x43 ∷ []
-replied on p (Reply.Cell at) = textOf width on p at (at + 1)
-replied on p (Reply.Text all a e) = textOf width (pick all false on) p a e ++ 0x0d ∷ []
+unfoldable pub replied : ℕ → Bool → List ℕ → Reply → List ℕ
+replied w on p Reply.Nothing = []
+replied w on p Reply.Acknowledge = 0x06 ∷ []
+replied w on p Reply.Identity = 0x35 ∷ 0x30 ∷ 0x0d ∷ []
+replied w on p (Reply.Address r c) = r ∷ c ∷ 0x0d ∷ []
+replied w on p (Reply.SegmentAddress n r c) = n ∷ r ∷ c ∷ 0x0d ∷ []
+replied w on p (Reply.Decimal r c) = digit (r / 10) ∷ digit r ∷ 0x52 ∷ digit (c / 100) ∷ digit (c / 10) ∷ digit c ∷ 0x43 ∷ []
+replied w on p (Reply.Cell at) = textOf w on p at (at + 1)
+replied w on p (Reply.Text all a e) = textOf w (pick all false on) p a e ++ 0x0d ∷ []
 
 -- the active cursor goes where the plan says
 unfoldable pub landed : List Bool → Land → Core → Core
@@ -79,15 +78,22 @@ effect n c x p r = record { answer = n; core = c; change = x; page = p; reply = 
 abbrev pub quiet : ℕ → Core → List ℕ → Effect
 quiet n c p = effect n c SetupChange.Nothing p []
 
+-- the width of the page that a plan is for: no plan changes it
+abbrev pub planWidth : Plan → ℕ
+planWidth x = widthOf (x .next .screen)
+
 abbrev pub pageAfter : Bool → Plan → List ℕ → List ℕ
-pageAfter on x p = applied on (x .second) (applied on (x .first) p)
+pageAfter on x p = applied (planWidth x) on (x .second) (applied (planWidth x) on (x .first) p)
+
+abbrev pub replyOf : Bool → List ℕ → Plan → List ℕ
+replyOf on p x = replied (planWidth x) on p (x .reply)
 
 -- written, replied, and settled over the page as it then is, with protect mode as it then is
 unfoldable pub done : Bool → List ℕ → Plan → Effect
 done on p x =
     effect (number (x .answer)) (landed (guardedAt (x .next .modes .protect) (pageAfter on x p)) (x .land) (x .next)) (x .change)
-    (pageAfter on x p) (replied on p (x .reply))
+    (pageAfter on x p) (replyOf on p x)
 
 -- a reply longer than the room answers 6, and nothing has changed
 unfoldable pub carried : List ℕ → Core → Plan → ℕ → Effect
-carried p c x room = pick (leb (length (replied (c .modes .protect) p (x .reply))) room) (done (c .modes .protect) p x) (quiet 6 c p)
+carried p c x room = pick (leb (length (replyOf (c .modes .protect) p x)) room) (done (c .modes .protect) p x) (quiet 6 c p)

@@ -18,3 +18,4 @@ pub mod Press
 pub mod Reach
 pub mod Bench
 pub mod Cases
+pub mod Wide

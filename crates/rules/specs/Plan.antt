@@ -37,9 +37,9 @@ use Rattle.rules.specs.declared.Reply.the-variants as Reply
 use Rattle.rules.specs.declared.Land.{Land}
 use Rattle.rules.specs.declared.Land.the-variants as Land
 use Rattle.rules.specs.Cell.{pick, both, either, among, written}
-use Rattle.rules.specs.Row.{width, rowOf, columnOf, rowStart, rowEnd}
+use Rattle.rules.specs.Row.{columns, addressed, rowOf, columnOf, rowStart, rowEnd}
 use Rattle.rules.specs.Search.{previousOpen, nextField, previousField, nextTab, previousTab}
-use Rattle.rules.specs.State.{segmentTop, segmentBottom, segmentStart, segmentEnd, cursorOf, activated, withScreen, withModes, withBells, withProtect, withMode, idle}
+use Rattle.rules.specs.State.{widthOf, segmentTop, segmentBottom, segmentStart, segmentEnd, cursorOf, activated, withScreen, withModes, withBells, withProtect, withMode, idle}
 use Rattle.rules.specs.Possible.{featurePlace}
 
 -- the forms of plans
@@ -84,11 +84,11 @@ nextCell x = pick (ltb (cursorOf x + 1) (segmentEnd x)) (cursorOf x + 1) (segmen
 
 -- the cursor is in the segment's top row
 unfoldable pub atTop : Screen → Bool
-atTop x = ltb (cursorOf x) (segmentStart x + width)
+atTop x = ltb (cursorOf x) (segmentStart x + widthOf x)
 
 -- 0Bh: up in column, top wraps to bottom
 unfoldable pub upCell : Screen → ℕ
-upCell x = pick (atTop x) (segmentEnd x - width + columnOf width (cursorOf x)) (cursorOf x - width)
+upCell x = pick (atTop x) (segmentEnd x - widthOf x + columnOf (widthOf x) (cursorOf x)) (cursorOf x - widthOf x)
 
 -- ESC j: up; at the top it scrolls the segment down if protect is off, else stays
 unfoldable pub reversePlan : Core → Plan
@@ -96,55 +96,55 @@ reversePlan c =
     let x = c .screen in
     pick (atTop x)
     (pick (c .modes .protect) (settling (idle c) (cursorOf x)) (writing (idle c) (scroll x true) (Land.Settle (cursorOf x))))
-    (settling (idle c) (cursorOf x - width))
+    (settling (idle c) (cursorOf x - widthOf x))
 
 -- 0Ah, from the cursor, and 1Fh, from column 1 of its row: down in column; at the bottom scroll up, or wrap to the top
 unfoldable pub downPlan : Core → ℕ → Plan
 downPlan c i =
     let x = c .screen in
-    pick (ltb (i + width) (segmentEnd x)) (settling (idle c) (i + width))
-    (pick (scrolls (c .modes)) (writing (idle c) (scroll x false) (Land.Settle i)) (settling (idle c) (segmentStart x + columnOf width i)))
+    pick (ltb (i + widthOf x) (segmentEnd x)) (settling (idle c) (i + widthOf x))
+    (pick (scrolls (c .modes)) (writing (idle c) (scroll x false) (Land.Settle i)) (settling (idle c) (segmentStart x + columnOf (widthOf x) i)))
 
 -- 09h: the next tab stop, or with protect on the next field start; ESC I: mirror image
 unfoldable pub tabCell : List Bool → List Bool → Core → ℕ
 tabCell g tabs c =
     let x = c .screen in
     pick (c .modes .protect) (nextField g (segmentStart x) (segmentEnd x) (cursorOf x))
-    (rowStart width (cursorOf x) + nextTab width tabs (columnOf width (cursorOf x)))
+    (rowStart (widthOf x) (cursorOf x) + nextTab (widthOf x) tabs (columnOf (widthOf x) (cursorOf x)))
 
 unfoldable pub backTabCell : List Bool → List Bool → Core → ℕ
 backTabCell g tabs c =
     let x = c .screen in
     pick (c .modes .protect) (previousField g (segmentStart x) (segmentEnd x) (cursorOf x))
-    (rowStart width (cursorOf x) + previousTab tabs (columnOf width (cursorOf x)))
+    (rowStart (widthOf x) (cursorOf x) + previousTab tabs (columnOf (widthOf x) (cursorOf x)))
 
--- a row and a column, both counted from `base`, within the active segment of x, from its top; outside it 3
-unfoldable pub addressPlan : Core → Screen → ℕ → ℕ → ℕ → Plan
-addressPlan c x base row column =
-    pick (both (among base (segmentBottom x - segmentTop x) row) (among base width column))
-    (settling (withScreen (idle c) x) ((segmentTop x + (row - base)) * width + (column - base)))
+-- a row and a column, both counted from `base`, within the active segment of x, from its top, and its first `most` columns; outside 3
+unfoldable pub addressPlan : Core → Screen → ℕ → ℕ → ℕ → ℕ → Plan
+addressPlan c x base most row column =
+    pick (both (among base (segmentBottom x - segmentTop x) row) (among base most column))
+    (settling (withScreen (idle c) x) ((segmentTop x + (row - base)) * widthOf x + (column - base)))
     (refusing (idle c) Answer.BadArgument)
 
 unfoldable pub movePlan : List Bool → List Bool → Core → Move → Plan
 movePlan g tabs c Move.Back = settling (idle c) (previousOpen g (segmentStart (c .screen)) (cursorOf (c .screen)))
 movePlan g tabs c Move.Right = settling (idle c) (nextCell (c .screen))
-movePlan g tabs c Move.Return = settling (idle c) (rowStart width (cursorOf (c .screen)))
+movePlan g tabs c Move.Return = settling (idle c) (rowStart (widthOf (c .screen)) (cursorOf (c .screen)))
 movePlan g tabs c Move.Home = settling (idle c) (segmentStart (c .screen))
 movePlan g tabs c Move.Up = settling (idle c) (upCell (c .screen))
 movePlan g tabs c Move.Reverse = reversePlan c
 movePlan g tabs c Move.Down = downPlan c (cursorOf (c .screen))
-movePlan g tabs c Move.NextLine = downPlan c (rowStart width (cursorOf (c .screen)))
+movePlan g tabs c Move.NextLine = downPlan c (rowStart (widthOf (c .screen)) (cursorOf (c .screen)))
 movePlan g tabs c Move.Tab = settling (idle c) (tabCell g tabs c)
 movePlan g tabs c Move.BackTab = settling (idle c) (backTabCell g tabs c)
-movePlan g tabs c (Move.Address r k) = addressPlan c (c .screen) 0x20 r k
-movePlan g tabs c (Move.Decimal r k) = addressPlan c (c .screen) 1 r k
+movePlan g tabs c (Move.Address r k) = addressPlan c (c .screen) 0x20 addressed r k
+movePlan g tabs c (Move.Decimal r k) = addressPlan c (c .screen) 1 (widthOf (c .screen)) r k
 
 -- ESC x 0 unsplits; ESC x 1 r, r 21h to 37h, splits at that row. Both cursors go home; segment 0 is active
-abbrev pub unsplitScreen : Screen
-unsplitScreen = record { active = 0; split = 0; cursor0 = 0; cursor1 = 0 }
+abbrev pub unsplitScreen : Bool → Screen
+unsplitScreen wide = record { wide = wide; active = 0; split = 0; cursor0 = 0; cursor1 = 0 }
 
-abbrev pub splitScreen : ℕ → Screen
-splitScreen s = record { active = 0; split = s; cursor0 = 0; cursor1 = (s - 1) * width }
+abbrev pub splitScreen : Bool → ℕ → Screen
+splitScreen wide s = record { wide = wide; active = 0; split = s; cursor0 = 0; cursor1 = (s - 1) * columns wide }
 
 -- segment n becomes active, and its cursor settles
 unfoldable pub activate : Core → ℕ → Plan
@@ -155,14 +155,14 @@ unfoldable pub isSegment : Screen → ℕ → Bool
 isSegment x n = either (eqb n 0x30) (both (eqb n 0x31) (not (eqb (x .split) 0)))
 
 unfoldable pub windowPlan : Core → Window → Plan
-windowPlan c Window.Unsplit = settling (withScreen (idle c) unsplitScreen) 0
+windowPlan c Window.Unsplit = settling (withScreen (idle c) (unsplitScreen (c .screen .wide))) 0
 windowPlan c (Window.Split r) =
-    pick (among 0x21 23 r) (settling (withScreen (idle c) (splitScreen (r - 0x1f))) 0) (refusing (idle c) Answer.BadArgument)
+    pick (among 0x21 23 r) (settling (withScreen (idle c) (splitScreen (c .screen .wide) (r - 0x1f))) 0) (refusing (idle c) Answer.BadArgument)
 windowPlan c Window.Other = pick (eqb (c .screen .split) 0) (plain (idle c)) (activate c (1 - c .screen .active))
 windowPlan c Window.First = activate c 0
 windowPlan c Window.Second = pick (eqb (c .screen .split) 0) (refusing (idle c) Answer.BadArgument) (activate c 1)
 windowPlan c (Window.Place n r k) =
-    pick (isSegment (c .screen) n) (addressPlan c (activated (c .screen) (n - 0x30)) 0x20 r k) (refusing (idle c) Answer.BadArgument)
+    pick (isSegment (c .screen) n) (addressPlan c (activated (c .screen) (n - 0x30)) 0x20 addressed r k) (refusing (idle c) Answer.BadArgument)
 
 -- ---- writing and clearing
 
@@ -175,7 +175,7 @@ unfoldable pub advancing : Core → Write → Plan
 advancing c w =
     let x = c .screen in
     pick (ltb (cursorOf x + 1) (segmentEnd x)) (writing (idle c) w (Land.Settle (cursorOf x + 1)))
-    (pick (scrolls (c .modes)) (writingTwo (idle c) w (scroll x false) (Land.Settle (segmentEnd x - width)))
+    (pick (scrolls (c .modes)) (writingTwo (idle c) w (scroll x false) (Land.Settle (segmentEnd x - widthOf x)))
     (writing (idle c) w (Land.Settle (segmentStart x))))
 
 unfoldable pub storePlan : List Bool → Core → Contents → Plan
@@ -186,7 +186,7 @@ unfoldable pub rowEditPlan : Core → Bool → Plan
 rowEditPlan c down =
     let x = c .screen in
     pick (c .modes .protect) (refusing (idle c) Answer.Barred)
-    (writing (idle c) (Write.Rows down (rowOf width (cursorOf x)) (segmentBottom x)) (Land.Settle (rowStart width (cursorOf x))))
+    (writing (idle c) (Write.Rows down (rowOf (widthOf x) (cursorOf x)) (segmentBottom x)) (Land.Settle (rowStart (widthOf x) (cursorOf x))))
 
 unfoldable pub editPlan : List Bool → Core → Edit → Plan
 editPlan g c Edit.InsertCell = unlessGuarded g c (writing (idle c) (Write.Edit true (cursorOf (c .screen)) 32) Land.Stay)
@@ -197,29 +197,29 @@ editPlan g c Edit.DeleteRow = rowEditPlan c false
 -- what clearing writes is unprotected, but for ESC V: protected spaces in the cursor's column
 unfoldable pub clearPlan : Core → Clear → Plan
 clearPlan c (Clear.Row k) =
-    writing (idle c) (Write.Fill (cursorOf (c .screen)) (rowEnd width (cursorOf (c .screen))) (written k false)) Land.Stay
+    writing (idle c) (Write.Fill (cursorOf (c .screen)) (rowEnd (widthOf (c .screen)) (cursorOf (c .screen))) (written k false)) Land.Stay
 clearPlan c (Clear.Rest k) = writing (idle c) (Write.Fill (cursorOf (c .screen)) (segmentEnd (c .screen)) (written k false)) Land.Stay
 clearPlan c (Clear.Segment k) =
     writing (idle c) (Write.Fill (segmentStart (c .screen)) (segmentEnd (c .screen)) (written k false)) (Land.Settle (segmentStart (c .screen)))
 clearPlan c Clear.Column =
     writing (idle c)
-    (Write.Column (segmentTop (c .screen)) (segmentBottom (c .screen)) (columnOf width (cursorOf (c .screen))) 160)
+    (Write.Column (segmentTop (c .screen)) (segmentBottom (c .screen)) (columnOf (widthOf (c .screen)) (cursorOf (c .screen))) 160)
     (Land.Settle (cursorOf (c .screen)))
 
 -- ---- modes and replies
 
 unfoldable pub settingPlan : Core → Setting → Plan
-settingPlan c (Setting.Tab b) = changing (idle c) (SetupChange.Tab (columnOf width (cursorOf (c .screen))) b)
+settingPlan c (Setting.Tab b) = changing (idle c) (SetupChange.Tab (columnOf (widthOf (c .screen)) (cursorOf (c .screen))) b)
 settingPlan c Setting.ClearTabs = changing (idle c) SetupChange.ClearTabs
 settingPlan c (Setting.Attribute n a) = changing (idle c) (SetupChange.Attribute n a)
 settingPlan c (Setting.Feature f) = changing (idle c) (SetupChange.Feature (featurePlace f) f)
 
 -- the cursor's row from the segment's top, and its column, from 0
 abbrev pub cursorRow : Screen → ℕ
-cursorRow x = rowOf width (cursorOf x) - segmentTop x
+cursorRow x = rowOf (widthOf x) (cursorOf x) - segmentTop x
 
 abbrev pub cursorColumn : Screen → ℕ
-cursorColumn x = columnOf width (cursorOf x)
+cursorColumn x = columnOf (widthOf x) (cursorOf x)
 
 unfoldable pub sendPlan : List Bool → Core → Send → Plan
 sendPlan g c Send.Acknowledge = replying (idle c) Reply.Acknowledge
@@ -229,7 +229,7 @@ sendPlan g c Send.SegmentCursor =
     replying (idle c) (Reply.SegmentAddress (0x30 + c .screen .active) (0x20 + cursorRow (c .screen)) (0x20 + cursorColumn (c .screen)))
 sendPlan g c Send.DecimalCursor = replying (idle c) (Reply.Decimal (cursorRow (c .screen) + 1) (cursorColumn (c .screen) + 1))
 sendPlan g c Send.Cell = unlessGuarded g c (replying (idle c) (Reply.Cell (cursorOf (c .screen))))
-sendPlan g c Send.OpenRow = replying (idle c) (Reply.Text false (rowStart width (cursorOf (c .screen))) (cursorOf (c .screen) + 1))
+sendPlan g c Send.OpenRow = replying (idle c) (Reply.Text false (rowStart (widthOf (c .screen)) (cursorOf (c .screen))) (cursorOf (c .screen) + 1))
 sendPlan g c Send.OpenSegment = replying (idle c) (Reply.Text false (segmentStart (c .screen)) (cursorOf (c .screen) + 1))
 
 -- ---- the six that demand 3 leaves out: ESC ', the clear-all commands ESC * + , and the sends with guarded cells ESC 6 7
@@ -246,7 +246,7 @@ excludedPlan c Excluded.ProtectOff = plain (protectOff (idle c))
 excludedPlan c Excluded.ClearNulls = clearAll (idle c) 0
 excludedPlan c Excluded.ClearSpaces = clearAll (idle c) 32
 excludedPlan c Excluded.ClearProtected = clearAll (protectOff (idle c)) 160
-excludedPlan c Excluded.SendRow = replying (idle c) (Reply.Text true (rowStart width (cursorOf (c .screen))) (cursorOf (c .screen) + 1))
+excludedPlan c Excluded.SendRow = replying (idle c) (Reply.Text true (rowStart (widthOf (c .screen)) (cursorOf (c .screen))) (cursorOf (c .screen) + 1))
 excludedPlan c Excluded.SendSegment = replying (idle c) (Reply.Text true (segmentStart (c .screen)) (cursorOf (c .screen) + 1))
 
 -- the plan of each command

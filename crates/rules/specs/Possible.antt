@@ -1,8 +1,8 @@
 -- The power-on state, and which states are "possible" (document 01, "Possible means exactly").
 use Prim.Native.Nat.{ℕ, zero, suc, _+_, _-_, _*_, _^_}
 use mathlib.Core.List.{List, [], _∷_}
-use mathlib.Core.Bool.{Bool, true, false}
-use lib.ListN.{length, getD, replicate}
+use mathlib.Core.Bool.{Bool, true, false, not}
+use lib.ListN.{length, getD, drop, replicate}
 use lib.Dec.{ltb, leb, eqb}
 use Rattle.rules.specs.declared.State.{State}
 use Rattle.rules.specs.declared.Screen.{Screen}
@@ -10,40 +10,40 @@ use Rattle.rules.specs.declared.Key.{Key}
 use Rattle.rules.specs.declared.Pending.{Pending}
 use Rattle.rules.specs.declared.Pending.the-variants as Pending
 use Rattle.rules.specs.Cell.{pick, both, either, among}
-use Rattle.rules.specs.Row.{width, height, pageLength}
-use Rattle.rules.specs.State.{keyText, noKey}
+use Rattle.rules.specs.Row.{height, narrowCells}
+use Rattle.rules.specs.State.{widthOf, pageLength, keyText, noKey}
 
 unfoldable pub powerOn : State
 powerOn = record {
   core = record {
-    screen = record { active = 0; split = 0; cursor0 = 0; cursor1 = 0 };
+    screen = record { wide = false; active = 0; split = 0; cursor0 = 0; cursor1 = 0 };
     modes = record { protect = false; mark = false; insert = false; autoscroll = true; locked = false; local = false };
     bells = 0;
     pending = Pending.Idle;
     gathered = noKey;
   };
   setup = record {
-    tabs = replicate width false;
+    tabs = replicate 132 false;
     attributes = replicate 4 0x30;
     features = 0x31 ∷ 0x35 ∷ 0x37 ∷ 0x39 ∷ 0x40 ∷ [];
     keys = replicate 32 noKey;
   };
 }
 
--- all cells 0
+-- the page at power-on: narrow, all cells 0
 unfoldable pub blank : List ℕ
-blank = replicate pageLength 0
+blank = replicate narrowCells 0
 
 -- unsplit: segment 0 active, the whole page for both cursors
 unfoldable pub unsplitOk : Screen → Bool
-unsplitOk x = both (eqb (x .active) 0) (both (ltb (x .cursor0) pageLength) (ltb (x .cursor1) pageLength))
+unsplitOk x = both (eqb (x .active) 0) (both (ltb (x .cursor0) (pageLength x)) (ltb (x .cursor1) (pageLength x)))
 
 -- split row 2 to 24, each cursor within its segment
 unfoldable pub splitOk : Screen → Bool
 splitOk x =
     both (leb 2 (x .split)) (both (leb (x .split) height) (both (leb (x .active) 1)
-    (both (ltb (x .cursor0) ((x .split - 1) * width))
-    (both (leb ((x .split - 1) * width) (x .cursor1)) (ltb (x .cursor1) pageLength)))))
+    (both (ltb (x .cursor0) ((x .split - 1) * widthOf x))
+    (both (leb ((x .split - 1) * widthOf x) (x .cursor1)) (ltb (x .cursor1) (pageLength x))))))
 
 unfoldable pub screenOk : Screen → Bool
 screenOk x = pick (eqb (x .split) 0) (unsplitOk x) (splitOk x)
@@ -84,6 +84,14 @@ featuresOk n (f ∷ l) = both (eqb (featurePlace f) n) (featuresOk (suc n) l)
 unfoldable pub isKey : ℕ → Bool
 isKey v = either (among 0x40 16 v) (among 0x60 16 v)
 
+-- no tab stop, and none beyond the w columns of the page
+unfoldable pub noStops : List Bool → Bool
+noStops [] = true
+noStops (b ∷ l) = both (not b) (noStops l)
+
+abbrev pub tabsOk : ℕ → List Bool → Bool
+tabsOk w tabs = noStops (drop w tabs)
+
 -- a sequence that some bytes fed from power-on leave under way; k is the key text gathered
 unfoldable pub pendingOk : Pending → Key → Bool
 pendingOk Pending.Idle k = true
@@ -108,12 +116,17 @@ pendingOk Pending.KeyValue k = true
 pendingOk (Pending.KeyText v) k = both (isKey v) (keyOk k)
 pendingOk (Pending.KeyOver v) k = isKey v
 
+-- document 01 has narrow pages only; the rules are said over both widths, and no wide screen is possible until request A11 lands
+abbrev pub narrow : Screen → Bool
+narrow x = not (x .wide)
+
 -- the term "possible"
 unfoldable pub possible : State → Bool
 possible s =
-    both (screenOk (s .core .screen)) (both (keysOk (s .setup .keys)) (both (attributesOk (s .setup .attributes))
-    (both (featuresOk 0 (s .setup .features)) (both (ltb (s .core .bells) 256) (pendingOk (s .core .pending) (s .core .gathered))))))
+    both (narrow (s .core .screen)) (both (screenOk (s .core .screen)) (both (keysOk (s .setup .keys)) (both (attributesOk (s .setup .attributes))
+    (both (featuresOk 0 (s .setup .features)) (both (tabsOk (widthOf (s .core .screen)) (s .setup .tabs)) (both (ltb (s .core .bells) 256)
+    (pendingOk (s .core .pending) (s .core .gathered))))))))
 
--- a page of the right length, and a possible state
+-- a page of the state's own length, and a possible state
 unfoldable pub good : List ℕ → State → Bool
-good p s = both (eqb (length p) pageLength) (possible s)
+good p s = both (eqb (length p) (pageLength (s .core .screen))) (possible s)

@@ -19,7 +19,7 @@ use Rattle.rules.specs.declared.State.{State}
 use Rattle.rules.specs.declared.Pending.{Pending}
 use Rattle.rules.specs.declared.Pending.the-variants as Pending
 use Rattle.rules.specs.Cell.{pick}
-use Rattle.rules.specs.Row.{width, height}
+use Rattle.rules.specs.Row.{columns, height, Placed}
 
 -- document 01, "Numbers that come back"
 abbrev pub number : Answer → ℕ
@@ -33,6 +33,13 @@ number Answer.NoRoom = 6
 number Answer.BadCall = 7
 number Answer.Locked = 8
 
+-- the width of the page, and how many cells it has
+abbrev pub widthOf : Screen → ℕ
+widthOf x = columns (x .wide)
+
+abbrev pub pageLength : Screen → ℕ
+pageLength x = height * widthOf x
+
 -- the rows of the active segment, from 0: its first, and the one past its last. Segment 0 is rows 1 to S-1, segment 1 rows S to 24;
 -- unsplit, segment 0 is all
 unfoldable pub segmentTop : Screen → ℕ
@@ -43,10 +50,10 @@ segmentBottom x = pick (eqb (x .split) 0) height (pick (eqb (x .active) 0) (x .s
 
 -- its first cell, home, and the one past its last
 abbrev pub segmentStart : Screen → ℕ
-segmentStart x = segmentTop x * width
+segmentStart x = segmentTop x * widthOf x
 
 abbrev pub segmentEnd : Screen → ℕ
-segmentEnd x = segmentBottom x * width
+segmentEnd x = segmentBottom x * widthOf x
 
 -- the active cursor
 unfoldable pub cursorOf : Screen → ℕ
@@ -54,6 +61,7 @@ cursorOf x = pick (eqb (x .active) 0) (x .cursor0) (x .cursor1)
 
 unfoldable pub withCursor : Screen → ℕ → Screen
 withCursor x n = record {
+  wide = x .wide;
   active = x .active;
   split = x .split;
   cursor0 = pick (eqb (x .active) 0) n (x .cursor0);
@@ -62,7 +70,7 @@ withCursor x n = record {
 
 -- another segment is active
 abbrev pub activated : Screen → ℕ → Screen
-activated x n = record { active = n; split = x .split; cursor0 = x .cursor0; cursor1 = x .cursor1 }
+activated x n = record { wide = x .wide; active = n; split = x .split; cursor0 = x .cursor0; cursor1 = x .cursor1 }
 
 -- what commands need of a possible screen: the active segment has a row, and the cursor is in it
 pub record Inside (x : Screen) : Type 0 where
@@ -70,6 +78,7 @@ pub record Inside (x : Screen) : Type 0 where
   pub most : segmentBottom x ≤ height
   pub from : segmentStart x ≤ cursorOf x
   pub below : cursorOf x < segmentEnd x
+  pub placed : Placed (widthOf x) (segmentTop x) (segmentBottom x) (cursorOf x)
 
 -- a key's bytes, and the key that holds some bytes, with zeros behind them
 abbrev pub keyText : Key → List ℕ
@@ -119,7 +128,7 @@ withMode m Mode.LocalEdit b = record { protect = m .protect; mark = m .mark; ins
 unfoldable pub changed : SetupChange → Key → Setup → Setup
 changed SetupChange.Nothing k u = u
 changed (SetupChange.Tab c b) k u = record { tabs = set (u .tabs) c b; attributes = u .attributes; features = u .features; keys = u .keys }
-changed SetupChange.ClearTabs k u = record { tabs = replicate width false; attributes = u .attributes; features = u .features; keys = u .keys }
+changed SetupChange.ClearTabs k u = record { tabs = replicate 132 false; attributes = u .attributes; features = u .features; keys = u .keys }
 changed (SetupChange.Attribute n a) k u = record { tabs = u .tabs; attributes = set (u .attributes) n a; features = u .features; keys = u .keys }
 changed (SetupChange.Feature n f) k u = record { tabs = u .tabs; attributes = u .attributes; features = set (u .features) n f; keys = u .keys }
 changed (SetupChange.Key n) k u = record { tabs = u .tabs; attributes = u .attributes; features = u .features; keys = set (u .keys) n (keyOf (keyText k)) }

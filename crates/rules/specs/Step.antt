@@ -60,7 +60,7 @@ outcomeOf s e = record {
   reply = e .reply;
 }
 
--- a page not 1,920 long, or a state not possible, answers 7
+-- a page not of the state's own length, or a state not possible, answers 7
 unfoldable pub stepRule : List ℕ → State → ℕ → ℕ → Outcome
 stepRule p s b room =
     pick (good p s) (outcomeOf s (innerRule p (s .core) (s .setup) b room)) (record { answer = 7; state = s; page = p; reply = [] })

@@ -1,7 +1,9 @@
 // The types of the alert terminal. The rules over them are the definitions in specs/; there is no executable code here.
 
-// The split row counts from 1, and 0 is none. A cursor is a cell of the page, counted from 0, one for each segment.
+// A wide page has 132 columns, another 80. The split row counts from 1, and 0 is none. A cursor is a cell of the page, counted from 0, one for
+// each segment.
 pub struct Screen {
+    pub wide: bool,
     pub active: u8,
     pub split: u8,
     pub cursor0: u16,
@@ -27,7 +29,7 @@ pub struct Key {
 // Features: cursor shown, cursor style, protected look, screen shown, scrolling.
 // Keys: 40h to 4Fh, then 60h to 6Fh.
 pub struct Setup {
-    pub tabs: [bool; 80],
+    pub tabs: [bool; 132],
     pub attributes: [u8; 4],
     pub features: [u8; 5],
     pub keys: [Key; 32],

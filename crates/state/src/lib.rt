@@ -1,5 +1,6 @@
 // The terminal's state as values: power-on, readers and setters, the keys, which states are possible, and what a byte comes to.
 pub mod logic; // tests on numbers, and how they are joined
+pub mod width; // the width of a page
 pub mod screen; // the active segment and its cursor
 pub mod core; // the other parts of the core
 pub mod keys; // function keys
@@ -42,6 +43,7 @@ pub fn power_on_state() -> State
     State {
         core: Core {
             screen: Screen {
+                wide: false,
                 active: 0,
                 split: 0,
                 cursor0: 0,
@@ -60,7 +62,7 @@ pub fn power_on_state() -> State
             gathered: none,
         },
         setup: Setup {
-            tabs: [false; 80],
+            tabs: [false; 132],
             attributes: [0x30; 4],
             features: [0x31, 0x35, 0x37, 0x39, 0x40],
             keys: [none; 32],

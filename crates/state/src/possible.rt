@@ -4,11 +4,13 @@ ghost use Prim.Native.Nat.{_^_, _≤_};
 ghost use lib.Dec.{leb, ltb};
 ghost use lib.ListN.{take};
 ghost use Rattle.rules.specs.Cell.{both};
-ghost use Rattle.rules.specs.Possible.{unsplitOk, splitOk, screenOk, allBelow, keyOk, keysOk, isAttribute, attributesOk, featurePlace, featuresOk, pendingOk, possible};
+ghost use Rattle.rules.specs.Possible.{unsplitOk, splitOk, screenOk, allBelow, keyOk, keysOk, isAttribute, attributesOk, featurePlace, featuresOk, pendingOk, tabsOk, possible};
 use crate::keys::is_key;
 use crate::logic::among;
 use crate::logic::and;
 use crate::logic::or;
+use crate::width::cells;
+use crate::width::columns;
 use rules::Key;
 use rules::Pending;
 use rules::Screen;
@@ -17,7 +19,8 @@ use rules::State;
 fn unsplit_ok(x: Screen) -> bool
     ensures { λ r. ⌜ r ≡ unsplitOk x ⌝ }
 {
-    and(x.active == 0, and(x.cursor0 < 1920, x.cursor1 < 1920))
+    let n = cells(x.wide, 24);
+    and(x.active == 0, and(x.cursor0 < n, x.cursor1 < n))
 }
 
 // Split row 2 to 24, each cursor within its segment.
@@ -25,8 +28,9 @@ fn split_ok(x: Screen) -> bool
     requires { ⌜ 1 ≤ x .split ⌝ }
     ensures { λ r. ⌜ r ≡ splitOk x ⌝ }
 {
-    let at = (x.split - 1) as u16 * 80;
-    let cursors = and(x.cursor0 < at, and(at <= x.cursor1, x.cursor1 < 1920));
+    let at = cells(x.wide, (x.split - 1) as u16);
+    let n = cells(x.wide, 24);
+    let cursors = and(x.cursor0 < at, and(at <= x.cursor1, x.cursor1 < n));
     and(
         2 <= x.split,
         and(x.split <= 24, and(x.active <= 1, cursors)),
@@ -187,6 +191,19 @@ fn bells_ok(n: u8) -> bool
     true
 }
 
+// No tab stop beyond the columns of the page.
+fn tabs_ok(tabs: [bool; 132], width: u16) -> bool
+    ensures { λ r. ⌜ r ≡ tabsOk width tabs ⌝ }
+{
+    let mut i = width as usize;
+    let mut none = true;
+    while i < 132 {
+        none = and(none, !tabs[i]);
+        i += 1;
+    }
+    none
+}
+
 pub fn possible(s: State) -> bool
     ensures { λ r. ⌜ r ≡ possible s ⌝ }
 {
@@ -198,10 +215,13 @@ pub fn possible(s: State) -> bool
     let features = setup.features;
     let pending = core.pending;
     let gathered = core.gathered;
+    let tabs = setup.tabs;
+    let stops = tabs_ok(tabs, columns(screen.wide));
     let sequence = and(bells_ok(core.bells), pending_ok(pending, gathered));
     let lists = and(
         attributes_ok(attributes),
-        and(features_ok(features), sequence),
+        and(features_ok(features), and(stops, sequence)),
     );
-    and(screen_ok(screen), and(keys_ok(keys), lists))
+    let narrow = !screen.wide;
+    and(narrow, and(screen_ok(screen), and(keys_ok(keys), lists)))
 }

@@ -8,12 +8,12 @@ use rules::Key;
 use rules::Setup;
 use rules::SetupChange;
 
-pub fn set_tab(tabs: [bool; 80], n: u16, b: bool) -> [bool; 80]
+pub fn set_tab(tabs: [bool; 132], n: u16, b: bool) -> [bool; 132]
     ensures { λ r. ⌜ r ≡ set tabs n b ⌝ }
 {
     let mut t = tabs;
     let i = n as usize;
-    if i < 80 {
+    if i < 132 {
         t[i] = b;
     }
     t
@@ -55,7 +55,7 @@ pub fn changed(x: SetupChange, gathered: Key, u: Setup) -> Setup
             t
         }
         SetupChange::ClearTabs => {
-            t.tabs = [false; 80];
+            t.tabs = [false; 132];
             t
         }
         SetupChange::Attribute(n, a) => {

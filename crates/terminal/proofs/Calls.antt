@@ -23,7 +23,6 @@ use Rattle.rules.specs.declared.State.{State}
 use Rattle.rules.specs.declared.RunResult.{RunResult}
 use Rattle.rules.specs.declared.PressResult.{PressResult}
 use Rattle.rules.specs.Cell.{pick}
-use Rattle.rules.specs.Row.{pageLength}
 use Rattle.rules.specs.Change.{within, filled}
 use Rattle.rules.specs.State.{number, keyText, keyPlace}
 use Rattle.rules.specs.Possible.{powerOn, blank, allBelow, keyOk, isKey, good}
@@ -46,20 +45,20 @@ unfolding filled
 all-filled v [] = refl
 all-filled v (x ∷ l) = ap (λ (t : List ℕ). v ∷ t) (all-filled v l)
 
-blank-filled : (p : List ℕ) → length p ≡ pageLength → within 0 1920 (filled false 0) p ≡ blank
+blank-filled : (p : List ℕ) → length p ≡ 1920 → within 0 1920 (filled false 0) p ≡ blank
 unfolding within blank
 blank-filled p n =
     rw (take-all 1920 p (omega arith), drop-of-length-le p {i = 1920} (omega arith), append-nil, all-filled 0 p, n)
 
-pub powered-on : (p q : List ℕ) (s : State) → length p ≡ pageLength → s ≡ powerOn → q ≡ within 0 1920 (filled false 0) p
+pub powered-on : (p q : List ℕ) (s : State) → length p ≡ 1920 → s ≡ powerOn → q ≡ within 0 1920 (filled false 0) p
     → PoweredOn (powerOnRule p) (record { answer = Answer.Done; state = s }) q
 unfolding powerOnRule
 powered-on p q s n e i = rw n (record { answer = refl; state = e; page = i ∙ blank-filled p n })
 
-pub power-on-refused : (p : List ℕ) (s : State) → (length p ≡ pageLength → ⊥) → s ≡ powerOn
+pub power-on-refused : (p : List ℕ) (s : State) → (length p ≡ 1920 → ⊥) → s ≡ powerOn
     → PoweredOn (powerOnRule p) (record { answer = Answer.BadCall; state = s }) p
 unfolding powerOnRule
-power-on-refused p s n e = rw (ne-eqb (length p) pageLength n) (record { answer = refl; state = e; page = refl })
+power-on-refused p s n e = rw (ne-eqb (length p) 1920 n) (record { answer = refl; state = e; page = refl })
 
 -- ---- a bad page or state: 7, and nothing changes
 

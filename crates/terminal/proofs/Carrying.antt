@@ -6,7 +6,7 @@
 use mathlib.Core.Path.{_≡_, refl, sym, ap, subst, _∙_}
 use mathlib.Core.Bool.{Bool, true}
 use mathlib.Core.List.{List, []}
-use Prim.Native.Nat.{ℕ, _<_, _≤_}
+use Prim.Native.Nat.{ℕ, _*_, _<_, _≤_}
 use native.Mathlib.Omega.{arith}
 use lib.ListN.{length}
 use borrow.Author.Tests.{lt-ltb, le-ltb}
@@ -17,9 +17,9 @@ use Rattle.rules.specs.declared.CoreResult.{CoreResult}
 use Rattle.rules.specs.declared.Decoded.{Decoded}
 use Rattle.rules.specs.declared.Plan.{Plan}
 use Rattle.rules.specs.declared.SetupChange.{SetupChange}
-use Rattle.rules.specs.Row.{pageLength}
+use Rattle.rules.specs.Row.{columns}
 use Rattle.rules.specs.Search.{guardedAt}
-use Rattle.rules.specs.State.{number}
+use Rattle.rules.specs.State.{number, pageLength}
 use Rattle.rules.specs.Possible.{screenOk}
 use Rattle.rules.specs.Good.{GoodPlan}
 use Rattle.rules.specs.Decode.{decodeRule}
@@ -27,7 +27,7 @@ use Rattle.rules.specs.Plan.{planRule}
 use Rattle.rules.specs.Carry.{Effect, effect, quiet, carried}
 use Rattle.rules.specs.Room.{over}
 use Rattle.rules.proofs.Marks.{length-guards}
-use Rattle.rules.proofs.Good.{good-plan}
+use Rattle.rules.proofs.Good.{plan-kept}
 use Rattle.carry.specs.Carried.{Carried}
 use Rattle.carry.proofs.Carrying.{carried-is}
 use Rattle.terminal.specs.Inner.{obeyedAlone, innerAlone}
@@ -68,10 +68,11 @@ quietly {a = a} {x = x} {p = p} {w = w} h e q = carried-is (h ∙ ap (λ (y : Co
 -- ---- a command
 
 module _ (p : List ℕ) (c : Core) (tabs : List Bool) (d : Command) {x : Plan} (e : x ≡ planRule (guardedAt (c .modes .protect) p) tabs c d) where
-  pub plan-good : length p ≡ pageLength → screenOk (c .screen) ≡ true → GoodPlan x
+  pub plan-good : length p ≡ pageLength (c .screen) → screenOk (c .screen) ≡ true → (length p ≡ pageLength (x .next .screen)) × GoodPlan x
   plan-good size ok =
       let on = c .modes .protect in
-      subst GoodPlan (sym e) (good-plan c ok (guardedAt on p) (length-guards on p ∙ size) tabs d)
+      let k = plan-kept c ok (guardedAt on p) (length-guards on p ∙ size) tabs d in
+      (size ∙ sym (ap (λ (b : Bool). 24 * columns b) (ap (λ (y : Plan). y .next .screen .wide) e ∙ k .wide)), subst GoodPlan (sym e) (k .good))
 
   pub plan-carried : {r : CoreResult} {p′ w w′ : List ℕ} → Carried (carried p c x (length w)) r p′ w w′
       → Carried (carried p c (planRule (guardedAt (c .modes .protect) p) tabs c d) (length w)) r p′ w w′

@@ -18,11 +18,11 @@ use Rattle.rules.specs.declared.Decoded.the-variants as Decoded
 use Rattle.rules.specs.declared.Command.{Command}
 use Rattle.rules.specs.declared.SetupChange.{SetupChange}
 use Rattle.rules.specs.declared.SetupChange.the-variants as SetupChange
-use Rattle.rules.specs.Row.{pageLength}
+use Rattle.rules.specs.State.{pageLength}
 use Rattle.rules.specs.Search.{guardedAt}
 use Rattle.rules.specs.Possible.{keyOk}
 use Rattle.rules.specs.Plan.{planRule}
-use Rattle.rules.specs.Carry.{Effect, replied, done, carried}
+use Rattle.rules.specs.Carry.{Effect, replyOf, done, carried}
 use Rattle.rules.specs.Step.{programmed, obeyed, innerRule}
 use Rattle.rules.proofs.Tests.{pick-if, both-parts}
 use Rattle.rules.proofs.Marks.{length-guards}
@@ -32,16 +32,16 @@ use Rattle.rules.proofs.Kept.{PossibleCore}
 use Rattle.terminal.specs.Inner.{obeyedAlone, innerAlone, overfills, judged}
 
 -- a change that fits the set-up whatever text is gathered programs no key
-no-key : (keys : List Key) (k : Key) (x : SetupChange) → changeOk (record { len = 9; bytes = [] }) x ≡ true → overfills keys k x ≡ false
+no-key : (w : ℕ) (keys : List Key) (k : Key) (x : SetupChange) → changeOk w (record { len = 9; bytes = [] }) x ≡ true → overfills keys k x ≡ false
 unfolding overfills changeOk keyOk
-no-key keys k SetupChange.Nothing e = refl
-no-key keys k (SetupChange.Tab c b) e = refl
-no-key keys k SetupChange.ClearTabs e = refl
-no-key keys k (SetupChange.Attribute n a) e = refl
-no-key keys k (SetupChange.Feature n f) e = refl
-no-key keys k (SetupChange.Key n) e = absurd (false≢true (both-parts (ltb n 32) false e .1))
+no-key w keys k SetupChange.Nothing e = refl
+no-key w keys k (SetupChange.Tab c b) e = refl
+no-key w keys k SetupChange.ClearTabs e = refl
+no-key w keys k (SetupChange.Attribute n a) e = refl
+no-key w keys k (SetupChange.Feature n f) e = refl
+no-key w keys k (SetupChange.Key n) e = absurd (false≢true (both-parts (ltb n 32) false e .1))
 
-module _ (p : List ℕ) (c : Core) (n : length p ≡ pageLength) (h : PossibleCore c) where
+module _ (p : List ℕ) (c : Core) (n : length p ≡ pageLength (c .screen)) (h : PossibleCore c) where
   module _ (keys : List Key) (k : Key) (tabs : List Bool) (room : ℕ) where
     no-key-carried : (d : Command) → decodedOk (c .pending) (c .gathered) (Decoded.Do d) ≡ true
         → overfills keys k (obeyedAlone p c tabs (Decoded.Do d) room .change) ≡ false
@@ -49,8 +49,8 @@ module _ (p : List ℕ) (c : Core) (n : length p ≡ pageLength) (h : PossibleCo
     no-key-carried d e =
         let g = guardedAt (c .modes .protect) p in
         let x = planRule g tabs c d in
-        pick-if (λ (e : Effect). overfills keys k (e .change) ≡ false) (leb (length (replied (c .modes .protect) p (x .reply))) room)
-        (λ t. no-key keys k (x .change) (plan-kept c (h .screen) g (length-guards (c .modes .protect) p ∙ n) tabs d .change e _))
+        pick-if (λ (e : Effect). overfills keys k (e .change) ≡ false) (leb (length (replyOf (c .modes .protect) p x)) room)
+        (λ t. no-key _ keys k (x .change) (plan-kept c (h .screen) g (length-guards (c .modes .protect) p ∙ n) tabs d .change e _))
         (λ t. refl)
 
     obeyed-six : (d : Decoded) → decodedOk (c .pending) (c .gathered) d ≡ true

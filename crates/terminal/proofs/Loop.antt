@@ -28,8 +28,7 @@ use Rattle.rules.specs.declared.State.{State}
 use Rattle.rules.specs.declared.SetupChange.{SetupChange}
 use Rattle.rules.specs.declared.SetupChange.the-variants as SetupChange
 use Rattle.rules.specs.Cell.{among}
-use Rattle.rules.specs.Row.{pageLength}
-use Rattle.rules.specs.State.{number, changed}
+use Rattle.rules.specs.State.{number, pageLength, changed}
 use Rattle.rules.specs.Possible.{screenOk, pendingOk, good}
 use Rattle.rules.specs.Carry.{Effect}
 use Rattle.rules.specs.Step.{Outcome, outcomeOf, stepRule}
@@ -37,7 +36,7 @@ use Rattle.rules.specs.Room.{over}
 use Rattle.rules.specs.Calls.{Ran, ended, refusal, repeated}
 use Rattle.rules.specs.Steps.{preceded}
 use Rattle.rules.proofs.Tests.{pick-if}
-use Rattle.rules.proofs.Kept.{good-parts, possible-parts, step-good}
+use Rattle.rules.proofs.Kept.{good-parts, possible-parts, step-keeps, step-good}
 use Rattle.rules.proofs.Left.{step-left}
 use Rattle.rules.proofs.Run.{run-stop, run-go, run-done, preceded-none, preceded-joined}
 use Rattle.carry.specs.Carried.{Carried}
@@ -142,6 +141,7 @@ pub record Running (p₀ : List ℕ) (s₀ : State) (input w₀ p w : List ℕ) 
   pub used : n ≤ length w₀
   pub few : f ≤ i
   pub fine : good p (stateOf c u) ≡ true
+  pub long : length p ≡ length p₀
   pub size : length w ≡ length w₀
   pub untouched : drop n w ≡ drop n w₀
   pub same : repeated input p₀ s₀ (length w₀) ≡ preceded i f (take n w) (repeated (drop i input) p (stateOf c u) (length w₀ - n))
@@ -154,6 +154,7 @@ begin p c u input w g = record {
   used = zero-le;
   few = zero-le;
   fine = g;
+  long = refl;
   size = refl;
   untouched = refl;
   same = rw sub-zero (preceded-none (repeated input p (stateOf c u) (length w)));
@@ -165,14 +166,11 @@ module _ {p₀ : List ℕ} {s₀ : State} {input w₀ p w : List ℕ} {c : Core}
   abbrev s : State
   s = stateOf c u
 
-  pub ready : (length p ≡ pageLength) × ((screenOk (c .screen) ≡ true) × (pendingOk (c .pending) (c .gathered) ≡ true))
+  pub ready : (length p ≡ pageLength (c .screen)) × ((screenOk (c .screen) ≡ true) × (pendingOk (c .pending) (c .gathered) ≡ true))
   ready =
       let g = good-parts p s (R .fine) in
       let k = possible-parts s (g .1) .core in
       (g .0, (k .screen, k .pending))
-
-  pub page-size : good p₀ s₀ ≡ true → length p ≡ length p₀
-  page-size g = ready .0 ∙ sym (good-parts p₀ s₀ g .0)
 
   pub room-size : n ≤ length w
   room-size = omega (arith, R .used, R .size)
@@ -310,6 +308,7 @@ module _ {p₀ : List ℕ} {s₀ : State} {input w₀ p w : List ℕ} {c : Core}
         used = omega (arith, S .fits, left, R .used);
         few = omega (arith, R .few, refusal-one (number x), eg);
         fine = subst₂ (λ (q : List ℕ) (z : State). good q z ≡ true) turned reached (step-good p s b (length w₀ - n) (R .fine));
+        long = ap length (sym turned) ∙ step-keeps p s b (length w₀ - n) .size ∙ R .long;
         size = ap length put ∙ length-append (take n w ++ o .reply) _
             ∙ omega (arith, sum, length-drop (length (o .reply)) (drop n w), S .replied, ap length (made .reply), S .fits, left, R .used);
         untouched = ap (drop (n + r .replied)) put ∙ drop-at (take n w ++ o .reply) _ (n + r .replied) sum

@@ -29,6 +29,7 @@ use Rattle.rules.specs.Search.{guardedAt}
 use Rattle.rules.specs.State.{number, segmentStart, segmentEnd, segmentTop, segmentBottom, cursorOf, withCursor, withScreen, awaiting, idle}
 use Rattle.rules.specs.Decode.{decodeRule, idleRule, escapeRule, lookup}
 use Rattle.rules.specs.Carry.{effect}
+use Rattle.rules.proofs.Rows.{columns-width}
 use Rattle.rules.proofs.Screens.{screen-inside}
 use Rattle.carry.proofs.Carrying.{carried-is}
 use Rattle.terminal.specs.Inner.{innerAlone}
@@ -36,23 +37,23 @@ use Rattle.terminal.specs.Loop.{stateOf, lastAnswer}
 use Rattle.terminal.specs.Text.{Stored, Addressed, Typed, none, stored, placed, TextRun, still, typed, textCore}
 use Rattle.terminal.proofs.Carrying.{quiet-carried}
 use Rattle.terminal.proofs.Loop.{Running, ready, go, nothing-made, lentTail, backTail, tail-lent, tail-back}
-use Rattle.terminal.proofs.TextSteps.{stores, waits, places}
+use Rattle.terminal.proofs.TextSteps.{rows-below, stores, waits, places}
 
 -- where a run over l from the byte i₀ and the page p₀ ends
 pub record Range (l : List ℕ) (i₀ : ℕ) (p₀ : List ℕ) (at i : ℕ) (p : List ℕ) : Type 0 where
   pub from : i₀ ≤ i
   pub within : i < length l
-  pub below : at < 1920
+  pub below : at < length p₀
   pub size : length p ≡ length p₀
 
-module _ {on mark : Bool} {home end : ℕ} {l : List ℕ} {at₀ i₀ : ℕ} {p₀ : List ℕ} where
-  pub typed-then : {at i : ℕ} {p : List ℕ} → Typed on mark home end l at₀ i₀ p₀ at i p
-      → {at′ i′ : ℕ} {p′ : List ℕ} → Typed on mark home end l at i p at′ i′ p′ → Typed on mark home end l at₀ i₀ p₀ at′ i′ p′
+module _ {on mark wide : Bool} {home end : ℕ} {l : List ℕ} {at₀ i₀ : ℕ} {p₀ : List ℕ} where
+  pub typed-then : {at i : ℕ} {p : List ℕ} → Typed on mark wide home end l at₀ i₀ p₀ at i p
+      → {at′ i′ : ℕ} {p′ : List ℕ} → Typed on mark wide home end l at i p at′ i′ p′ → Typed on mark wide home end l at₀ i₀ p₀ at′ i′ p′
   typed-then t none = t
   typed-then t (stored u h s e) = stored (typed-then t u) h s e
   typed-then t (placed u h s) = placed (typed-then t u) h s
 
-  pub typed-range : {at i : ℕ} {p : List ℕ} → Typed on mark home end l at₀ i₀ p₀ at i p → i₀ < length l → at₀ < 1920 → end ≤ 1920
+  pub typed-range : {at i : ℕ} {p : List ℕ} → Typed on mark wide home end l at₀ i₀ p₀ at i p → i₀ < length l → at₀ < length p₀ → end ≤ length p₀
       → Range l i₀ p₀ at i p
   typed-range none h a e = record { from = omega arith; within = h; below = a; size = refl }
   typed-range (stored {at} {i} {v} {p} u k s w) h a e =
@@ -88,6 +89,7 @@ module _ {p₀ : List ℕ} {s₀ : State} {input w₀ : List ℕ} {u : Setup} {a
         used = H .used;
         few = H .few;
         fine = H .fine;
+        long = H .long;
         size = H .size;
         untouched = H .untouched;
         same = H .same;
@@ -109,6 +111,7 @@ record Like (c d : Core) (at : ℕ) : Type 0 where
   idle : d .pending ≡ Pending.Idle
   modes : d .modes ≡ c .modes
   cursor : cursorOf (d .screen) ≡ at
+  wide : d .screen .wide ≡ c .screen .wide
   home : segmentStart (d .screen) ≡ segmentStart (c .screen)
   end : segmentEnd (d .screen) ≡ segmentEnd (c .screen)
   next : (i : ℕ) → textCore d i ≡ textCore c i
@@ -126,7 +129,7 @@ unfolding withCursor
 cursor-twice x i j = by (eqb (x .active) 0)
   where
     at : ℕ → ℕ → Screen
-    at k l = record { active = x .active; split = x .split; cursor0 = k; cursor1 = l }
+    at k l = record { wide = x .wide; active = x .active; split = x .split; cursor0 = k; cursor1 = l }
 
     by : (t : Bool) → at (pick t j (pick t i (x .cursor0))) (pick t (pick t (x .cursor1) i) j) ≡ at (pick t j (x .cursor0)) (pick t (x .cursor1) j)
     by true = refl
@@ -138,6 +141,7 @@ like-text c at = record {
   idle = refl;
   modes = refl;
   cursor = cursor-set (c .screen) at;
+  wide = refl;
   home = refl;
   end = refl;
   next = λ i. ap (λ (x : Screen). withScreen (idle c) x) (cursor-twice (c .screen) at i);
@@ -149,7 +153,7 @@ data Arrived (c : Core) (i₀ : ℕ) : ℕ → ℕ → Core → Type 0 where
   there : {at i : ℕ} → i₀ < i → Arrived c i₀ at i (textCore c at)
 
 like : {c d : Core} {i₀ at i : ℕ} → c .pending ≡ Pending.Idle → Arrived c i₀ at i d → Like c d at
-like {c} q here = record { idle = q; modes = refl; cursor = refl; home = refl; end = refl; next = λ i. refl }
+like {c} q here = record { idle = q; modes = refl; cursor = refl; wide = refl; home = refl; end = refl; next = λ i. refl }
 like {c} q (there {at} h) = like-text c at
 
 later : {c d : Core} {i₀ at i : ℕ} → Arrived c i₀ at i d → i₀ ≤ i
@@ -207,29 +211,30 @@ module _ {p₀ : List ℕ} {s₀ : State} {input w₀ : List ℕ} {u : Setup} {a
         }
 
     went-placed : {k : ℕ} → i + 4 < length input
-        → Addressed (c .modes .protect) (segmentStart (c .screen)) (segmentEnd (c .screen)) input i q k → Went k (i + 4) q
+        → Addressed (c .modes .protect) (c .screen .wide) (segmentStart (c .screen)) (segmentEnd (c .screen)) input i q k → Went k (i + 4) q
     unfolding decodeRule idleRule escapeRule lookup
     went-placed {k} h s =
         let r = getD input (i + 2) 0 in
-        let most = screen-inside (c .screen) (ready R .1 .0) .most in
+        let inside = screen-inside (c .screen) (ready R .1 .0) in
+        let row = rows-below (columns-width (c .screen .wide)) {a = r - 0x20} {b = segmentBottom (c .screen)} (omega (arith, s .place, s .inside)) in
         let escape = ap₂ (λ (x : Pending) (b : ℕ). decodeRule x (d .gathered .len) b) (L .idle) (s .escape) in
         let R1 = waited (i + 1) Pending.Escape (G .running) refl (omega arith) (omega (arith, s .escape)) escape in
         let equals = ap (decodeRule Pending.Escape 0) (s .equals) in
         let R2 = waited (i + 2) Pending.Address R1 (omega arith) (omega arith) (omega (arith, s .equals)) equals in
-        let R3 = waited (i + 3) (Pending.AddressRow r) R2 (omega arith) (omega arith) (omega (arith, s .row, s .place, s .inside, most)) refl in
+        let R3 = waited (i + 3) (Pending.AddressRow r) R2 (omega arith) (omega arith) (omega (arith, row, inside .most)) refl in
         let g = ready R3 in
         record {
           core = textCore c k;
           arrived = there {i = i + 4} (omega (arith, later (G .arrived)));
           running = turn (i + 4) R3 (omega arith) h (λ room.
               places q (awaiting d (Pending.AddressRow r)) (g .0) (g .1 .0) (u .tabs) room r (getD input (i + 3) 0) k
-              refl (s .row) (s .column) (s .wide) (omega (arith, s .place, L .home)) (omega (arith, s .inside, L .end))
+              refl (s .row) (s .column) (s .most) (rw (L .home, L .wide) (s .place)) (omega (arith, s .inside, L .end))
               (like-guard L q refl (s .unguarded))
               ∙ ap (λ (x : Core). effect 0 x SetupChange.Nothing q []) (L .next k));
         }
 
   typed-run : {at i : ℕ} {p′ : List ℕ}
-      → Typed (c .modes .protect) (c .modes .mark) (segmentStart (c .screen)) (segmentEnd (c .screen)) input (cursorOf (c .screen)) i₀ p at i p′
+      → Typed (c .modes .protect) (c .modes .mark) (c .screen .wide) (segmentStart (c .screen)) (segmentEnd (c .screen)) input (cursorOf (c .screen)) i₀ p at i p′
       → Went at i p′
   typed-run none = record { core = c; arrived = here; running = R }
   typed-run (stored t h s e) = went-stored (typed-run t) h s e
@@ -251,12 +256,16 @@ module _ {p₀ : List ℕ} {s₀ : State} {input w₀ : List ℕ} {u : Setup} {a
   pub text-range : i₀ < length input → {at i : ℕ} {p′ : List ℕ} → TextRun c input i₀ p at i p′ → Range input i₀ p at i p′
   text-range h t =
       let s = screen-inside (c .screen) (ready R .1 .0) in
-      by t (omega (arith, s .below, s .most)) (omega (arith, s .most))
+      by t (omega (arith, s .below, s .placed .page, ready R .0)) (omega (arith, s .placed .page, ready R .0))
     where
-      by : {at i : ℕ} {p′ : List ℕ} → TextRun c input i₀ p at i p′ → cursorOf (c .screen) < 1920 → segmentEnd (c .screen) ≤ 1920
+      by : {at i : ℕ} {p′ : List ℕ} → TextRun c input i₀ p at i p′ → cursorOf (c .screen) < length p → segmentEnd (c .screen) ≤ length p
           → Range input i₀ p at i p′
       by still l e = record { from = omega arith; within = h; below = l; size = refl }
       by (typed quiet over t) l e = typed-range t h l e
+
+  -- a page's cell fits
+  pub text-fits : i₀ < length input → {at i : ℕ} {p′ : List ℕ} → TextRun c input i₀ p at i p′ → at < 3168
+  text-fits h t = omega (arith, text-range h t .below, ready R .0, screen-inside (c .screen) (ready R .1 .0) .placed .most)
 
   -- d is the core after it
   pub resumed : {at i : ℕ} {p′ : List ℕ} {d : Core} → i₀ < length input → TextRun c input i₀ p at i p′ → d ≡ pick (eqb i i₀) c (textCore c at)

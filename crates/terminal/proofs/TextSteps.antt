@@ -22,15 +22,16 @@ use Rattle.rules.specs.declared.SetupChange.the-variants as SetupChange
 use Rattle.rules.specs.declared.Write.{Write}
 use Rattle.rules.specs.declared.Write.the-variants as Write
 use Rattle.rules.specs.Cell.{pick, guarded, among, both, written}
-use Rattle.rules.specs.Row.{width, pageLength}
+use Rattle.rules.specs.Row.{Width}
 use Rattle.rules.specs.Search.{guardedAt, others, settled}
-use Rattle.rules.specs.State.{segmentTop, segmentBottom, segmentStart, segmentEnd, cursorOf, withCursor, withScreen, awaiting, idle}
+use Rattle.rules.specs.State.{widthOf, pageLength, segmentTop, segmentBottom, segmentStart, segmentEnd, cursorOf, withCursor, withScreen, awaiting, idle}
 use Rattle.rules.specs.Possible.{screenOk}
 use Rattle.rules.specs.Decode.{decodeRule, idleRule}
 use Rattle.rules.specs.Plan.{writing, unlessGuarded, storing, advancing, storePlan, addressPlan, movePlan, planRule}
 use Rattle.rules.specs.Carry.{effect, applied, replied, landed, done, carried}
 use Rattle.rules.proofs.Tests.{both-true}
 use Rattle.rules.proofs.Marks.{hit, around-here, length-guards, length-others, guard-at, open-at}
+use Rattle.rules.proofs.Rows.{by-width, columns-width}
 use Rattle.rules.proofs.Lengths.{length-applied}
 use Rattle.rules.proofs.Screens.{screen-inside}
 use Rattle.page.proofs.Changes.{one-filled}
@@ -44,19 +45,26 @@ settled-open g first end i h k e =
     let t : getD (others g) i false ≡ true = open-at g i (omega arith) ∙ ap not e in
     sym (around-here (others g) first end i (sym (hit (others g) i end h (omega (arith, length-others g)) refl t)) h)
 
-module _ (p : List ℕ) (c : Core) (size : length p ≡ pageLength) (ok : screenOk (c .screen) ≡ true) (tabs : List Bool) (room : ℕ) where
+-- so many rows begin sooner
+pub rows-below : {w : ℕ} → Width w → {a b : ℕ} → a * w < b * w → a < b
+rows-below k {a} {b} h = by-width (λ (w : ℕ). a * w < b * w → a < b) (λ h. omega arith) (λ h. omega arith) k h
+
+module _ (p : List ℕ) (c : Core) (size : length p ≡ pageLength (c .screen)) (ok : screenOk (c .screen) ≡ true) (tabs : List Bool) (room : ℕ) where
   abbrev on : Bool
   on = c .modes .protect
 
+  abbrev w : ℕ
+  w = widthOf (c .screen)
+
   -- a plan that writes, and then settles from an open cell of the segment
-  carried-writing : (w : Write) (i : ℕ) → i < segmentEnd (c .screen) → getD (guardedAt on (applied on w p)) i false ≡ false
-      → carried p c (writing (idle c) w (Land.Settle i)) room ≡ effect 0 (textCore c i) SetupChange.Nothing (applied on w p) []
+  carried-writing : (x : Write) (i : ℕ) → i < segmentEnd (c .screen) → getD (guardedAt on (applied w on x p)) i false ≡ false
+      → carried p c (writing (idle c) x (Land.Settle i)) room ≡ effect 0 (textCore c i) SetupChange.Nothing (applied w on x p) []
   unfolding carried done replied landed applied
-  carried-writing w i h e =
-      let q = applied on w p in
+  carried-writing x i h e =
+      let q = applied w on x p in
       let g = guardedAt on q in
-      let most = screen-inside (c .screen) ok .most in
-      let k : segmentEnd (c .screen) ≤ length g = omega (arith, length-guards on q, length-applied on w p, size, most) in
+      let most = screen-inside (c .screen) ok .placed .page in
+      let k : segmentEnd (c .screen) ≤ length g = omega (arith, length-guards on q, length-applied w on x p, size, most) in
       rw (le-leb 0 room zero-le)
       (ap (λ (n : ℕ). effect 0 (withScreen (idle c) (withCursor (c .screen) n)) SetupChange.Nothing q [])
       (settled-open g (segmentStart (c .screen)) (segmentEnd (c .screen)) i h k e))
@@ -82,9 +90,9 @@ module _ (p : List ℕ) (c : Core) (size : length p ≡ pageLength) (ok : screen
         ∙ rw (s .here, lt-ltb (at + 1) (segmentEnd (c .screen)) (s .inside))
 
     inside : at + 1 < length p
-    inside = omega (arith, s .inside, size, screen-inside (c .screen) ok .most)
+    inside = omega (arith, s .inside, size, screen-inside (c .screen) ok .placed .page)
 
-    page : applied on (Write.Fill at (at + 1) v) p ≡ set p at v
+    page : applied w on (Write.Fill at (at + 1) v) p ≡ set p at v
     unfolding applied
     page =
         sym (one-filled on v p at (omega (arith, inside)))
@@ -109,16 +117,17 @@ module _ (p : List ℕ) (c : Core) (size : length p ≡ pageLength) (ok : screen
   unfolding obeyedAlone
   waits b q h e = below p c tabs b room h refl e
 
-  pub places : (r k i : ℕ) → c .pending ≡ Pending.AddressRow r → 0x20 ≤ r → 0x20 ≤ k → k < 0x20 + width
-      → i ≡ segmentStart (c .screen) + (r - 0x20) * width + (k - 0x20) → i < segmentEnd (c .screen) → getD (guardedAt on p) i false ≡ false
+  pub places : (r k i : ℕ) → c .pending ≡ Pending.AddressRow r → 0x20 ≤ r → 0x20 ≤ k → k < 0x20 + 80
+      → i ≡ segmentStart (c .screen) + (r - 0x20) * w + (k - 0x20) → i < segmentEnd (c .screen) → getD (guardedAt on p) i false ≡ false
       → innerAlone p c tabs k room ≡ effect 0 (textCore c i) SetupChange.Nothing p []
   unfolding obeyedAlone decodeRule planRule movePlan addressPlan applied
   places r k i pending low left right e h g =
       let x = c .screen in
-      let z = (segmentTop x + (r - 0x20)) * width + (k - 0x20) in
+      let z = (segmentTop x + (r - 0x20)) * w + (k - 0x20) in
       let same : i ≡ z = omega arith in
-      let t : both (among 0x20 (segmentBottom x - segmentTop x) r) (among 0x20 width k) ≡ true = both-true
-      (both-true (le-leb 0x20 r low) (lt-ltb r (0x20 + (segmentBottom x - segmentTop x)) (omega arith)))
-      (both-true (le-leb 0x20 k left) (lt-ltb k (0x20 + width) right)) in
+      let row = rows-below (columns-width (x .wide)) {a = segmentTop x + (r - 0x20)} {b = segmentBottom x} (omega arith) in
+      let t : both (among 0x20 (segmentBottom x - segmentTop x) r) (among 0x20 80 k) ≡ true = both-true
+      (both-true (le-leb 0x20 r low) (lt-ltb r (0x20 + (segmentBottom x - segmentTop x)) (omega (arith, row))))
+      (both-true (le-leb 0x20 k left) (lt-ltb k (0x20 + 80) right)) in
       below p c tabs k room (omega arith) refl (ap (λ (q : Pending). decodeRule q (c .gathered .len) k) pending)
       ∙ rw t (rw (sym same) (carried-writing Write.Nothing i h g))

@@ -9,7 +9,7 @@ use Rattle.rules.specs.declared.Contents.the-variants as Contents
 use Rattle.rules.specs.declared.Core.{Core}
 use Rattle.rules.specs.declared.Pending.the-variants as Pending
 use Rattle.rules.specs.Cell.{written}
-use Rattle.rules.specs.Row.{width}
+use Rattle.rules.specs.Row.{columns, addressed}
 use Rattle.rules.specs.Search.{guardedAt}
 use Rattle.rules.specs.State.{segmentStart, segmentEnd, cursorOf, withCursor, withScreen, idle}
 
@@ -22,29 +22,29 @@ pub record Stored (on : Bool) (end at : ℕ) (p : List ℕ) (b : ℕ) : Type 0 w
   pub next : getD (guardedAt on p) (at + 1) false ≡ false
 
 -- the bytes i to i + 3 are ESC = row column, and k is that cell, an open one of the segment `home` up to `end`
-pub record Addressed (on : Bool) (home end : ℕ) (l : List ℕ) (i : ℕ) (p : List ℕ) (k : ℕ) : Type 0 where
+pub record Addressed (on wide : Bool) (home end : ℕ) (l : List ℕ) (i : ℕ) (p : List ℕ) (k : ℕ) : Type 0 where
   pub escape : getD l i 0 ≡ 0x1b
   pub equals : getD l (i + 1) 0 ≡ 0x3d
   pub row : 0x20 ≤ getD l (i + 2) 0
   pub column : 0x20 ≤ getD l (i + 3) 0
-  pub wide : getD l (i + 3) 0 < 0x20 + width
-  pub place : k ≡ home + (getD l (i + 2) 0 - 0x20) * width + (getD l (i + 3) 0 - 0x20)
+  pub most : getD l (i + 3) 0 < 0x20 + addressed
+  pub place : k ≡ home + (getD l (i + 2) 0 - 0x20) * columns wide + (getD l (i + 3) 0 - 0x20)
   pub inside : k < end
   pub unguarded : getD (guardedAt on p) k false ≡ false
 
 -- from the cursor at₀, the byte i₀ of the input l and the page p₀, to the cursor, the byte and the page given last
-pub data Typed (on mark : Bool) (home end : ℕ) (l : List ℕ) (at₀ i₀ : ℕ) (p₀ : List ℕ) : ℕ → ℕ → List ℕ → Type 0 where
-  none : Typed on mark home end l at₀ i₀ p₀ at₀ i₀ p₀
-  stored : {at i v : ℕ} {p : List ℕ} → Typed on mark home end l at₀ i₀ p₀ at i p → i + 1 < length l → Stored on end at p (getD l i 0)
-      → v ≡ written (Contents.Text (getD l i 0)) mark → Typed on mark home end l at₀ i₀ p₀ (at + 1) (i + 1) (set p at v)
-  placed : {at i k : ℕ} {p : List ℕ} → Typed on mark home end l at₀ i₀ p₀ at i p → i + 4 < length l → Addressed on home end l i p k
-      → Typed on mark home end l at₀ i₀ p₀ k (i + 4) p
+pub data Typed (on mark wide : Bool) (home end : ℕ) (l : List ℕ) (at₀ i₀ : ℕ) (p₀ : List ℕ) : ℕ → ℕ → List ℕ → Type 0 where
+  none : Typed on mark wide home end l at₀ i₀ p₀ at₀ i₀ p₀
+  stored : {at i v : ℕ} {p : List ℕ} → Typed on mark wide home end l at₀ i₀ p₀ at i p → i + 1 < length l → Stored on end at p (getD l i 0)
+      → v ≡ written (Contents.Text (getD l i 0)) mark → Typed on mark wide home end l at₀ i₀ p₀ (at + 1) (i + 1) (set p at v)
+  placed : {at i k : ℕ} {p : List ℕ} → Typed on mark wide home end l at₀ i₀ p₀ at i p → i + 4 < length l → Addressed on wide home end l i p k
+      → Typed on mark wide home end l at₀ i₀ p₀ k (i + 4) p
 
 -- such a run from a core on, where nothing is under way and insert mode is off; or nothing is done
 pub data TextRun (c : Core) (l : List ℕ) (i₀ : ℕ) (p₀ : List ℕ) : ℕ → ℕ → List ℕ → Type 0 where
   still : TextRun c l i₀ p₀ (cursorOf (c .screen)) i₀ p₀
   typed : {at i : ℕ} {p : List ℕ} → c .pending ≡ Pending.Idle → c .modes .insert ≡ false
-      → Typed (c .modes .protect) (c .modes .mark) (segmentStart (c .screen)) (segmentEnd (c .screen)) l (cursorOf (c .screen)) i₀ p₀ at i p
+      → Typed (c .modes .protect) (c .modes .mark) (c .screen .wide) (segmentStart (c .screen)) (segmentEnd (c .screen)) l (cursorOf (c .screen)) i₀ p₀ at i p
       → TextRun c l i₀ p₀ at i p
 
 -- the core after it

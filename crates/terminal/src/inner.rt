@@ -4,7 +4,7 @@ ghost use mathlib.Core.Bool.{true};
 ghost use mathlib.Core.List.{List, []};
 ghost use Prim.Native.Nat.{ℕ};
 ghost use lib.ListN.{length};
-ghost use Rattle.rules.specs.State.{number};
+ghost use Rattle.rules.specs.State.{number, pageLength};
 ghost use Rattle.rules.specs.Search.{guardedAt};
 ghost use Rattle.rules.specs.Possible.{screenOk, pendingOk};
 ghost use Rattle.rules.specs.Plan.{planRule};
@@ -38,16 +38,16 @@ fn quiet(answer: Answer, core: Core, change: SetupChange) -> CoreResult
 }
 
 // A command: planned, and carried out.
-fn obey(page: &mut [u16], tabs: &[bool; 80], core: Core, d: Command, room: &mut [u8]) -> CoreResult
-    requires { ⌜ (length (now page) ≡ 1920) × (screenOk (core .screen) ≡ true) ⌝ }
+fn obey(page: &mut [u16], tabs: &[bool; 132], core: Core, d: Command, room: &mut [u8]) -> CoreResult
+    requires { ⌜ (length (now page) ≡ pageLength (core .screen)) × (screenOk (core .screen) ≡ true) ⌝ }
     ensures { λ r. ⌜ Carried (carried (now (page .entry)) core (planRule (guardedAt (core .modes .protect) (now (page .entry))) (now (tabs .entry)) core d) (length (now (room .entry)))) r (now (page .exit)) (now (room .entry)) (now (room .exit)) ⌝ }
 {
     let plan = plan_for(page, tabs, core, d);
     carry_out(page, core, plan, room)
 }
 
-pub fn inner(page: &mut [u16], tabs: &[bool; 80], core: Core, b: u8, room: &mut [u8]) -> CoreResult
-    requires { ⌜ (length (now page) ≡ 1920) × ((screenOk (core .screen) ≡ true) × (pendingOk (core .pending) (core .gathered) ≡ true)) ⌝ }
+pub fn inner(page: &mut [u16], tabs: &[bool; 132], core: Core, b: u8, room: &mut [u8]) -> CoreResult
+    requires { ⌜ (length (now page) ≡ pageLength (core .screen)) × ((screenOk (core .screen) ≡ true) × (pendingOk (core .pending) (core .gathered) ≡ true)) ⌝ }
     ensures { λ r. ⌜ Carried (innerAlone (now (page .entry)) core (now (tabs .entry)) b (length (now (room .entry)))) r (now (page .exit)) (now (room .entry)) (now (room .exit)) ⌝ }
 {
     if 128 <= b {

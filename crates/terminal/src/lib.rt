@@ -30,12 +30,15 @@ use state::keys::key_at;
 use state::logic::and;
 use state::possible::possible;
 use state::power_on_state;
+use state::width::NARROW_CELLS;
+use state::width::cells;
 
-// A page of the right length, and a possible state.
+// A page of the state's own length, and a possible state.
 fn is_good(page: &[u16], state: State) -> bool
     ensures { λ r. ⌜ r ≡ good (now (page .entry)) state ⌝ }
 {
-    and(page.len() == 1920, possible(state))
+    let n = cells(state.core.screen.wide, 24);
+    and(page.len() == n as usize, possible(state))
 }
 
 // All cells 0, and the power-on state. Ruled out: one that clears a page of the wrong length, or leaves a cell of the right one.
@@ -43,8 +46,8 @@ pub fn power_on(page: &mut [u16]) -> PowerOn
     ensures { λ r. ⌜ PoweredOn (powerOnRule (now (page .entry))) r (now (page .exit)) ⌝ }
 {
     let state = power_on_state();
-    if page.len() == 1920 {
-        fill_cells(page, false, 0, 1920, 0);
+    if page.len() == NARROW_CELLS {
+        fill_cells(page, false, 0, NARROW_CELLS, 0);
         return PowerOn {
             answer: Answer::Done,
             state: state,

@@ -1,13 +1,13 @@
 // Runs of text, stored without a plan for each byte. Nothing is under way and insert mode is off; a run goes on in its segment and on open
 // cells, over ESC = too, and leaves the last byte of the input to the inner step.
 ghost use mathlib.Core.Path.{_≡_};
-ghost use mathlib.Core.Bool.{true};
+ghost use mathlib.Core.Bool.{Bool, true};
 ghost use Prim.Native.Nat.{ℕ, _+_, _-_, _*_, _<_, _≤_};
 ghost use lib.ListN.{length};
 ghost use Rattle.rules.specs.Cell.{pick};
-ghost use Rattle.rules.specs.Row.{width};
+ghost use Rattle.rules.specs.Row.{columns, wideCells};
 ghost use Rattle.rules.specs.Possible.{screenOk};
-ghost use Rattle.rules.specs.State.{cursorOf};
+ghost use Rattle.rules.specs.State.{pageLength, cursorOf};
 ghost use Rattle.terminal.specs.Text.{Stored, Addressed, Typed, TextRun, textCore};
 use page::cell::written_cell;
 use page::search::is_guarded_at;
@@ -20,6 +20,7 @@ use state::screen::cursor_of;
 use state::screen::segment_end;
 use state::screen::segment_start;
 use state::screen::with_cursor;
+use state::width::cells;
 
 // Where a run ends: the cursor, and the first byte that it did not take.
 pub struct Reached {
@@ -29,7 +30,7 @@ pub struct Reached {
 
 // Whether the byte is text, and the cell and the next one are open cells of the segment.
 fn is_stored(page: &[u16], on: bool, at: usize, end: usize, b: u8) -> bool
-    requires { ⌜ (length (now page) ≡ 1920) × ((end ≤ 1920) × (at < 1920)) ⌝ }
+    requires { ⌜ (length (now page) ≤ wideCells) × ((end ≤ length (now page)) × (at < length (now page))) ⌝ }
     ensures { λ r. ⌜ (r ≡ true → Stored on end at (now (page .entry)) b) ⌝ }
 {
     if b < 0x20 {
@@ -57,8 +58,8 @@ fn store(
     input: &[u8],
     from: usize,
 ) -> Reached
-    requires { ⌜ (length (now page) ≡ 1920) × ((end ≤ 1920) × ((first < 1920) × (from < length (now input)))) ⌝ }
-    ensures { λ r. ⌜ ((home : ℕ) → Typed on mark home end (now (input .entry)) first from (now (page .entry)) (r .at) (r .taken) (now (page .exit))) ⌝ }
+    requires { ⌜ (length (now page) ≤ wideCells) × ((end ≤ length (now page)) × ((first < length (now page)) × (from < length (now input)))) ⌝ }
+    ensures { λ r. ⌜ ((wide : Bool) (home : ℕ) → Typed on mark wide home end (now (input .entry)) first from (now (page .entry)) (r .at) (r .taken) (now (page .exit))) ⌝ }
 {
     let mut at = first;
     let mut i = from;
@@ -75,17 +76,25 @@ fn store(
 }
 
 // The cell of a row and a column code, the row from the cell `home` on.
-fn cell_at(home: usize, row: u8, column: u8) -> usize
-    requires { ⌜ (home ≤ 1920) × ((0x20 ≤ row) × (0x20 ≤ column)) ⌝ }
-    ensures { λ r. ⌜ r ≡ home + (row - 0x20) * width + (column - 0x20) ⌝ }
+fn cell_at(wide: bool, home: usize, row: u8, column: u8) -> usize
+    requires { ⌜ (home ≤ wideCells) × ((0x20 ≤ row) × (0x20 ≤ column)) ⌝ }
+    ensures { λ r. ⌜ r ≡ home + (row - 0x20) * columns wide + (column - 0x20) ⌝ }
 {
-    home + (row - 0x20) as usize * 80 + (column - 0x20) as usize
+    home + cells(wide, (row - 0x20) as u16) as usize + (column - 0x20) as usize
 }
 
 // The cell of an ESC = at byte i, if it is an open one of the segment `home` up to `end` and a byte follows; else `end`.
-fn address(page: &[u16], on: bool, home: usize, end: usize, input: &[u8], i: usize) -> usize
-    requires { ⌜ (length (now page) ≡ 1920) × ((end ≤ 1920) × ((home ≤ 1920) × (i < length (now input)))) ⌝ }
-    ensures { λ r. ⌜ (r < end → (i + 4 < length (now (input .entry))) × Addressed on home end (now (input .entry)) i (now (page .entry)) r) ⌝ }
+fn address(
+    page: &[u16],
+    on: bool,
+    wide: bool,
+    home: usize,
+    end: usize,
+    input: &[u8],
+    i: usize,
+) -> usize
+    requires { ⌜ (length (now page) ≤ wideCells) × ((end ≤ length (now page)) × ((home ≤ wideCells) × (i < length (now input)))) ⌝ }
+    ensures { λ r. ⌜ (r < end → (i + 4 < length (now (input .entry))) × Addressed on wide home end (now (input .entry)) i (now (page .entry)) r) ⌝ }
 {
     if input.len() <= i + 4 {
         return end;
@@ -107,7 +116,7 @@ fn address(page: &[u16], on: bool, home: usize, end: usize, input: &[u8], i: usi
     if 0x6f < column {
         return end;
     }
-    let k = cell_at(home, row, column);
+    let k = cell_at(wide, home, row, column);
     if end <= k {
         return end;
     }
@@ -122,14 +131,15 @@ fn runs(
     page: &mut [u16],
     on: bool,
     mark: bool,
+    wide: bool,
     first: usize,
     home: usize,
     end: usize,
     input: &[u8],
     from: usize,
 ) -> Reached
-    requires { ⌜ (length (now page) ≡ 1920) × ((end ≤ 1920) × ((home ≤ 1920) × ((first < 1920) × (from < length (now input))))) ⌝ }
-    ensures { λ r. ⌜ Typed on mark home end (now (input .entry)) first from (now (page .entry)) (r .at) (r .taken) (now (page .exit)) ⌝ }
+    requires { ⌜ (length (now page) ≤ wideCells) × ((end ≤ length (now page)) × ((home ≤ wideCells) × ((first < length (now page)) × (from < length (now input))))) ⌝ }
+    ensures { λ r. ⌜ Typed on mark wide home end (now (input .entry)) first from (now (page .entry)) (r .at) (r .taken) (now (page .exit)) ⌝ }
 {
     let mut at = first;
     let mut i = from;
@@ -137,7 +147,7 @@ fn runs(
         let run = store(page, on, mark, at, end, input, i);
         at = run.at;
         i = run.taken;
-        let k = address(page, on, home, end, input, i);
+        let k = address(page, on, wide, home, end, input, i);
         if end <= k {
             return Reached { at: at, taken: i };
         }
@@ -158,7 +168,7 @@ fn still(core: Core, from: usize) -> Reached
 
 // A run from the byte `from` on, if it is text or ESC.
 pub fn text(page: &mut [u16], core: Core, input: &[u8], from: usize) -> Reached
-    requires { ⌜ (length (now page) ≡ 1920) × ((screenOk (core .screen) ≡ true) × (from < length (now input))) ⌝ }
+    requires { ⌜ (length (now page) ≡ pageLength (core .screen)) × ((screenOk (core .screen) ≡ true) × (from < length (now input))) ⌝ }
     ensures { λ r. ⌜ TextRun core (now (input .entry)) from (now (page .entry)) (r .at) (r .taken) (now (page .exit)) ⌝ }
 {
     if input[from] < 0x1b {
@@ -174,6 +184,7 @@ pub fn text(page: &mut [u16], core: Core, input: &[u8], from: usize) -> Reached
             page,
             core.modes.protect,
             core.modes.mark,
+            x.wide,
             cursor_of(x) as usize,
             segment_start(x) as usize,
             segment_end(x) as usize,
@@ -186,7 +197,7 @@ pub fn text(page: &mut [u16], core: Core, input: &[u8], from: usize) -> Reached
 
 // The core after a run that ended at a cursor; the same one where it took nothing.
 pub fn moved(core: Core, at: usize, same: bool) -> Core
-    requires { ⌜ at < 1920 ⌝ }
+    requires { ⌜ at < wideCells ⌝ }
     ensures { λ r. ⌜ r ≡ pick same core (textCore core at) ⌝ }
 {
     if same {

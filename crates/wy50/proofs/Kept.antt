@@ -5,20 +5,20 @@
 use mathlib.Core.Path.{_≡_, refl}
 use mathlib.Core.Bool.{Bool, true, false}
 use mathlib.Core.List.{List, []}
-use Prim.Native.Nat.{ℕ}
+use Prim.Native.Nat.{ℕ, _-_}
 use lib.ListN.{length}
 use Rattle.rules.specs.declared.State.{State}
 use Rattle.rules.specs.Cell.{pick}
-use Rattle.rules.specs.Row.{pageLength}
+use Rattle.rules.specs.State.{widthOf}
 use Rattle.rules.specs.Possible.{good}
 use Rattle.rules.specs.Step.{stepRule}
 use Rattle.rules.specs.Calls.{pressed, powerOnRule, runRule, pressRule}
-use Rattle.rules.proofs.Kept.{possible-parts, good-parts, step-good, run-good, powerOn-good}
+use Rattle.rules.proofs.Kept.{PossibleSetup, possible-parts, possible-whole, good-parts, good-whole, step-good, run-good, powerOn-good}
 use Rattle.state.proofs.Tests.{both-left, both-right}
 use Rattle.wy50.specs.declared.raw.RawState.{RawState}
 use Rattle.wy50.specs.Raw.{packed, unpacked, named}
 use Rattle.wy50.specs.Promise.{raw, rawGood, badStep, badRun, rawStep, rawRun, rawPress}
-use Rattle.wy50.proofs.RoundTrip.{packed-named, unpacked-packed, packed-unpacked}
+use Rattle.wy50.proofs.RoundTrip.{packed-named, retabbed, retabbed-stops, unpacked-packed, packed-unpacked}
 
 -- a bad call
 module _ (p : List ℕ) (x : RawState) (bad : rawGood p x ≡ false) where
@@ -47,9 +47,16 @@ module _ (p : List ℕ) (x : RawState) (bad : rawGood p x ≡ false) where
 packed-good : (p : List ℕ) (s : State) → good p s ≡ true → rawGood p (packed s) ≡ true
 unfolding rawGood
 packed-good p s h =
-    rw (packed-named s (possible-parts s (good-parts p s h .1) .core .bells), unpacked-packed s) h
+    let g = good-parts p s h in
+    let w = possible-parts s (g .1) in
+    let u = w .setup in
+    let stops = retabbed-stops (widthOf (s .core .screen)) (length (s .setup .tabs) - 52) (s .setup .tabs) (u .tabs) in
+    let setup : PossibleSetup (widthOf (s .core .screen)) (retabbed s .setup) =
+    record { tabs = stops; keys = u .keys; attributes = u .attributes; features = u .features } in
+    rw (packed-named s (w .core .bells), unpacked-packed s (w .narrow))
+    (good-whole p (retabbed s) (g .0) (possible-whole (retabbed s) (w .narrow) (w .core) setup))
 
-pub power-on-good : (p : List ℕ) → length p ≡ pageLength → rawGood (powerOnRule p .page) (raw (powerOnRule p) .state) ≡ true
+pub power-on-good : (p : List ℕ) → length p ≡ 1920 → rawGood (powerOnRule p .page) (raw (powerOnRule p) .state) ≡ true
 power-on-good p h = packed-good (powerOnRule p .page) (powerOnRule p .state) (powerOn-good p h)
 
 module _ (p : List ℕ) (x : RawState) (fine : rawGood p x ≡ true) where

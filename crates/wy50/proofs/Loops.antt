@@ -1,18 +1,20 @@
 -- Laws of the loops that translate an array, and of the table of sequences.
 --     begin, go, finish     such a loop's start, a turn, its end
+--     shown-length, shown-at, longer, zeros-at, unshown-map     C's tab stops and a state's
 --     not-found     a kind that is none of the table's
 -- Assumes nothing.
-use mathlib.Core.Path.{_≡_, refl, sym, _∙_}
-use mathlib.Core.List.{List, [], _∷_, map}
-use Prim.Native.Nat.{ℕ, _+_, _≤_, _<_}
+use mathlib.Core.Path.{_≡_, refl, sym, ap, _∙_}
+use mathlib.Core.Bool.{Bool, false}
+use mathlib.Core.List.{List, [], _∷_, _++_, map}
+use Prim.Native.Nat.{ℕ, zero, suc, _+_, _-_, _≤_, _<_}
 use native.Mathlib.Omega.{arith}
 use native.Mathlib.Numerals.{add-one}
-use lib.ListN.{length, take, getD, set, length-set, length-map, List·getD-map}
-use lib.Seq.{take-all, take-suc, take-suc-set}
+use lib.ListN.{length, take, getD, set, replicate, length-set, length-map, length-append, length-replicate, List·getD-map}
+use lib.Seq.{take-all, take-suc, take-suc-set, length-take-le}
 use borrow.Author.Tests.{ne-eqb}
 use Rattle.rules.specs.declared.Pending.{Pending}
 use Rattle.rules.specs.declared.Pending.the-variants as Pending
-use Rattle.wy50.specs.Raw.{find}
+use Rattle.wy50.specs.Raw.{isOn, shown, unshown, find}
 
 -- an array t that is written element by element: its first i are those of the map
 pub record Translated {A B : Type 0} (f : A → B) (l : List A) (t : List B) (i : ℕ) : Type 0 where
@@ -37,6 +39,37 @@ module _ {A B : Type 0} (f : A → B) (l : List A) (t : List B) where
   pub finish : (i : ℕ) → Translated f l t i → length l ≤ i → t ≡ map f l
   finish i x h =
       sym (take-all i t (omega (arith, x .size))) ∙ x .front ∙ take-all i (map f l) (omega (arith, length-map l f))
+
+-- the tab stops that C holds, of a state's 132
+pub shown-length : (l : List Bool) → length l ≡ 132 → length (shown l) ≡ 80
+shown-length l n = length-take-le (length l - 52) l (omega arith) ∙ omega arith
+
+getD-take : {A : Type 0} (n : ℕ) (l : List A) (i : ℕ) (d : A) → i < n → getD l i d ≡ getD (take n l) i d
+getD-take zero l i d h = absurd (omega arith)
+getD-take (suc n) [] i d h = refl
+getD-take (suc n) (x ∷ l) zero d h = refl
+getD-take (suc n) (x ∷ l) (suc i) d h = getD-take n l i d (omega arith)
+
+pub shown-at : (l : List Bool) (i : ℕ) → length l ≡ 132 → i < 80 → getD l i false ≡ getD (shown l) i false
+shown-at l i n h = getD-take (length l - 52) l i false (omega arith)
+
+-- the numbers of C's, with zeros behind them
+pub longer : (l : List ℕ) → length (l ++ replicate 52 0) ≡ length l + 52
+longer l = length-append l (replicate 52 0) ∙ ap (λ (n : ℕ). length l + n) (length-replicate {A = ℕ} 52 0)
+
+zero-at : (n i : ℕ) → getD (replicate n 0) i 0 ≡ zero
+zero-at zero i = refl
+zero-at (suc n) zero = refl
+zero-at (suc n) (suc i) = zero-at n i
+
+pub zeros-at : (l : List ℕ) (n i : ℕ) → getD l i 0 ≡ getD (l ++ replicate n 0) i 0
+zeros-at [] n i = sym (zero-at n i)
+zeros-at (x ∷ l) n zero = refl
+zeros-at (x ∷ l) n (suc i) = zeros-at l n i
+
+pub unshown-map : (l : List ℕ) → map isOn (l ++ replicate 52 0) ≡ unshown (map isOn l)
+unshown-map [] = refl
+unshown-map (x ∷ l) = ap (λ (r : List Bool). isOn x ∷ r) (unshown-map l)
 
 -- what the last arm of a match on a number knows: the number is none of the keys, the last key outermost
 abbrev pub NoneOf : Type 0 → ℕ → List (ℕ × Pending) → Type 0

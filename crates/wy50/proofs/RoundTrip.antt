@@ -1,26 +1,29 @@
 -- There and back: a state's numbers name that state, and the state that numbers name has those numbers.
---     packed-named, unpacked-packed     a state's numbers name a state, and it is that state
+--     packed-named, unpacked-packed     a state's numbers name a state, and a narrow state with no stop beyond what C holds is that state
+--     retabbed-stops     a possible state's stops stay possible
 --     packed-unpacked     numbers that name a state are that state's
 -- Assumes nothing.
-use mathlib.Core.Path.{_≡_, refl, ap, ap₂, _∙_}
-use mathlib.Core.Bool.{Bool, true, false}
-use mathlib.Core.List.{List, [], _∷_, map}
-use Prim.Native.Nat.{ℕ, _<_}
+use mathlib.Core.Path.{_≡_, refl, sym, ap, ap₂, _∙_}
+use mathlib.Core.Bool.{Bool, true, false, not}
+use mathlib.Core.List.{List, [], _∷_, _++_, map}
+use Prim.Native.Nat.{ℕ, zero, suc, _-_, _<_}
 use native.Mathlib.Omega.{arith}
 use borrow.Author.Tests.{lt-ltb, ltb-true, eq-eqb, eqb-true, eqb-false}
 use lib.Dec.{ltb, eqb}
+use lib.ListN.{length, take, drop, replicate, length-append, length-replicate}
+use lib.Seq.{take-append-seam}
 use Rattle.rules.specs.declared.Pending.{Pending}
 use Rattle.rules.specs.declared.Pending.the-variants as Pending
 use Rattle.rules.specs.declared.Modes.{Modes}
 use Rattle.rules.specs.declared.State.{State}
 use Rattle.rules.specs.Cell.{both}
-use Rattle.rules.specs.Possible.{allBelow}
+use Rattle.rules.specs.Possible.{allBelow, noStops, tabsOk}
 use Rattle.state.proofs.Tests.{both-left, both-right}
 use Rattle.wy50.specs.declared.raw.RawModes.{RawModes}
 use Rattle.wy50.specs.declared.raw.RawSequence.{RawSequence}
 use Rattle.wy50.specs.declared.raw.RawState.{RawState}
 use Rattle.wy50.specs.Raw.{flag, isOn, sequenceOf, find, pendingOf, sameSequence, isSequence, rawModes, modesOf, areFlags}
-use Rattle.wy50.specs.Raw.{rawKey, keyOf, packed, unpacked, named}
+use Rattle.wy50.specs.Raw.{rawKey, keyOf, shown, unshown, packed, unpacked, named}
 
 -- a flag
 isOn-flag : (b : Bool) → isOn (flag b) ≡ b
@@ -145,26 +148,68 @@ raw-modes-back m h =
 -- a state's numbers name a state; the bell count of a state is below 256
 pub packed-named : (s : State) → s .core .bells < 256 → named (packed s) ≡ true
 unfolding packed named
-packed-named s h = rw (modes-named (s .core .modes), lt-ltb (s .core .bells) 256 h, sequence-named (s .core .pending), tabs-below (s .setup .tabs))
+packed-named s h = rw (modes-named (s .core .modes), lt-ltb (s .core .bells) 256 h, sequence-named (s .core .pending), tabs-below (shown (s .setup .tabs)))
 
--- and it is that state
-pub unpacked-packed : (s : State) → unpacked (packed s) ≡ s
+-- and it is that state, with no tab stop but those that C holds
+abbrev pub retabbed : State → State
+retabbed s = record {
+  core = s .core;
+  setup = record { tabs = unshown (shown (s .setup .tabs)); attributes = s .setup .attributes; features = s .setup .features; keys = s .setup .keys };
+}
+
+no-stops : (n : ℕ) → noStops (replicate n false) ≡ true
+unfolding noStops
+no-stops zero = refl
+no-stops (suc n) = no-stops n
+
+no-stops-drop : (k n : ℕ) → noStops (drop k (replicate n false)) ≡ true
+unfolding noStops
+no-stops-drop zero n = no-stops n
+no-stops-drop (suc k) zero = refl
+no-stops-drop (suc k) (suc n) = no-stops-drop k n
+
+stops-cut : (n : ℕ) (l : List Bool) → noStops l ≡ true → noStops (unshown (take n l)) ≡ true
+unfolding noStops
+stops-cut zero l h = no-stops 52
+stops-cut (suc n) [] h = no-stops 52
+stops-cut (suc n) (b ∷ l) h =
+    rw (both-left (not b) (noStops l) h, stops-cut n l (both-right (not b) (noStops l) h))
+
+-- a possible state has no stop beyond the width, whatever of its stops C holds
+pub retabbed-stops : (w n : ℕ) (l : List Bool) → tabsOk w l ≡ true → tabsOk w (unshown (take n l)) ≡ true
+retabbed-stops zero n l h = stops-cut n l h
+retabbed-stops (suc w) zero l h = no-stops-drop (suc w) 52
+retabbed-stops (suc w) (suc n) [] h = no-stops-drop (suc w) 52
+retabbed-stops (suc w) (suc n) (b ∷ l) h = retabbed-stops w n l h
+
+pub unpacked-packed : (s : State) → s .core .screen .wide ≡ false → unpacked (packed s) ≡ retabbed s
 unfolding packed unpacked
-unpacked-packed s = λ i. record {
+unpacked-packed s n = λ i. record {
   core = record {
-    screen = s .core .screen;
+    screen = record {
+      wide = sym n i;
+      active = s .core .screen .active;
+      split = s .core .screen .split;
+      cursor0 = s .core .screen .cursor0;
+      cursor1 = s .core .screen .cursor1;
+    };
     modes = modes-back (s .core .modes) i;
     bells = s .core .bells;
     pending = pending-back (s .core .pending) i;
     gathered = s .core .gathered;
   };
   setup = record {
-    tabs = map-back flag isOn isOn-flag (s .setup .tabs) i;
+    tabs = unshown (map-back flag isOn isOn-flag (shown (s .setup .tabs)) i);
     attributes = s .setup .attributes;
     features = s .setup .features;
     keys = map-back rawKey keyOf (λ k. refl) (s .setup .keys) i;
   };
 }
+
+shown-unshown : (l : List Bool) → shown (unshown l) ≡ l
+shown-unshown l =
+    let n : length (l ++ replicate 52 false) - 52 ≡ length l = omega (arith, length-append l (replicate 52 false), length-replicate 52 false) in
+    rw n (take-append-seam l (replicate 52 false))
 
 -- numbers that name a state are that state's
 pub packed-unpacked : (x : RawState) → named x ≡ true → packed (unpacked x) ≡ x
@@ -177,7 +222,7 @@ packed-unpacked x h =
     let r = both-right b (both q t) (both-right a (both b (both q t)) h) in
     let modes = raw-modes-back (x .modes) (both-left a (both b (both q t)) h) in
     let sequence = sequence-back (x .sequence) (both-left q t r) in
-    let tabs = tabs-back (x .tabs) (both-right q t r) in
+    let tabs = ap (map flag) (shown-unshown (map isOn (x .tabs))) ∙ tabs-back (x .tabs) (both-right q t r) in
     let keys = map-back keyOf rawKey (λ k. refl) (x .keys) in
     λ i. record {
       screen = x .screen;

@@ -1,7 +1,8 @@
 -- A state as C holds it, in numbers: the numbers of a state, and the state that numbers name.
-use mathlib.Core.Bool.{Bool}
-use mathlib.Core.List.{List, [], _∷_, map}
-use Prim.Native.Nat.{ℕ}
+use mathlib.Core.Bool.{Bool, false}
+use mathlib.Core.List.{List, [], _∷_, _++_, map}
+use Prim.Native.Nat.{ℕ, _-_}
+use lib.ListN.{length, take, replicate}
 use lib.Dec.{ltb, eqb}
 use Rattle.rules.specs.declared.Key.{Key}
 use Rattle.rules.specs.declared.Modes.{Modes}
@@ -124,7 +125,14 @@ rawKey k = record { len = k .len; bytes = k .bytes }
 abbrev pub keyOf : RawKey → Key
 keyOf k = record { len = k .len; bytes = k .bytes }
 
--- the numbers of a state
+-- the tab stops that C holds are those of 80 columns: the last 52 are none in every possible state, until request A11 shows them
+abbrev pub shown : List Bool → List Bool
+shown tabs = take (length tabs - 52) tabs
+
+abbrev pub unshown : List Bool → List Bool
+unshown tabs = tabs ++ replicate 52 false
+
+-- the numbers of a state; a possible screen is narrow
 unfoldable pub packed : State → RawState
 packed s = record {
   screen = record {
@@ -137,7 +145,7 @@ packed s = record {
   bells = s .core .bells;
   sequence = sequenceOf (s .core .pending);
   gathered = rawKey (s .core .gathered);
-  tabs = map flag (s .setup .tabs);
+  tabs = map flag (shown (s .setup .tabs));
   attributes = s .setup .attributes;
   features = s .setup .features;
   keys = map rawKey (s .setup .keys);
@@ -147,13 +155,13 @@ packed s = record {
 unfoldable pub unpacked : RawState → State
 unpacked x = record {
   core = record {
-    screen = record { active = x .screen .active; split = x .screen .split; cursor0 = x .screen .cursor0; cursor1 = x .screen .cursor1 };
+    screen = record { wide = false; active = x .screen .active; split = x .screen .split; cursor0 = x .screen .cursor0; cursor1 = x .screen .cursor1 };
     modes = modesOf (x .modes);
     bells = x .bells;
     pending = pendingOf (x .sequence);
     gathered = keyOf (x .gathered);
   };
-  setup = record { tabs = map isOn (x .tabs); attributes = x .attributes; features = x .features; keys = map keyOf (x .keys) };
+  setup = record { tabs = unshown (map isOn (x .tabs)); attributes = x .attributes; features = x .features; keys = map keyOf (x .keys) };
 }
 
 -- whether numbers name a state: modes and tab stops 0 or 1, bells below 256, a sequence's own numbers

@@ -1,7 +1,7 @@
 // The numbers of a state.
 ghost use mathlib.Core.Path.{_≡_};
 ghost use mathlib.Core.List.{map};
-ghost use Rattle.wy50.specs.Raw.{flag, sequenceOf, rawModes, rawKey, packed};
+ghost use Rattle.wy50.specs.Raw.{flag, shown, sequenceOf, rawModes, rawKey, packed};
 use crate::raw::RawKey;
 use crate::raw::RawModes;
 use crate::raw::RawScreen;
@@ -80,8 +80,9 @@ fn raw_key(k: Key) -> RawKey
     }
 }
 
-fn raw_tabs(tabs: [bool; 80]) -> [u8; 80]
-    ensures { λ r. ⌜ r ≡ map flag tabs ⌝ }
+// C holds the tab stops of 80 columns.
+fn raw_tabs(tabs: [bool; 132]) -> [u8; 80]
+    ensures { λ r. ⌜ r ≡ map flag (shown tabs) ⌝ }
 {
     let mut t = [0u8; 80];
     let mut i = 0;

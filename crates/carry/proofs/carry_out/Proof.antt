@@ -1,15 +1,20 @@
 -- `carry::carry_out` meets its contract.
-use mathlib.Core.Path.{_∙_}
+use mathlib.Core.Path.{_≡_, _∙_}
 use native.Mathlib.Omega.{arith}
 use borrow.Author.Needs.{needs}
 use denote.Ref.{now}
+use Rattle.rules.specs.Carry.{planWidth}
+use Rattle.rules.proofs.Rows.{columns-width}
 use Rattle.carry.proofs.Carrying.{no-room, carried-out}
 use Rattle.carry.proofs.carry_out.Statement.{statement}
 use Rattle.carry.proofs.carry_out.Tie as tie
 
 -- the start and the calls, each from the next call
 abbrev start : tie.After-reply-length → tie.Start
-start c = c .before .before .before .before
+start c = c .before .before .before .before .before .before
+
+abbrev width : (c : tie.After-reply-length) → c .before .before .width-of .result ≡ planWidth (start c .args .plan)
+width c = c .before .before .width-of .ensures
 
 abbrev measured : tie.After-put-reply → tie.After-reply-length
 measured c = c .before .before .before .before
@@ -24,27 +29,37 @@ pub carry-out-spec : {M : Type 1} → statement M
 carry-out-spec =
     tie.close
     (tie.spec
+    -- width-of-requires
+    (λ c κs. search needs)
+    -- cast-width
+    (λ c. search needs)
     -- reply-length-requires
-    (λ c κs. let pre = c .before .before .before .pre in (pre .0, pre .1 .text))
+    (λ c κs.
+    let pre = c .before .before .before .before .before .pre in
+    rw (c .before .width-of .ensures) (pre .0, (pre .1 .text, columns-width _)))
     -- same-length
     (λ c. search needs)
     -- returns
     (λ c.
     let m = c .before .before in
     let x = start m .args in
-    no-room (now (x .page)) (x .core) (x .plan) (now (x .room)) (m .reply-length .ensures) (c .before .if1 .taken))
+    no-room (now (x .page)) (x .core) (x .plan) (now (x .room)) (width m) (m .reply-length .ensures) (c .before .if1 .taken))
     -- put-reply-requires
     (λ c κs.
     let m = c .before .before .before in
     let pre = start m .pre in
-    (pre .0, (pre .1 .text, omega (arith, m .reply-length .ensures, c .before .before .if1 .left))))
+    (rw (width m) (pre .0), (rw (width m) (pre .1 .text, columns-width _), omega (arith, m .reply-length .ensures, c .before .before .if1 .left))))
     -- write-requires
-    (λ c κs. let pre = start (measured (c .before .before .before)) .pre in (pre .0, pre .1 .one))
+    (λ c κs.
+    let m = measured (c .before .before .before) in
+    let pre = start m .pre in
+    rw (width m) (pre .0, (pre .1 .one, columns-width _)))
     -- write-requires-2
     (λ c κs.
     let w = c .before .before .before in
-    let pre = start (measured (put w)) .pre in
-    (w .write .kept .0 ∙ pre .0, pre .1 .two))
+    let m = measured (put w) in
+    let pre = start m .pre in
+    rw (width m) (w .write .kept .0 ∙ pre .0, (pre .1 .two, columns-width _)))
     -- land-requires
     (λ c κs.
     let v = c .before .before .before .before in
@@ -54,7 +69,7 @@ carry-out-spec =
     -- same-length-2
     (λ c. let v = c .before .before .before .before .before in v .write2 .kept .0 ∙ first v .write .kept .0)
     -- same-length-3
-    (λ c. put (first (c .before .before .before .before .before)) .put-reply .kept .1 .1 .1 .0)
+    (λ c. put (first (c .before .before .before .before .before)) .put-reply .kept .1 .1 .1 .1 .0)
     -- returns-2
     (λ c.
     let v = c .before .before .before .before .before in
@@ -62,5 +77,5 @@ carry-out-spec =
     let r = put w in
     let m = measured r in
     let x = start m .args in
-    carried-out (now (x .page)) (x .core) (x .plan) (now (x .room)) (m .reply-length .ensures) (r .before .before .before .if1 .left)
+    carried-out (now (x .page)) (x .core) (x .plan) (now (x .room)) (width m) (m .reply-length .ensures) (r .before .before .before .if1 .left)
     (r .put-reply .ensures) (w .write .ensures) (v .write2 .ensures) (c .land .ensures)))

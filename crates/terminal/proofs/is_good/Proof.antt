@@ -1,9 +1,5 @@
 -- `terminal::is_good` meets its contract.
-use mathlib.Core.Path.{ap, _∙_}
-use denote.Ref.{now}
-use lib.ListN.{length}
-use lib.Dec.{eqb}
-use Rattle.rules.specs.Cell.{both}
+use mathlib.Core.Path.{_∙_}
 use Rattle.rules.specs.Possible.{good}
 use borrow.Author.Needs.{needs}
 use Rattle.terminal.proofs.is_good.Statement.{statement}
@@ -14,9 +10,13 @@ unfolding good
 is-good-spec =
     tie.close
     (tie.spec
+    -- cells-requires
+    (λ c κs. search needs)
+    -- cast-and
+    (λ c. search needs)
     -- possible-requires
     (λ c κs. search needs)
     -- and-requires
     (λ c κs. search needs)
     -- returns
-    (λ c. c .and .ensures ∙ ap (both (eqb (length (now (c .before .before .before .args .page))) 1920)) (c .before .possible .ensures)))
+    (λ c. c .and .ensures ∙ rw (c .before .possible .ensures, c .before .before .cells .ensures)))

@@ -1,6 +1,4 @@
 -- `carry::replies::put_reply` meets its contract. In each arm the reply is the one that the match told.
-use mathlib.Core.Path.{refl}
-use mathlib.Core.Logic.{inl}
 use native.Mathlib.Omega.{arith}
 use borrow.Author.Needs.{needs}
 use denote.Ref.{now}
@@ -57,7 +55,7 @@ put-reply-spec =
     (λ c κs.
     let told = c .before .before .x4 .given .1 in
     let pre = c .before .before .before .before .before .before .pre in
-    (inl refl, (omega arith, (omega (arith, rw told at (pre .1 .0)), (pre .0, rw told at (pre .1 .1))))))
+    (pre .1 .0 .1, (omega arith, (omega (arith, rw told at (pre .1 .0 .0)), (pre .0, rw told at (pre .1 .1))))))
     -- enum-known-x-5
     (λ c. search needs)
     -- leaves-out-requires
@@ -71,15 +69,15 @@ put-reply-spec =
     let told = c .before .before .before .x5 .given .1 in
     let s = c .before .before .before .before .before .before .before in
     let x = s .args in
-    let good = rw told at (s .pre .1 .0) in
-    let fits = text-fits (x .on) (now (x .page)) told (c .leaves-out .ensures) (now (x .room)) (s .pre .1 .1) in
-    (inl refl, (good .0, (omega (arith, good), (s .pre .0, omega (arith, fits))))))
+    let good = rw told at (s .pre .1 .0 .0) in
+    let fits = text-fits (x .width) (x .on) (now (x .page)) told (c .leaves-out .ensures) (now (x .room)) (s .pre .1 .1) in
+    (s .pre .1 .0 .1, (good .0, (omega (arith, good), (s .pre .0, omega (arith, fits))))))
     -- slice-write-room
     (λ c.
     let l = c .before .before .before in
     let s = l .before .before .before .before .before .before .before in
     let x = s .args in
-    let fits = text-fits (x .on) (now (x .page)) (l .before .before .before .x5 .given .1) (l .leaves-out .ensures) (now (x .room)) (s .pre .1 .1) in
+    let fits = text-fits (x .width) (x .on) (now (x .page)) (l .before .before .before .x5 .given .1) (l .leaves-out .ensures) (now (x .room)) (s .pre .1 .1) in
     omega (arith, fits, c .before .before .put-text2 .ensures .0, c .before .before .put-text2 .kept))
     -- returns
     (λ c. rw (c .enum-told .given .1))
@@ -110,7 +108,7 @@ put-reply-spec =
     let s = c .before .before .before .before .before .before .before .before .before in
     let x = s .args in
     let told = c .before .before .before .before .before .x4 .given .1 in
-    cell-put (x .on) (now (x .page)) told (now (x .room)) (s .pre .1 .1) (c .before .before .put-text .ensures .1))
+    cell-put (x .width) (x .on) (now (x .page)) told (now (x .room)) (s .pre .1 .1) (c .before .before .put-text .ensures .1))
     -- same-length-7
     (λ c. search needs)
     -- returns-8
@@ -118,5 +116,5 @@ put-reply-spec =
     let l = c .before .before .before in
     let s = l .before .before .before .before .before .before .before in
     let x = s .args in
-    text-put (x .on) (now (x .page)) (l .before .before .before .x5 .given .1) (l .leaves-out .ensures) (now (x .room)) (s .pre .1 .1)
+    text-put (x .width) (x .on) (now (x .page)) (l .before .before .before .x5 .given .1) (l .leaves-out .ensures) (now (x .room)) (s .pre .1 .1)
     (c .before .before .put-text2 .ensures .0) (c .before .before .put-text2 .ensures .1)))

@@ -1,10 +1,9 @@
 -- `carry::replies::reply_length` meets its contract. In each arm the reply is the one that the match told.
-use mathlib.Core.Path.{refl}
-use mathlib.Core.Logic.{inl}
 use native.Mathlib.Omega.{arith}
 use borrow.Author.Needs.{needs}
 use denote.Ref.{now}
 use Rattle.rules.specs.Carry.{replied}
+use Rattle.rules.proofs.Rows.{page-small}
 use Rattle.rules.proofs.Bound.{part-bound}
 use Rattle.carry.proofs.Bytes.{text-counted}
 use Rattle.carry.proofs.replies.reply_length.Statement.{statement}
@@ -38,7 +37,7 @@ reply-length-spec =
     -- text-length-requires
     (λ c κs.
     let s = c .before .before .before .before in
-    (inl refl, (omega arith, (omega (arith, rw (c .before .x .given .1) at (s .pre .1)), s .pre .0))))
+    (s .pre .1 .1, (omega arith, (omega (arith, rw (c .before .x .given .1) at (s .pre .1 .0)), s .pre .0))))
     -- enum-known-x-2
     (λ c. search needs)
     -- leaves-out-requires
@@ -50,16 +49,16 @@ reply-length-spec =
     -- text-length-requires-2
     (λ c κs.
     let s = c .before .before .before .before .before in
-    let good = rw (c .before .before .x2 .given .1) at (s .pre .1) in
-    (inl refl, (good .0, (omega (arith, good), s .pre .0))))
+    let good = rw (c .before .before .x2 .given .1) at (s .pre .1 .0) in
+    (s .pre .1 .1, (good .0, (omega (arith, good), s .pre .0))))
     -- add-result
     (λ c.
     let s = c .before .before .before .before .before .before in
     let told = c .before .before .before .x2 in
-    let good = rw (told .given .1) at (s .pre .1) in
+    let good = rw (told .given .1) at (s .pre .1 .0) in
     let a = told .given .0 .1 .0 in
     let e = told .given .0 .1 .1 .0 in
-    omega (arith, c .text-length2 .ensures, part-bound (c .before .leaves-out .result) (now (s .args .page)) a e (good .0) (good .1)))
+    omega (arith, c .text-length2 .ensures, page-small (s .pre .1 .1), part-bound (s .pre .1 .1) (c .before .leaves-out .result) (now (s .args .page)) a e (good .0) (good .1)))
     -- returns
     (λ c. rw (c .enum-told .given .1))
     -- returns-2
@@ -78,4 +77,4 @@ reply-length-spec =
     (λ c.
     let x = c .before .before .before .before .before .before .args in
     let told = c .before .before .before .x2 .given .1 in
-    text-counted (x .on) (now (x .page)) told (c .before .leaves-out .ensures) (c .text-length2 .ensures)))
+    text-counted (x .width) (x .on) (now (x .page)) told (c .before .leaves-out .ensures) (c .text-length2 .ensures)))

@@ -1,6 +1,4 @@
 -- `carry::writes::write` meets its contract. In each arm the write is the one that the match told.
-use mathlib.Core.Path.{refl}
-use mathlib.Core.Logic.{inl}
 use native.Mathlib.Omega.{arith}
 use borrow.Author.Needs.{needs}
 use Rattle.rules.specs.Carry.{applied}
@@ -23,7 +21,7 @@ write-spec =
     -- fill-cells-requires
     (λ c κs.
     let s = c .before .before .before .before .before in
-    omega (arith, rw (c .before .before .w .given .1) at (s .pre .1)))
+    omega (arith, rw (c .before .before .w .given .1) at (s .pre .1 .0)))
     -- enum-known-w-2
     (λ c. search needs)
     -- cast-fill-cells-3
@@ -33,7 +31,7 @@ write-spec =
     -- fill-cells-requires-2
     (λ c κs.
     let s = c .before .before .before .before .before in
-    omega (arith, rw (c .before .before .w2 .given .1) at (s .pre .1)))
+    omega (arith, rw (c .before .before .w2 .given .1) at (s .pre .1 .0)))
     -- enum-known-w-3
     (λ c. search needs)
     -- cast-fill-column
@@ -45,8 +43,8 @@ write-spec =
     -- fill-column-requires
     (λ c κs.
     let s = c .before .before .before .before .before in
-    let good = rw (c .before .before .w3 .given .1) at (s .pre .1) in
-    (inl refl, (good .0, (good .1 .0, (good .1 .1, s .pre .0)))))
+    let good = rw (c .before .before .w3 .given .1) at (s .pre .1 .0) in
+    (s .pre .1 .1, (good .0, (good .1 .0, (good .1 .1, s .pre .0)))))
     -- enum-known-w-4
     (λ c. search needs)
     -- cast-shift-edit-run
@@ -54,7 +52,7 @@ write-spec =
     -- shift-edit-run-requires
     (λ c κs.
     let s = c .before .before .before .before .before in
-    (inl refl, (s .pre .0, rw (c .before .before .w4 .given .1) at (s .pre .1))))
+    (s .pre .1 .1, (s .pre .0, rw (c .before .before .w4 .given .1) at (s .pre .1 .0))))
     -- enum-known-w-5
     (λ c. search needs)
     -- cast-shift-rows
@@ -64,8 +62,8 @@ write-spec =
     -- shift-rows-requires
     (λ c κs.
     let s = c .before .before .before .before .before in
-    let good = rw (c .before .before .w5 .given .1) at (s .pre .1) in
-    (inl refl, (good .0, (good .1, s .pre .0))))
+    let good = rw (c .before .before .w5 .given .1) at (s .pre .1 .0) in
+    (s .pre .1 .1, (good .0, (good .1, s .pre .0))))
     -- returns
     (λ c. rw (c .enum-told .given .1))
     -- same-length

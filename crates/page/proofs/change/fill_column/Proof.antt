@@ -32,21 +32,21 @@ fill-column-spec =
     let x = c .before .before .before .before .args in
     let k = c .before .before .before .before .pre in
     let l = c .before .before .loop in
-    let i = cell-inside (k .0) {row = l .row} (omega arith) (k .1 .1 .1 .0) in
+    let i = cell-inside (k .0) {row = l .row} {bottom = 24} (omega arith) (k .1 .1 .1 .0) in
     omega (arith, page-small (k .0)))
     -- add-fill-cell
     (λ c.
     let x = c .before .before .before .before .args in
     let k = c .before .before .before .before .pre in
     let l = c .before .before .loop in
-    let i = cell-inside (k .0) {row = l .row} (omega arith) (k .1 .1 .1 .0) in
+    let i = cell-inside (k .0) {row = l .row} {bottom = 24} (omega arith) (k .1 .1 .1 .0) in
     omega (arith, page-small (k .0)))
     -- fill-cell-requires
     (λ c κs.
     let x = c .before .before .before .before .args in
     let k = c .before .before .before .before .pre in
     let l = c .before .before .loop in
-    let i = cell-inside (k .0) {row = l .row} (omega arith) (k .1 .1 .1 .0) in
+    let i = cell-inside (k .0) {row = l .row} {bottom = 24} (omega arith) (k .1 .1 .1 .0) in
     omega arith)
     -- add-row
     (λ c. search needs)

@@ -10,7 +10,7 @@ use Rattle.page.proofs.search.previous_tab.Tie as tie
 
 abbrev Inv-loop : tie.InvT-loop
 Inv-loop column tabs stop₀ stop =
-    (stop ≤ 80) × (lastIn 0 tabs 0 column ≡ lastIn 0 tabs 0 stop)
+    (stop ≤ 132) × (lastIn 0 tabs 0 column ≡ lastIn 0 tabs 0 stop)
 
 abbrev μ-loop : tie.MeasureT-loop
 μ-loop column tabs stop₀ stop = stop

@@ -9,11 +9,17 @@ pub row-end-spec : {M : Type 1} → statement M
 row-end-spec =
     tie.close
     (tie.spec
-    -- div-result
-    (λ c. search needs)
+    -- row-of-requires
+    (λ c κs. search needs)
     -- mul-result
-    (λ c. let x = c .args in omega (arith, row-is (c .pre .0) (x .at), row-inside (c .pre .0) (x .at) (c .pre .1), page-small (c .pre .0)))
+    (λ c.
+    let x = c .before .args in
+    let k = c .before .pre in
+    rw (c .row-of .ensures) (omega (arith, row-is (k .0) (x .at), row-inside (k .0) (x .at) (k .1), page-small (k .0))))
     -- add-result
-    (λ c. let x = c .args in omega (arith, row-is (c .pre .0) (x .at), row-inside (c .pre .0) (x .at) (c .pre .1), page-small (c .pre .0)))
+    (λ c.
+    let x = c .before .args in
+    let k = c .before .pre in
+    rw (c .row-of .ensures) (omega (arith, row-is (k .0) (x .at), row-inside (k .0) (x .at) (k .1), page-small (k .0))))
     -- returns
-    (λ c. row-is (c .pre .0) (c .args .at)))
+    (λ c. rw (c .row-of .ensures) (row-is (c .before .pre .0) (c .before .args .at))))

@@ -12,13 +12,13 @@ row-breaks-spec =
     (tie.spec
     -- sub-result
     (λ c. search needs)
-    -- div-result
-    (λ c. omega (arith, c .before .pre))
-    -- div-result-2
-    (λ c. omega (arith, c .before .pre))
+    -- row-of-requires
+    (λ c κs. c .before .pre .0)
+    -- row-of-requires-2
+    (λ c κs. c .before .before .pre .0)
     -- sub-result-2
-    (λ c. row-le (c .before .pre .0) (omega arith))
+    (λ c. rw (c .before .row-of .ensures, c .row-of2 .ensures) (row-le (c .before .before .before .pre .0) (omega arith)))
     -- returns
-    (λ c. search needs)
+    (λ c. rw (c .before .row-of .ensures, c .row-of2 .ensures))
     -- returns-2
     (λ c. let x = c .before .args in omega (arith, row-le (c .before .pre .0) {a = x .to - 1} {b = x .from} (omega arith))))

@@ -3,10 +3,11 @@ use mathlib.Core.Path.{_≡_, sym, _∙_}
 use mathlib.Core.Bool.{false}
 use mathlib.Core.Logic.{⊎-elim}
 use native.Mathlib.Omega.{arith}
-use borrow.Author.Needs.{needs}
 use Rattle.rules.specs.Cell.{both, among}
 use Rattle.rules.specs.Plan.{addressPlan}
+use Rattle.rules.proofs.Rows.{columns-width, width-range}
 use Rattle.rules.proofs.Tests.{among-parts}
+use borrow.Author.Needs.{needs}
 use Rattle.plan.proofs.moves.address_plan.Statement.{statement}
 use Rattle.plan.proofs.moves.address_plan.Tie as tie
 
@@ -26,30 +27,27 @@ address-plan-spec =
     -- among-requires
     (λ c κs. search needs)
     -- among-requires-2
-    (λ c κs. search needs)
+    (λ c κs. omega (arith, c .before .before .before .before .before .pre, width-range (columns-width (c .before .before .before .before .before .args .x .wide))))
     -- with-screen-requires
     (λ c κs. search needs)
     -- cell-at-requires
     (λ c κs.
-    let a = c .before .before .before .before in
-    let s = a .before .before .before .before in
-    let x = s .args in
-    let row = among-parts (x .base) _ (x .row) (sym (a .among .ensures) ∙ c .before .before .before .if1 .taken) in
+    let x = c .before .before .before .before .before .before .before .before .args in
+    let row = among-parts (x .base) _ (x .row) (sym (c .before .before .before .before .among .ensures) ∙ c .before .before .before .if1 .taken) in
     let column = among-parts (x .base) _ (x .column) (sym (c .before .before .among2 .ensures) ∙ c .before .if2 .taken) in
-    omega (arith, row, column, a .before .before .before .segment-top .ensures, a .before .before .segment-bottom .ensures, s .pre))
+    omega (arith, row, column, c .before .before .before .before .before .before .before .segment-top .ensures, c .before .before .before .before .before .before .segment-bottom .ensures, c .before .before .before .before .before .before .before .before .pre))
     -- settling-requires
     (λ c κs. search needs)
     -- returns
     (λ c.
-    let a = c .before .before .before .before .before .before in
     c .settling .ensures
     ∙ rw (
       c .before .before .with-screen .ensures,
-      a .before .idle .ensures,
+      c .before .before .before .before .before .before .before .idle .ensures,
       c .before .cell-at .ensures,
-      ← a .before .before .before .segment-top .ensures,
-      ← a .before .before .segment-bottom .ensures,
-      ← a .among .ensures,
+      ← c .before .before .before .before .before .before .before .before .before .segment-top .ensures,
+      ← c .before .before .before .before .before .before .before .before .segment-bottom .ensures,
+      ← c .before .before .before .before .before .before .among .ensures,
       c .before .before .before .before .before .if1 .taken,
       ← c .before .before .before .before .among2 .ensures,
       c .before .before .before .if2 .taken,
@@ -58,15 +56,7 @@ address-plan-spec =
     (λ c κs. search needs)
     -- returns-2
     (λ c.
-    let a = c .before .before in
-    let x = a .before .before .before .before .args in
-    let outside : both (a .among .result) (among (x .base) 80 (x .column)) ≡ false =
+    let x = c .before .before .before .before .before .before .args in
+    let outside : both (c .before .before .among .result) (among (x .base) (x .most) (x .column)) ≡ false =
     ⊎-elim (λ w. rw (w .0 .taken, ← w .1 .ensures, w .2 .left)) (λ w. rw (w .left)) (c .before .if1 .came) in
-    c .refusing .ensures
-    ∙ rw (
-      a .before .idle .ensures,
-      ← a .before .before .before .segment-top .ensures,
-      ← a .before .before .segment-bottom .ensures,
-      ← a .among .ensures,
-      outside,
-    )))
+    c .refusing .ensures ∙ rw (c .before .before .before .idle .ensures, ← c .before .before .before .before .before .segment-top .ensures, ← c .before .before .before .before .segment-bottom .ensures, ← c .before .before .among .ensures, outside)))

@@ -1,8 +1,8 @@
 -- `plan::moves::plan_move` meets its contract.
 use mathlib.Core.Path.{_∙_}
 use native.Mathlib.Omega.{arith}
-use borrow.Author.Needs.{needs}
 use Rattle.rules.specs.Plan.{movePlan}
+use borrow.Author.Needs.{needs}
 use Rattle.plan.proofs.moves.plan_move.Statement.{statement}
 use Rattle.plan.proofs.moves.plan_move.Tie as tie
 
@@ -29,8 +29,8 @@ plan-move-spec =
     (λ c κs. search needs)
     -- enum-told-3
     (λ c. search needs)
-    -- sub-settling
-    (λ c. search needs)
+    -- row-start-requires
+    (λ c κs. search needs)
     -- settling-requires-3
     (λ c κs. search needs)
     -- enum-told-4
@@ -52,13 +52,13 @@ plan-move-spec =
     -- enum-told-7
     (λ c. search needs)
     -- down-plan-requires
-    (λ c κs. search needs)
+    (λ c κs. (c .before .before .before .before .before .before .pre .1, omega (arith, c .before .before .before .before .before .before .pre .1, c .before .before .before .cursor-of .ensures)))
     -- enum-told-8
     (λ c. search needs)
-    -- sub-down-plan
-    (λ c. search needs)
-    -- down-plan-requires-2
+    -- row-start-requires-2
     (λ c κs. search needs)
+    -- down-plan-requires-2
+    (λ c κs. (c .before .before .before .before .before .before .before .pre .1, omega (arith, c .before .before .before .before .before .before .before .pre .1, c .row-start2 .ensures)))
     -- enum-told-9
     (λ c. search needs)
     -- tab-cell-requires
@@ -81,45 +81,33 @@ plan-move-spec =
     (λ c κs. omega (arith, c .before .before .before .before .before .before .before .pre .1))
     -- enum-known-m-2
     (λ c. search needs)
+    -- width-of-requires
+    (λ c κs. search needs)
     -- cast-address-plan-3
     (λ c. search needs)
     -- address-plan-requires-2
-    (λ c κs. omega (arith, c .before .before .before .before .before .before .before .pre .1))
+    (λ c κs. omega (arith, c .before .before .before .before .before .before .before .before .pre .1, c .width-of .ensures))
     -- returns
-    (λ c.
-    c .settling .ensures
-    ∙ rw (c .before .before .before .before .idle .ensures, c .before .back-cell .ensures, c .before .before .enum-told .given .1))
+    (λ c. c .settling .ensures ∙ rw (c .before .before .before .before .idle .ensures, c .before .back-cell .ensures, c .before .before .enum-told .given .1))
     -- returns-2
-    (λ c.
-    c .settling2 .ensures
-    ∙ rw (c .before .before .before .before .idle .ensures, c .before .next-cell .ensures, c .before .before .enum-told2 .given .1))
+    (λ c. c .settling2 .ensures ∙ rw (c .before .before .before .before .idle .ensures, c .before .next-cell .ensures, c .before .before .enum-told2 .given .1))
     -- returns-3
-    (λ c.
-    c .settling3 .ensures
-    ∙ rw (c .before .before .before .idle .ensures, c .before .before .before .before .cursor-of .ensures, c .before .enum-told3 .given .1))
+    (λ c. c .settling3 .ensures ∙ rw (c .before .before .before .before .idle .ensures, c .before .row-start .ensures, c .before .before .enum-told3 .given .1))
     -- returns-4
-    (λ c.
-    c .settling4 .ensures
-    ∙ rw (c .before .before .before .before .idle .ensures, c .before .segment-start .ensures, c .before .before .enum-told4 .given .1))
+    (λ c. c .settling4 .ensures ∙ rw (c .before .before .before .before .idle .ensures, c .before .segment-start .ensures, c .before .before .enum-told4 .given .1))
     -- returns-5
-    (λ c.
-    c .settling5 .ensures
-    ∙ rw (c .before .before .before .before .idle .ensures, c .before .up-cell .ensures, c .before .before .enum-told5 .given .1))
+    (λ c. c .settling5 .ensures ∙ rw (c .before .before .before .before .idle .ensures, c .before .up-cell .ensures, c .before .before .enum-told5 .given .1))
     -- returns-6
     (λ c. c .reverse-plan .ensures ∙ rw (c .before .enum-told6 .given .1))
     -- returns-7
     (λ c. c .down-plan .ensures ∙ rw (c .before .before .before .before .cursor-of .ensures, c .before .enum-told7 .given .1))
     -- returns-8
-    (λ c. c .down-plan2 .ensures ∙ rw (c .before .before .before .before .cursor-of .ensures, c .before .enum-told8 .given .1))
+    (λ c. c .down-plan2 .ensures ∙ rw (c .before .row-start2 .ensures, c .before .before .enum-told8 .given .1))
     -- returns-9
-    (λ c.
-    c .settling6 .ensures
-    ∙ rw (c .before .before .before .before .idle .ensures, c .before .tab-cell .ensures, c .before .before .enum-told9 .given .1))
+    (λ c. c .settling6 .ensures ∙ rw (c .before .before .before .before .idle .ensures, c .before .tab-cell .ensures, c .before .before .enum-told9 .given .1))
     -- returns-10
-    (λ c.
-    c .settling7 .ensures
-    ∙ rw (c .before .before .before .before .idle .ensures, c .before .back-tab-cell .ensures, c .before .before .enum-told10 .given .1))
+    (λ c. c .settling7 .ensures ∙ rw (c .before .before .before .before .idle .ensures, c .before .back-tab-cell .ensures, c .before .before .enum-told10 .given .1))
     -- returns-11
     (λ c. c .address-plan .ensures ∙ rw (c .before .before .m .given .1))
     -- returns-12
-    (λ c. c .address-plan2 .ensures ∙ rw (c .before .before .m2 .given .1)))
+    (λ c. c .address-plan2 .ensures ∙ rw (c .before .width-of .ensures, c .before .before .before .m2 .given .1)))

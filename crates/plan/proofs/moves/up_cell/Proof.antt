@@ -1,8 +1,8 @@
 -- `plan::moves::up_cell` meets its contract.
 use native.Mathlib.Omega.{arith}
-use borrow.Author.Needs.{needs}
 use Rattle.rules.specs.Plan.{upCell}
 use Rattle.plan.proofs.Ranges.{below-top}
+use borrow.Author.Needs.{needs}
 use Rattle.plan.proofs.moves.up_cell.Statement.{statement}
 use Rattle.plan.proofs.moves.up_cell.Tie as tie
 
@@ -11,19 +11,25 @@ unfolding upCell
 up-cell-spec =
     tie.close
     (tie.spec
-    -- cursor-of-requires
-    (λ c κs. search needs)
     -- at-top-requires
     (λ c κs. search needs)
     -- segment-end-requires
     (λ c κs. search needs)
+    -- width-of-requires
+    (λ c κs. search needs)
     -- sub-result
     (λ c. search needs)
+    -- cursor-column-requires
+    (λ c κs. search needs)
     -- add-result
     (λ c. search needs)
+    -- cursor-of-requires
+    (λ c κs. search needs)
+    -- width-of-requires-2
+    (λ c κs. search needs)
     -- sub-result-2
-    (λ c. omega (arith, below-top (c .before .before .before .args .x) (c .before .at-top .ensures) (c .if1 .left)))
+    (λ c. omega (arith, below-top (c .before .before .before .before .args .x) (c .before .before .before .at-top .ensures) (c .before .before .if1 .left)))
     -- returns
-    (λ c. rw (← c .before .before .at-top .ensures, c .before .if1 .taken, c .segment-end .ensures, c .before .before .before .cursor-of .ensures))
+    (λ c. rw (← c .before .before .before .before .at-top .ensures, c .before .before .before .if1 .taken, c .before .before .segment-end .ensures, c .before .width-of .ensures, c .cursor-column .ensures))
     -- returns-2
-    (λ c. rw (← c .before .at-top .ensures, c .if1 .left, c .before .before .cursor-of .ensures)))
+    (λ c. rw (← c .before .before .before .at-top .ensures, c .before .before .if1 .left, c .before .cursor-of .ensures, c .width-of2 .ensures)))

@@ -1,7 +1,7 @@
 -- `plan::sends::plan_excluded` meets its contract.
 use mathlib.Core.Path.{_∙_}
-use borrow.Author.Needs.{needs}
 use Rattle.rules.specs.Plan.{excludedPlan}
+use borrow.Author.Needs.{needs}
 use Rattle.plan.proofs.sends.plan_excluded.Statement.{statement}
 use Rattle.plan.proofs.sends.plan_excluded.Tie as tie
 
@@ -36,8 +36,8 @@ plan-excluded-spec =
     (λ c κs. search needs)
     -- enum-told-5
     (λ c. search needs)
-    -- sub-text
-    (λ c. search needs)
+    -- row-start-requires
+    (λ c κs. search needs)
     -- add-text
     (λ c. search needs)
     -- text-requires
@@ -55,31 +55,14 @@ plan-excluded-spec =
     -- replying-requires-2
     (λ c κs. search needs)
     -- returns
-    (λ c.
-    let m = c .before .before .before in
-    c .plain .ensures
-    ∙ rw (m .with-modes .ensures, m .before .with-protect .ensures, m .before .before .idle .ensures, c .before .enum-told .given .1))
+    (λ c. c .plain .ensures ∙ rw (c .before .before .before .with-modes .ensures, c .before .before .before .before .with-protect .ensures, c .before .before .before .before .before .idle .ensures, c .before .enum-told .given .1))
     -- returns-2
     (λ c. c .clear-all .ensures ∙ rw (c .before .before .before .before .before .idle .ensures, c .before .enum-told2 .given .1))
     -- returns-3
     (λ c. c .clear-all2 .ensures ∙ rw (c .before .before .before .before .before .idle .ensures, c .before .enum-told3 .given .1))
     -- returns-4
-    (λ c.
-    let m = c .before .before .before in
-    c .clear-all3 .ensures
-    ∙ rw (m .with-modes .ensures, m .before .with-protect .ensures, m .before .before .idle .ensures, c .before .enum-told4 .given .1))
+    (λ c. c .clear-all3 .ensures ∙ rw (c .before .before .before .with-modes .ensures, c .before .before .before .before .with-protect .ensures, c .before .before .before .before .before .idle .ensures, c .before .enum-told4 .given .1))
     -- returns-5
-    (λ c.
-    let n = c .before .before .before .before .before .before in
-    c .replying .ensures ∙ rw (n .idle .ensures, c .before .text .ensures, n .before .cursor-of .ensures, c .before .before .enum-told5 .given .1))
+    (λ c. c .replying .ensures ∙ rw (c .before .before .before .before .before .before .before .idle .ensures, c .before .text .ensures, c .before .before .row-start .ensures, c .before .before .before .before .before .before .before .before .cursor-of .ensures, c .before .before .before .enum-told5 .given .1))
     -- returns-6
-    (λ c.
-    let n = c .before .before .before .before .before .before .before in
-    c .replying2 .ensures
-    ∙ rw (
-      n .idle .ensures,
-      c .before .text2 .ensures,
-      n .before .cursor-of .ensures,
-      c .before .before .segment-start .ensures,
-      c .before .before .before .enum-told6 .given .1,
-    )))
+    (λ c. c .replying2 .ensures ∙ rw (c .before .before .before .before .before .before .before .idle .ensures, c .before .text2 .ensures, c .before .before .before .before .before .before .before .before .cursor-of .ensures, c .before .before .segment-start .ensures, c .before .before .before .enum-told6 .given .1)))

@@ -1,7 +1,7 @@
 -- `plan::sends::plan_setting` meets its contract.
 use mathlib.Core.Path.{_∙_}
-use borrow.Author.Needs.{needs}
 use Rattle.rules.specs.Plan.{settingPlan}
+use borrow.Author.Needs.{needs}
 use Rattle.plan.proofs.sends.plan_setting.Statement.{statement}
 use Rattle.plan.proofs.sends.plan_setting.Tie as tie
 
@@ -10,12 +10,12 @@ unfolding settingPlan
 plan-setting-spec =
     tie.close
     (tie.spec
-    -- cursor-of-requires
-    (λ c κs. search needs)
     -- idle-requires
     (λ c κs. search needs)
     -- enum-known-s
     (λ c. search needs)
+    -- cursor-column-requires
+    (λ c κs. search needs)
     -- changing-requires
     (λ c κs. search needs)
     -- enum-told
@@ -33,18 +33,10 @@ plan-setting-spec =
     -- changing-requires-4
     (λ c κs. search needs)
     -- returns
-    (λ c.
-    c .changing .ensures
-    ∙ rw (
-      c .before .before .before .before .idle .ensures,
-      c .before .before .before .before .before .cursor-of .ensures,
-      c .before .before .s .given .1,
-    ))
+    (λ c. c .changing .ensures ∙ rw (c .before .before .before .before .before .idle .ensures, c .before .cursor-column .ensures, c .before .before .before .s .given .1))
     -- returns-2
     (λ c. c .changing2 .ensures ∙ rw (c .before .before .before .idle .ensures, c .before .enum-told .given .1))
     -- returns-3
     (λ c. c .changing3 .ensures ∙ rw (c .before .before .before .before .idle .ensures, c .before .before .s2 .given .1))
     -- returns-4
-    (λ c.
-    c .changing4 .ensures
-    ∙ rw (c .before .before .before .before .before .idle .ensures, c .before .feature-place .ensures, c .before .before .before .s3 .given .1)))
+    (λ c. c .changing4 .ensures ∙ rw (c .before .before .before .before .before .idle .ensures, c .before .feature-place .ensures, c .before .before .before .s3 .given .1)))

@@ -1,8 +1,8 @@
 -- `plan::writes::advancing` meets its contract.
 use mathlib.Core.Path.{_∙_}
-use borrow.Author.Needs.{needs}
 use borrow.Author.Tests.{lt-ltb, le-ltb}
 use Rattle.rules.specs.Plan.{advancing}
+use borrow.Author.Needs.{needs}
 use Rattle.plan.proofs.writes.advancing.Statement.{statement}
 use Rattle.plan.proofs.writes.advancing.Tie as tie
 
@@ -24,30 +24,29 @@ advancing-spec =
     -- writing-requires
     (λ c κs. search needs)
     -- returns
-    (λ c.
-    let n = c .before .before in
-    c .writing .ensures
-    ∙ rw (n .idle .ensures, ← n .before .before .cursor-of .ensures, ← n .before .segment-end .ensures, lt-ltb _ _ (c .before .if1 .taken)))
+    (λ c. c .writing .ensures ∙ rw (c .before .before .idle .ensures, ← c .before .before .before .before .cursor-of .ensures, ← c .before .before .before .segment-end .ensures, lt-ltb _ _ (c .before .if1 .taken)))
     -- scrolls-requires
     (λ c κs. search needs)
     -- scroll-requires
     (λ c κs. search needs)
-    -- sub-t14
+    -- width-of-requires
+    (λ c κs. search needs)
+    -- sub-t15
     (λ c. search needs)
     -- writing-two-requires
     (λ c κs. search needs)
     -- returns-2
     (λ c.
-    let n = c .before .before .before .before .before in
     c .writing-two .ensures
     ∙ rw (
-      n .idle .ensures,
-      c .before .scroll .ensures,
-      ← n .before .before .cursor-of .ensures,
-      ← n .before .segment-end .ensures,
-      le-ltb _ _ (c .before .before .before .before .if1 .left),
-      ← c .before .before .before .scrolls .ensures,
-      c .before .before .if2 .taken,
+      c .before .before .before .before .before .before .idle .ensures,
+      c .before .before .scroll .ensures,
+      ← c .before .before .before .before .before .before .before .before .cursor-of .ensures,
+      ← c .before .before .before .before .before .before .before .segment-end .ensures,
+      le-ltb _ _ (c .before .before .before .before .before .if1 .left),
+      ← c .before .before .before .before .scrolls .ensures,
+      c .before .before .before .if2 .taken,
+      c .before .width-of .ensures,
     ))
     -- segment-start-requires
     (λ c κs. search needs)
@@ -55,13 +54,12 @@ advancing-spec =
     (λ c κs. search needs)
     -- returns-3
     (λ c.
-    let n = c .before .before .before .before .before in
     c .writing2 .ensures
     ∙ rw (
-      n .idle .ensures,
+      c .before .before .before .before .before .idle .ensures,
       c .before .segment-start .ensures,
-      ← n .before .before .cursor-of .ensures,
-      ← n .before .segment-end .ensures,
+      ← c .before .before .before .before .before .before .before .cursor-of .ensures,
+      ← c .before .before .before .before .before .before .segment-end .ensures,
       le-ltb _ _ (c .before .before .before .before .if1 .left),
       ← c .before .before .before .scrolls .ensures,
       c .before .before .if2 .left,

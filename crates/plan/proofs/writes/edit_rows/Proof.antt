@@ -1,7 +1,7 @@
 -- `plan::writes::edit_rows` meets its contract.
 use mathlib.Core.Path.{_∙_}
-use borrow.Author.Needs.{needs}
 use Rattle.rules.specs.Plan.{rowEditPlan}
+use borrow.Author.Needs.{needs}
 use Rattle.plan.proofs.writes.edit_rows.Statement.{statement}
 use Rattle.plan.proofs.writes.edit_rows.Tie as tie
 
@@ -10,26 +10,19 @@ unfolding rowEditPlan
 edit-rows-spec =
     tie.close
     (tie.spec
-    -- cursor-of-requires
-    (λ c κs. search needs)
     -- idle-requires
     (λ c κs. search needs)
     -- refusing-requires
     (λ c κs. search needs)
     -- returns
     (λ c. c .refusing .ensures ∙ rw (c .before .before .idle .ensures, c .before .if1 .taken))
+    -- cursor-row-requires
+    (λ c κs. search needs)
     -- segment-bottom-requires
     (λ c κs. search needs)
-    -- sub-t10
-    (λ c. search needs)
+    -- row-start-requires
+    (λ c κs. search needs)
     -- writing-requires
     (λ c κs. search needs)
     -- returns-2
-    (λ c.
-    c .writing .ensures
-    ∙ rw (
-      c .before .before .before .idle .ensures,
-      c .before .before .before .before .cursor-of .ensures,
-      c .before .segment-bottom .ensures,
-      c .before .before .if1 .left,
-    )))
+    (λ c. c .writing .ensures ∙ rw (c .before .before .before .before .before .idle .ensures, c .before .before .before .cursor-row .ensures, c .before .row-start .ensures, c .before .before .segment-bottom .ensures, c .before .before .before .before .if1 .left)))

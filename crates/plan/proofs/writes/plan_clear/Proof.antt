@@ -1,15 +1,13 @@
 -- `plan::writes::plan_clear` meets its contract.
-use mathlib.Core.Path.{refl, _∙_}
-use mathlib.Core.Logic.{inl}
+use mathlib.Core.Path.{_∙_}
 use native.Mathlib.Omega.{arith}
-use borrow.Author.Needs.{needs}
 use Rattle.rules.specs.Plan.{clearPlan}
-use Rattle.rules.specs.Row.{rowEnd}
+use borrow.Author.Needs.{needs}
 use Rattle.plan.proofs.writes.plan_clear.Statement.{statement}
 use Rattle.plan.proofs.writes.plan_clear.Tie as tie
 
 pub plan-clear-spec : {M : Type 1} → statement M
-unfolding clearPlan rowEnd
+unfolding clearPlan
 plan-clear-spec =
     tie.close
     (tie.spec
@@ -19,12 +17,12 @@ plan-clear-spec =
     (λ c κs. search needs)
     -- segment-end-requires
     (λ c κs. search needs)
-    -- cast-row-end
-    (λ c. search needs)
-    -- row-end-requires
-    (λ c κs. (inl refl, omega (arith, c .before .before .cursor-of .ensures, c .before .before .before .before .pre)))
-    -- cast-row
-    (λ c. omega (arith, c .row-end .ensures, c .before .before .before .cursor-of .ensures, c .before .before .before .before .before .pre))
+    -- row-start-requires
+    (λ c κs. search needs)
+    -- width-of-requires
+    (λ c κs. search needs)
+    -- add-row
+    (λ c. omega (arith, c .before .row-start .ensures, c .width-of .ensures, c .before .before .before .before .before .before .pre))
     -- idle-requires
     (λ c κs. search needs)
     -- enum-known-x
@@ -51,49 +49,15 @@ plan-clear-spec =
     (λ c κs. search needs)
     -- segment-bottom-requires
     (λ c κs. search needs)
+    -- cursor-column-requires
+    (λ c κs. search needs)
     -- writing-requires-4
     (λ c κs. search needs)
     -- returns
-    (λ c.
-    let n = c .before .before .before .before .before in
-    c .writing .ensures
-    ∙ rw (
-      c .before .before .before .x .given .1,
-      n .idle .ensures,
-      c .before .fill .ensures,
-      ← n .before .before .before .before .cursor-of .ensures,
-      ← n .before .row-end .ensures,
-    ))
+    (λ c. c .writing .ensures ∙ rw (c .before .before .before .x .given .1, c .before .before .before .before .before .idle .ensures, c .before .fill .ensures, c .before .before .before .before .before .before .before .row-start .ensures, c .before .before .before .before .before .before .width-of .ensures, c .before .before .before .before .before .before .before .before .before .before .cursor-of .ensures, c .before .before .before .before .before .before .before .before .before .before .before .before .pre .placed .last))
     -- returns-2
-    (λ c.
-    let n = c .before .before .before .before .before in
-    c .writing2 .ensures
-    ∙ rw (
-      n .idle .ensures,
-      c .before .fill2 .ensures,
-      n .before .before .before .before .cursor-of .ensures,
-      n .before .before .segment-end .ensures,
-      c .before .before .before .x2 .given .1,
-    ))
+    (λ c. c .writing2 .ensures ∙ rw (c .before .before .before .before .before .idle .ensures, c .before .fill2 .ensures, c .before .before .before .before .before .before .before .before .before .before .cursor-of .ensures, c .before .before .before .before .before .before .before .before .segment-end .ensures, c .before .before .before .x2 .given .1))
     -- returns-3
-    (λ c.
-    let n = c .before .before .before .before .before in
-    c .writing3 .ensures
-    ∙ rw (
-      n .idle .ensures,
-      c .before .fill3 .ensures,
-      n .before .before .before .segment-start .ensures,
-      n .before .before .segment-end .ensures,
-      c .before .before .before .x3 .given .1,
-    ))
+    (λ c. c .writing3 .ensures ∙ rw (c .before .before .before .before .before .idle .ensures, c .before .fill3 .ensures, c .before .before .before .before .before .before .before .before .before .segment-start .ensures, c .before .before .before .before .before .before .before .before .segment-end .ensures, c .before .before .before .x3 .given .1))
     -- returns-4
-    (λ c.
-    let n = c .before .before .before .before .before in
-    c .writing4 .ensures
-    ∙ rw (
-      n .idle .ensures,
-      c .before .before .segment-top .ensures,
-      c .before .segment-bottom .ensures,
-      n .before .before .before .before .cursor-of .ensures,
-      c .before .before .before .enum-told .given .1,
-    )))
+    (λ c. c .writing4 .ensures ∙ rw (c .before .before .before .before .before .before .idle .ensures, c .before .before .before .segment-top .ensures, c .before .before .segment-bottom .ensures, c .before .cursor-column .ensures, c .before .before .before .before .before .before .before .before .before .before .before .cursor-of .ensures, c .before .before .before .before .enum-told .given .1)))

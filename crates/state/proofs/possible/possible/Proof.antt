@@ -10,6 +10,10 @@ unfolding possible
 possible-spec =
     tie.close
     (tie.spec
+    -- columns-requires
+    (λ c κs. search needs)
+    -- tabs-ok-requires
+    (λ c κs. search needs)
     -- bells-ok-requires
     (λ c κs. search needs)
     -- pending-ok-requires
@@ -24,24 +28,39 @@ possible-spec =
     (λ c κs. search needs)
     -- and-requires-3
     (λ c κs. search needs)
+    -- and-requires-4
+    (λ c κs. search needs)
     -- screen-ok-requires
     (λ c κs. search needs)
     -- keys-ok-requires
     (λ c κs. search needs)
-    -- and-requires-4
-    (λ c κs. search needs)
     -- and-requires-5
     (λ c κs. search needs)
+    -- and-requires-6
+    (λ c κs. search needs)
+    -- and-requires-7
+    (λ c κs. search needs)
     -- returns
-    (λ c. c .and5 .ensures ∙ rw (
-      c .before .and4 .ensures,
-      c .before .before .before .before .and3 .ensures,
-      c .before .before .before .before .before .and2 .ensures,
-      c .before .before .before .before .before .before .before .before .and .ensures,
-      c .before .before .before .screen-ok .ensures,
-      c .before .before .keys-ok .ensures,
-      c .before .before .before .before .before .before .before .attributes-ok .ensures,
-      c .before .before .before .before .before .before .features-ok .ensures,
-      c .before .before .before .before .before .before .before .before .before .before .bells-ok .ensures,
-      c .before .before .before .before .before .before .before .before .before .pending-ok .ensures,
+    (λ c.
+    let keys = c .before .before .before in
+    let lists = keys .before .before .before in
+    let features = lists .before .before .before in
+    let sequence = features .before .before in
+    let stops = sequence .before .before .before in
+    c .and7 .ensures
+    ∙ rw (
+      c .before .and6 .ensures,
+      c .before .before .and5 .ensures,
+      lists .and4 .ensures,
+      lists .before .and3 .ensures,
+      lists .before .before .and2 .ensures,
+      sequence .and .ensures,
+      keys .before .screen-ok .ensures,
+      keys .keys-ok .ensures,
+      features .before .attributes-ok .ensures,
+      features .features-ok .ensures,
+      stops .tabs-ok .ensures,
+      stops .before .columns .ensures,
+      sequence .before .before .bells-ok .ensures,
+      sequence .before .pending-ok .ensures,
     )))

@@ -14,8 +14,10 @@ split-ok-spec =
     (λ c. search needs)
     -- cast-at
     (λ c. search needs)
-    -- mul-at
-    (λ c. search needs)
+    -- cells-requires
+    (λ c κs. search needs)
+    -- cells-requires-2
+    (λ c κs. search needs)
     -- and-requires
     (λ c κs. search needs)
     -- and-requires-2
@@ -32,4 +34,6 @@ split-ok-spec =
       c .before .before .and3 .ensures,
       c .before .before .before .before .before .before .and2 .ensures,
       c .before .before .before .before .before .before .before .and .ensures,
+      c .before .before .before .before .before .before .before .before .before .before .before .cells2 .ensures,
+      c .before .before .before .before .before .before .before .before .before .before .before .before .cells .ensures,
     )))

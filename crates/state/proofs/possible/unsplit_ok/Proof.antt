@@ -10,9 +10,11 @@ unfolding unsplitOk
 unsplit-ok-spec =
     tie.close
     (tie.spec
+    -- cells-requires
+    (λ c κs. search needs)
     -- and-requires
     (λ c κs. search needs)
     -- and-requires-2
     (λ c κs. search needs)
     -- returns
-    (λ c. c .and2 .ensures ∙ rw (c .before .and .ensures)))
+    (λ c. c .and2 .ensures ∙ rw (c .before .and .ensures, c .before .before .before .before .before .cells .ensures)))

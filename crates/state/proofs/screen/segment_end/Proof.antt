@@ -1,4 +1,5 @@
 -- `state::screen::segment_end` meets its contract: the last row is at most the split row or 24, so the product fits.
+use mathlib.Core.Path.{_∙_}
 use native.Mathlib.Omega.{arith}
 use Rattle.state.proofs.Segments.{bottom-most}
 use borrow.Author.Needs.{needs}
@@ -11,7 +12,7 @@ segment-end-spec =
     (tie.spec
     -- segment-bottom-requires
     (λ c κs. search needs)
-    -- mul-result
-    (λ c. omega (arith, c .segment-bottom .ensures, bottom-most (c .before .args .x)))
+    -- cells-requires
+    (λ c κs. omega (arith, c .segment-bottom .ensures, bottom-most (c .before .args .x)))
     -- returns
-    (λ c. search needs))
+    (λ c. c .cells .ensures ∙ rw (c .before .segment-bottom .ensures)))

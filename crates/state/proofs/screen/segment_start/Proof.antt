@@ -1,4 +1,5 @@
 -- `state::screen::segment_start` meets its contract: the first row is at most the split row, so the product fits.
+use mathlib.Core.Path.{_∙_}
 use native.Mathlib.Omega.{arith}
 use Rattle.state.proofs.Segments.{top-most}
 use borrow.Author.Needs.{needs}
@@ -11,7 +12,7 @@ segment-start-spec =
     (tie.spec
     -- segment-top-requires
     (λ c κs. search needs)
-    -- mul-result
-    (λ c. omega (arith, c .segment-top .ensures, top-most (c .before .args .x)))
+    -- cells-requires
+    (λ c κs. omega (arith, c .segment-top .ensures, top-most (c .before .args .x)))
     -- returns
-    (λ c. search needs))
+    (λ c. c .cells .ensures ∙ rw (c .before .segment-top .ensures)))

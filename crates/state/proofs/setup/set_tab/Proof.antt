@@ -17,5 +17,5 @@ set-tab-spec =
     (λ c. search needs)
     -- returns-2
     (λ c.
-    let e : length (c .before .args .tabs) ≡ 80 = search needs in
+    let e : length (c .before .args .tabs) ≡ 132 = search needs in
     sym (set-out (c .before .args .tabs) (c .before .args .n) (c .before .args .b) (omega (arith, e, c .if1 .left)))))

@@ -7,9 +7,9 @@ use denote.Ref.{now}
 use lib.ListN.{length}
 use Rattle.rules.specs.State.{number}
 use Rattle.terminal.specs.Loop.{stateOf}
-use Rattle.terminal.proofs.Loop.{Running, begin, stop, go, finish, ready, page-size, room-size, back-size, more-replied}
+use Rattle.terminal.proofs.Loop.{Running, begin, stop, go, finish, ready, room-size, back-size, more-replied}
 use Rattle.terminal.proofs.Loop.{more-refused, nothing-made}
-use Rattle.terminal.proofs.TextRuns.{Resumed, resumed, text-range}
+use Rattle.terminal.proofs.TextRuns.{Resumed, resumed, text-fits}
 use borrow.Author.Needs.{needs}
 use Rattle.terminal.proofs.bytes.repeat.Statement.{statement}
 use Rattle.terminal.proofs.bytes.repeat.Tie as tie
@@ -61,7 +61,7 @@ repeat-spec =
     -- moved-requires
     (λ c κs.
     let t = c .before .before .before .before .before in
-    text-range (t .before .loop .inv) (t .loop-test .taken) (c .before .before .before .text .ensures) .below)
+    text-fits (t .before .loop .inv) (t .loop-test .taken) (c .before .before .before .text .ensures))
     -- shared-slice-read-inner
     (λ c. run (c .before .before .before .before .before) .left)
     -- sub-inner
@@ -79,7 +79,7 @@ repeat-spec =
     -- same-length
     (λ c.
     let i = called (c .before .before) in
-    i .inner .kept .0 ∙ page-size (run (moved i) .running) (start (moved i) .pre))
+    i .inner .kept .0 ∙ run (moved i) .running .long)
     -- same-length-2
     (λ c.
     let i = called (c .before .before) in
@@ -142,7 +142,7 @@ repeat-spec =
     -- finished-requires-2
     (λ c κs. search needs)
     -- same-length-3
-    (λ c. page-size (c .before .before .loop .inv) (c .before .before .before .before .before .before .pre))
+    (λ c. c .before .before .loop .inv .long)
     -- same-length-4
     (λ c. c .before .before .loop .inv .size)
     -- returns-2

@@ -16,7 +16,7 @@ obey-spec =
     let start = c .before .before .before .before .before .before in
     let x = start .args in
     let p = start .pre in
-    (p .0, plan-good (now (x .page)) (x .core) (now (x .tabs)) (x .d) (c .before .before .plan-for .ensures) (p .0) (p .1)))
+    plan-good (now (x .page)) (x .core) (now (x .tabs)) (x .d) (c .before .before .plan-for .ensures) (p .0) (p .1))
     -- same-length
     (λ c. search needs)
     -- same-length-2

@@ -12,10 +12,10 @@ use Rattle.terminal.proofs.text.runs.Statement.{statement}
 use Rattle.terminal.proofs.text.runs.Tie as tie
 
 abbrev Inv-loop : tie.InvT-loop
-Inv-loop page₀ on mark first home end input from at₀ i₀ page at i = Typed on mark home end input first from page₀ at i page
+Inv-loop page₀ on mark wide first home end input from at₀ i₀ page at i = Typed on mark wide home end input first from page₀ at i page
 
 abbrev μ-loop : tie.MeasureT-loop
-μ-loop page₀ on mark first home end input from at₀ i₀ page at i = length input - i
+μ-loop page₀ on mark wide first home end input from at₀ i₀ page at i = length input - i
 
 abbrev Start : Type 0
 Start = tie.Start Inv-loop μ-loop
@@ -33,14 +33,14 @@ head s = s .before .before .before
 abbrev Went : Start → ℕ → ℕ → List ℕ → Type 0
 Went x at i p =
     let a = x .args in
-    Typed (a .on) (a .mark) (a .home) (a .end) (now (a .input)) (a .first) (a .from) (now (a .page)) at i p
+    Typed (a .on) (a .mark) (a .wide) (a .home) (a .end) (now (a .input)) (a .first) (a .from) (now (a .page)) at i p
 
 ends : (x : Start) {at i : ℕ} {p : List ℕ} → Went x at i p → Range (now (x .args .input)) (x .args .from) (now (x .args .page)) at i p
 ends x t = typed-range t (x .pre .1 .1 .1 .1) (x .pre .1 .1 .1 .0) (x .pre .1 .0)
 
 -- after the text of a turn is stored
 went : (s : Stored) → Went (start (head s)) (s .store .result .at) (s .store .result .taken) (s .store .last .0)
-went s = typed-then (head s .loop .inv) (s .store .ensures (start (head s) .args .home))
+went s = typed-then (head s .loop .inv) (s .store .ensures (start (head s) .args .wide) (start (head s) .args .home))
 
 pub runs-spec : {M : Type 1} → statement M
 runs-spec =
@@ -57,13 +57,13 @@ runs-spec =
     let l = c .before .before in
     let r = ends (start l) (l .loop .inv) in
     let p = start l .pre in
-    (r .size ∙ p .0, (p .1 .0, (r .below, r .within))))
+    (omega (arith, r .size, p .0), (omega (arith, r .size, p .1 .0), (omega (arith, r .size, r .below), r .within))))
     -- address-requires
     (λ c κs.
     let s = c .before .before .before in
     let r = ends (start (head s)) (went s) in
     let p = start (head s) .pre in
-    (r .size ∙ p .0, (p .1 .0, (p .1 .1 .0, r .within))))
+    (omega (arith, r .size, p .0), (omega (arith, r .size, p .1 .0), (p .1 .1 .0, r .within))))
     -- same-length
     (λ c. let s = c .before .before .before .before .before in ends (start (head s)) (went s) .size)
     -- returns
@@ -77,7 +77,7 @@ runs-spec =
     let s = c .before .before .before .before .before in
     let x = start (head s) in
     let r = ends x (head s .loop .inv) in
-    let t = typed-range (s .store .ensures (x .args .home)) (r .within) (r .below) (x .pre .1 .0) in
+    let t = typed-range (s .store .ensures (x .args .wide) (x .args .home)) (r .within) (omega (arith, r .size, r .below)) (omega (arith, r .size, x .pre .1 .0)) in
     omega (arith, c .before .address .ensures (c .if1 .left) .0, t .from))
     -- loop-again
     (λ c.

@@ -1,6 +1,7 @@
 -- `terminal::text::store` meets its contract. The loop: the bytes from `from` up to i are stored in the cells from `first` up to `at`.
 use Prim.Native.Nat.{ℕ, _-_, _<_}
-use mathlib.Core.Path.{_≡_}
+use mathlib.Core.Path.{_≡_, refl}
+use mathlib.Core.Bool.{Bool}
 use native.Mathlib.Omega.{arith}
 use lib.ListN.{length}
 use borrow.Author.Tests.{not-false}
@@ -11,7 +12,7 @@ use Rattle.terminal.proofs.text.store.Tie as tie
 
 abbrev Inv-loop : tie.InvT-loop
 Inv-loop page₀ on mark first end input from at₀ i₀ page at i =
-    (length page ≡ 1920) × ((at < 1920) × ((i < length input) × ((home : ℕ) → Typed on mark home end input first from page₀ at i page)))
+    (length page ≡ length page₀) × ((at < length page₀) × ((i < length input) × ((wide : Bool) (home : ℕ) → Typed on mark wide home end input first from page₀ at i page)))
 
 abbrev μ-loop : tie.MeasureT-loop
 μ-loop page₀ on mark first end input from at₀ i₀ page at i = length input - i
@@ -23,7 +24,7 @@ store-spec =
     Inv-loop
     μ-loop
     -- loop-holds
-    (λ c. (c .before .before .pre .0, (c .before .before .pre .1 .1 .0, (c .before .before .pre .1 .1 .1, λ home. none))))
+    (λ c. (refl, (c .before .before .pre .1 .1 .0, (c .before .before .pre .1 .1 .1, λ wide home. none))))
     -- add-loop
     (λ c. search needs)
     -- shared-slice-read-b
@@ -50,7 +51,7 @@ store-spec =
     (λ c.
     let l = c .before .before .before .before .before .before .loop in
     let s = c .before .before .is-stored .ensures (not-false _ (c .before .if1 .left)) in
-    (search needs, (omega (arith, s .inside), (omega arith, λ home. stored (l .inv .1 .1 .1 home) (omega arith) s (c .written-cell .ensures)))))
+    (search needs, (omega (arith, s .inside), (omega arith, λ wide home. stored (l .inv .1 .1 .1 wide home) (omega arith) s (c .written-cell .ensures)))))
     -- same-length-2
     (λ c. search needs)
     -- returns-2

@@ -41,7 +41,7 @@ text-spec =
     let first = c .before .before .cursor-of .ensures in
     let home = c .before .segment-start .ensures in
     let end = c .segment-end .ensures in
-    (x .pre .0, (omega (arith, end, s .most), (omega (arith, home, s .rows, s .most), (omega (arith, first, s .below, s .most), x .pre .1 .1)))))
+    (omega (arith, x .pre .0, s .placed .most), (omega (arith, x .pre .0, end, s .placed .page), (omega (arith, home, s .placed), (omega (arith, x .pre .0, first, s .below, s .placed .page), x .pre .1 .1)))))
     -- still-requires-3
     (λ c κs. search needs)
     -- same-length
