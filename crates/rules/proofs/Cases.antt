@@ -1,4 +1,4 @@
--- The further cases hold: the rules are computed on the page of 1,920 cells.
+-- The worked cases hold: the rules are computed on the page of 1,920 cells.
 use mathlib.Core.Path.{refl}
 use Rattle.rules.specs.Row.{columns, rowEnd}
 use Rattle.rules.specs.Search.{marksBy, others, startsFrom, firstIn, lastIn, around, aroundBack}
@@ -9,12 +9,20 @@ use Rattle.rules.specs.Decode.{lookup, idleRule, escapeRule, judged, att
 use Rattle.rules.specs.Plan.{unlessGuarded, scrolls, nextCell, atTop, upCell, reversePlan, downPlan, tabCell, backTabCell, addressPlan, movePlan, activate, isSegment, windowPlan, storing, advancing, storePlan, rowEditPlan, editPlan, clearPlan, settingPlan, sendPlan, excludedPlan, planRule}
 use Rattle.rules.specs.Carry.{applied, separator, openCell, textFrom, replied, landed, done, carried}
 use Rattle.rules.specs.Step.{overfull, programmed, obeyed, innerRule, stepRule}
-use Rattle.rules.specs.Calls.{joined, repeated, runRule, keySends, pressRule, ofStep, ofRun, ofPress, callRule, after, play}
-use Rattle.rules.specs.Bench.{same, replies, answers, holds, allHold, casesHold, host}
-use Rattle.rules.specs.Cases.{esc, goTo, labelled, obeys, refuses, threeLetters, writingCases, movingCases, replyCases, CaseList}
+use Rattle.rules.specs.Calls.{powerOnRule, joined, repeated, runRule, keySends, pressRule, ofStep, ofRun, ofPress, callRule, after, play}
+use Rattle.rules.specs.Room.{over}
+use Rattle.rules.specs.Bench.{same, replies, answers, countsOf, restsOf, segmentsOf, modesOf, stopsFrom, holds, allHold, casesHold, host}
+use Rattle.rules.specs.Inputs.{esc, goTo, labelled, halves, lower, threeLetters, lettersBelow, pageOf, protectAt, belled, obeys, refuses, obeysFrom, refusesFrom}
+use Rattle.rules.specs.MovingCases.{movingCases}
+use Rattle.rules.specs.WritingCases.{writingCases}
+use Rattle.rules.specs.ReplyCases.{replyCases}
+use Rattle.rules.specs.CallCases.{callCases}
+use Rattle.rules.specs.ByteCases.{span, lastAnswer, triedHold, bytesHold, low, high, digitBytes, attributeBytes, escapeBytes, firstBytes, argumentBytes, addressBytes, decimalBytes}
+use Rattle.rules.specs.PossibleCases.{placed, keyed, attributed, featured, stopped, possibleStates, impossibleStates, allPossible, nonePossible}
+use Rattle.rules.specs.Cases.{CaseList}
 
 pub cases : CaseList
-unfolding same replies answers holds allHold casesHold host esc goTo labelled obeys refuses threeLetters writingCases movingCases replyCases
+unfolding same replies answers holds allHold casesHold host esc goTo labelled halves lower threeLetters lettersBelow pageOf protectAt belled obeys refuses obeysFrom refusesFrom countsOf restsOf segmentsOf modesOf stopsFrom movingCases writingCases replyCases callCases span lastAnswer triedHold bytesHold low high digitBytes attributeBytes escapeBytes firstBytes argumentBytes addressBytes decimalBytes placed keyed attributed featured stopped possibleStates impossibleStates allPossible nonePossible over powerOnRule
     columns rowEnd marksBy others startsFrom firstIn lastIn around aroundBack within filled shiftLeft shiftRight editShifted rowsShifted
     columnFilled segmentTop segmentBottom cursorOf withCursor withMode changed keyBytes powerOn blank unsplitOk splitOk screenOk allBelow
     keyOk keysOk isAttribute attributesOk featurePlace featuresOk isKey pendingOk noStops possible good lookup idleRule escapeRule judged
@@ -23,4 +31,19 @@ unfolding same replies answers holds allHold casesHold host esc goTo labelled ob
     windowPlan storing advancing storePlan rowEditPlan editPlan clearPlan settingPlan sendPlan excludedPlan planRule applied separator
     openCell textFrom replied landed done carried overfull programmed obeyed innerRule stepRule joined repeated runRule keySends pressRule
     ofStep ofRun ofPress callRule after play
-cases = refl
+cases = record {
+  moving = refl;
+  writing = refl;
+  replying = refl;
+  calling = refl;
+  first = refl;
+  argument = refl;
+  address = refl;
+  decimal = refl;
+  possible = refl;
+  impossible = refl;
+  power-on = refl;
+  short-page = refl;
+  long-page = refl;
+  room = refl;
+}

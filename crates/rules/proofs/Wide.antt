@@ -11,7 +11,7 @@ use Rattle.rules.specs.Carry.{applied, separator, openCell, textFrom, re
 use Rattle.rules.specs.Step.{overfull, programmed, obeyed, innerRule}
 use Rattle.rules.specs.Calls.{ofStep, after}
 use Rattle.rules.specs.Bench.{same, replies, answers, holds, allHold}
-use Rattle.rules.specs.Cases.{esc, goTo, labelled}
+use Rattle.rules.specs.Inputs.{esc, goTo, labelled}
 use Rattle.rules.specs.Wide.{typed, wideHold, wideTable, WideList}
 
 pub wide-cases : WideList

@@ -2,10 +2,13 @@
 use mathlib.Core.Path.{_≡_}
 use mathlib.Core.Bool.{Bool, true, false}
 use mathlib.Core.List.{List, [], _∷_, _++_, map}
-use Prim.Native.Nat.{ℕ}
+use Prim.Native.Nat.{ℕ, suc}
 use lib.Dec.{eqb}
 use lib.ListN.{getD, replicate}
-use Rattle.rules.specs.Cell.{both}
+use Rattle.rules.specs.declared.State.{State}
+use Rattle.rules.specs.declared.Screen.{Screen}
+use Rattle.rules.specs.declared.Modes.{Modes}
+use Rattle.rules.specs.Cell.{pick, both}
 use Rattle.rules.specs.State.{cursorOf}
 use Rattle.rules.specs.Possible.{powerOn, blank}
 use Rattle.rules.specs.Calls.{Call, Step, Press, Given, Played, play}
@@ -16,6 +19,18 @@ pub data Claim : Type 0 where
   Cursor : ℕ → Claim
   Replies : List ℕ → Claim
   Answers : List ℕ → Claim
+  -- the counts of each call joined; the input handed back, joined
+  Counts : List ℕ → Claim
+  Rests : List ℕ → Claim
+  -- the active segment, the split row, both cursors
+  Segments : ℕ → ℕ → ℕ → ℕ → Claim
+  -- 1 for each mode that is on: protect, write-protect, insert, autoscroll, locked, local edit
+  InModes : List ℕ → Claim
+  -- the columns of the tab stops, from 0
+  TabStops : List ℕ → Claim
+  FieldAttributes : List ℕ → Claim
+  Features : List ℕ → Claim
+  Bells : ℕ → Claim
 
 unfoldable pub same : List ℕ → List ℕ → Bool
 same [] [] = true
@@ -31,23 +46,55 @@ unfoldable pub answers : List Given → List ℕ
 answers [] = []
 answers (g ∷ gs) = g .answer ∷ answers gs
 
+unfoldable pub countsOf : List Given → List ℕ
+countsOf [] = []
+countsOf (g ∷ gs) = g .counts ++ countsOf gs
+
+unfoldable pub restsOf : List Given → List ℕ
+restsOf [] = []
+restsOf (g ∷ gs) = g .rest ++ restsOf gs
+
+unfoldable pub segmentsOf : Screen → List ℕ
+segmentsOf x = x .active ∷ x .split ∷ x .cursor0 ∷ x .cursor1 ∷ []
+
+abbrev pub bit : Bool → ℕ
+bit b = pick b 1 0
+
+unfoldable pub modesOf : Modes → List ℕ
+modesOf m = bit (m .protect) ∷ bit (m .mark) ∷ bit (m .insert) ∷ bit (m .autoscroll) ∷ bit (m .locked) ∷ bit (m .local) ∷ []
+
+-- the columns of tab stops, the first of them being column `at`
+unfoldable pub stopsFrom : ℕ → List Bool → List ℕ
+stopsFrom at [] = []
+stopsFrom at (b ∷ l) = pick b (at ∷ []) [] ++ stopsFrom (suc at) l
+
 unfoldable pub holds : Played → Claim → Bool
 holds r (Cell i v) = eqb (getD (r .page) i 0) v
 holds r (Cursor c) = eqb (cursorOf (r .state .core .screen)) c
 holds r (Replies l) = same (replies (r .given)) l
 holds r (Answers l) = same (answers (r .given)) l
+holds r (Counts l) = same (countsOf (r .given)) l
+holds r (Rests l) = same (restsOf (r .given)) l
+holds r (Segments a s c d) = same (segmentsOf (r .state .core .screen)) (a ∷ s ∷ c ∷ d ∷ [])
+holds r (InModes l) = same (modesOf (r .state .core .modes)) l
+holds r (TabStops l) = same (stopsFrom 0 (r .state .setup .tabs)) l
+holds r (FieldAttributes l) = same (r .state .setup .attributes) l
+holds r (Features l) = same (r .state .setup .features) l
+holds r (Bells n) = eqb (r .state .core .bells) n
 
 unfoldable pub allHold : Played → List Claim → Bool
 allHold r [] = true
 allHold r (c ∷ cs) = both (holds r c) (allHold r cs)
 
--- calls from power-on, and what is claimed of them
+-- calls from power-on, or from another page and state, and what is claimed of them
 pub data Case : Type 0 where
   from-power-on : List Call → List Claim → Case
+  from-page : List ℕ → State → List Call → List Claim → Case
 
 unfoldable pub casesHold : List Case → Bool
 casesHold [] = true
 casesHold (from-power-on calls claims ∷ cs) = both (allHold (play calls blank powerOn) claims) (casesHold cs)
+casesHold (from-page p s calls claims ∷ cs) = both (allHold (play calls p s) claims) (casesHold cs)
 
 -- host bytes, each with a room of 1,944
 unfoldable pub host : List ℕ → List Call

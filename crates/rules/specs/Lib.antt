@@ -17,5 +17,12 @@ pub mod Left
 pub mod Press
 pub mod Reach
 pub mod Bench
+pub mod Inputs
+pub mod MovingCases
+pub mod WritingCases
+pub mod ReplyCases
+pub mod CallCases
+pub mod ByteCases
+pub mod PossibleCases
 pub mod Cases
 pub mod Wide

@@ -12,7 +12,7 @@ use Rattle.rules.specs.Possible.{powerOn}
 use Rattle.rules.specs.Step.{outcomeOf, innerRule}
 use Rattle.rules.specs.Calls.{Played, ofStep, after}
 use Rattle.rules.specs.Bench.{Claim, Cell, Cursor, Replies, Answers, allHold}
-use Rattle.rules.specs.Cases.{esc, goTo, labelled}
+use Rattle.rules.specs.Inputs.{esc, goTo, labelled}
 
 -- the power-on state with a wide screen
 abbrev pub widePowerOn : State

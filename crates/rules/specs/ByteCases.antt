@@ -1,0 +1,113 @@
+-- Which bytes an argument may be, tried with every byte: one table.
+use mathlib.Core.Bool.{Bool, true}
+use mathlib.Core.List.{List, [], _∷_, _++_}
+use Prim.Native.Nat.{ℕ, zero, suc}
+use lib.Dec.{eqb}
+use Rattle.rules.specs.declared.State.{State}
+use Rattle.rules.specs.Cell.{pick, both}
+use Rattle.rules.specs.Possible.{powerOn, blank}
+use Rattle.rules.specs.Calls.{Given, Played, play}
+use Rattle.rules.specs.Noninterference.{anyOf}
+use Rattle.rules.specs.Bench.{host}
+use Rattle.rules.specs.Inputs.{esc, halves, lower}
+
+-- n numbers from `first` on
+unfoldable pub span : ℕ → ℕ → List ℕ
+span first zero = []
+span first (suc n) = first ∷ span (suc first) n
+
+unfoldable pub lastAnswer : ℕ → List Given → ℕ
+lastAnswer n [] = n
+lastAnswer n (g ∷ gs) = lastAnswer (g .answer) gs
+
+-- from power-on the bytes `before`, then each of `tried` with the bytes `behind`: the last answer is 0 for those in `taken`, n for all others
+pub data ByteCase : Type 0 where
+  takes : (before tried behind : List ℕ) (n : ℕ) (taken : List ℕ) → ByteCase
+
+unfoldable pub triedHold : List ℕ → List ℕ → ℕ → List ℕ → Played → Bool
+triedHold [] behind n taken r = true
+triedHold (b ∷ bs) behind n taken r =
+    both (eqb (lastAnswer 9 ((play (host (b ∷ behind)) (r .page) (r .state)) .given)) (pick (anyOf taken b) 0 n)) (triedHold bs behind n taken r)
+
+unfoldable pub bytesHold : List ByteCase → Bool
+bytesHold [] = true
+bytesHold (takes before tried behind n taken ∷ cs) = both (triedHold tried behind n taken (play (host before) blank powerOn)) (bytesHold cs)
+
+-- every byte below 80h, and every byte above
+unfoldable pub low : List ℕ
+low = span 0 128
+
+unfoldable pub high : List ℕ
+high = span 128 128
+
+unfoldable pub digitBytes : List ℕ
+digitBytes = span 0x30 10
+
+-- attr of ESC G: 20h, 30h to 3Fh or 70h to 7Eh
+unfoldable pub attributeBytes : List ℕ
+attributeBytes = 0x20 ∷ span 0x30 16 ++ span 0x70 15
+
+-- the 57 bytes that may follow ESC: SPACE ! " # & ' ( ) * + , - . / 0 1 2 4 5 6 7 : ; = ? A E G H I J K M N O Q R T V W Y ] ` a b i j k l q r t x
+-- y z { }
+unfoldable pub escapeBytes : List ℕ
+escapeBytes =
+    span 0x20 4 ++ span 0x26 13 ++ span 0x34 4 ++ 0x3a ∷ 0x3b ∷ 0x3d ∷ 0x3f ∷ 0x41 ∷ 0x45 ∷ [] ++ span 0x47 5 ++ span 0x4d 3
+    ++ 0x51 ∷ 0x52 ∷ 0x54 ∷ 0x56 ∷ 0x57 ∷ 0x59 ∷ 0x5d ∷ [] ++ span 0x60 3 ++ span 0x69 4
+    ++ 0x71 ∷ 0x72 ∷ 0x74 ∷ 0x78 ∷ 0x79 ∷ 0x7a ∷ 0x7b ∷ 0x7d ∷ []
+
+-- no sequence and after ESC: below 80h, and 1 for all above
+unfoldable pub firstBytes : List ByteCase
+firstBytes =
+    takes [] low [] 1 low
+    ∷ takes [] high [] 1 []
+    ∷ takes (0x1b ∷ []) high [] 1 []
+    -- after ESC, split (ESC } answers 3 unsplit)
+    ∷ takes (halves ++ 0x1b ∷ []) low [] 2 escapeBytes
+    ∷ []
+
+-- arguments of one byte
+unfoldable pub argumentBytes : List ByteCase
+argumentBytes =
+    -- ESC G, ESC H, ESC !, ESC .
+    takes (esc 0x47) low [] 3 attributeBytes
+    ∷ takes (esc 0x48) low [] 3 (span 0x30 16)
+    ∷ takes (esc 0x21) low [] 3 attributeBytes
+    ∷ takes (esc 0x2e) low [] 3 (0 ∷ span 0x20 95)
+    -- ESC ` f: all of 30h to 41h but 3Bh
+    ∷ takes (esc 0x60) low [] 3 (span 0x30 11 ++ span 0x3c 6)
+    -- ESC A n attr
+    ∷ takes (esc 0x41) low (0x30 ∷ []) 3 (span 0x30 4)
+    ∷ takes (esc 0x41 ++ 0x33 ∷ []) low [] 3 attributeBytes
+    -- ESC z value: no message or label fields
+    ∷ takes (esc 0x7a) low [] 3 (span 0x40 16 ++ span 0x60 16)
+    -- ESC x; ESC x 1 r: rows 2 to 24
+    ∷ takes (esc 0x78) low [] 3 (0x30 ∷ 0x31 ∷ [])
+    ∷ takes (esc 0x78 ++ 0x31 ∷ []) low [] 3 (span 0x21 23)
+    ∷ []
+
+-- addresses
+unfoldable pub addressBytes : List ByteCase
+addressBytes =
+    -- ESC = r c, unsplit and in each segment
+    takes (esc 0x3d) low (0x20 ∷ []) 3 (span 0x20 24)
+    ∷ takes (esc 0x3d ++ 0x20 ∷ []) low [] 3 (span 0x20 80)
+    ∷ takes (halves ++ esc 0x3d) low (0x20 ∷ []) 3 (span 0x20 12)
+    ∷ takes (lower ++ esc 0x3d) low (0x20 ∷ []) 3 (span 0x20 12)
+    -- ESC - n r c, split and unsplit
+    ∷ takes (halves ++ esc 0x2d) low (0x20 ∷ 0x20 ∷ []) 3 (0x30 ∷ 0x31 ∷ [])
+    ∷ takes (esc 0x2d) low (0x20 ∷ 0x20 ∷ []) 3 (0x30 ∷ [])
+    ∷ takes (halves ++ esc 0x2d ++ 0x31 ∷ []) low (0x20 ∷ []) 3 (span 0x20 12)
+    ∷ takes (halves ++ esc 0x2d ++ 0x31 ∷ 0x20 ∷ []) low [] 3 (span 0x20 80)
+    ∷ []
+
+-- the grammar of ESC a
+unfoldable pub decimalBytes : List ByteCase
+decimalBytes =
+    takes (esc 0x61) low [] 3 digitBytes
+    ∷ takes (esc 0x61 ++ 0x31 ∷ []) low [] 3 (0x52 ∷ digitBytes)
+    ∷ takes (esc 0x61 ++ 0x31 ∷ 0x32 ∷ []) low [] 3 (0x52 ∷ [])
+    ∷ takes (esc 0x61 ++ 0x31 ∷ 0x52 ∷ []) low [] 3 digitBytes
+    ∷ takes (esc 0x61 ++ 0x31 ∷ 0x52 ∷ 0x31 ∷ []) low [] 3 (0x43 ∷ digitBytes)
+    ∷ takes (esc 0x61 ++ 0x31 ∷ 0x52 ∷ 0x30 ∷ 0x31 ∷ []) low [] 3 (0x43 ∷ digitBytes)
+    ∷ takes (esc 0x61 ++ 0x31 ∷ 0x52 ∷ 0x30 ∷ 0x30 ∷ 0x31 ∷ []) low [] 3 (0x43 ∷ [])
+    ∷ []

@@ -1,0 +1,64 @@
+-- Inputs of worked cases by short names, and the forms of cases.
+use mathlib.Core.Bool.{true}
+use mathlib.Core.List.{List, [], _∷_, _++_}
+use Prim.Native.Nat.{ℕ, _+_, _-_}
+use lib.ListN.{length, take, replicate}
+use Rattle.rules.specs.declared.State.{State}
+use Rattle.rules.specs.State.{withCursor, withScreen, withModes, withProtect, withBells}
+use Rattle.rules.specs.Possible.{powerOn, blank}
+use Rattle.rules.specs.Bench.{Claim, Answers, Case, from-power-on, from-page, host}
+
+-- ESC and a byte; ESC = with a row and a column counted from 0
+unfoldable pub esc : ℕ → List ℕ
+esc b = 0x1b ∷ b ∷ []
+
+unfoldable pub goTo : ℕ → ℕ → List ℕ
+goTo row column = 0x1b ∷ 0x3d ∷ (0x20 + row) ∷ (0x20 + column) ∷ []
+
+-- a protected letter N at a row and a column counted from 0
+unfoldable pub labelled : ℕ → ℕ → List ℕ
+labelled row column = goTo row column ++ esc 0x29 ++ 0x4e ∷ [] ++ esc 0x28
+
+-- a split at row 13: segment 1 is the cells 960 to 1919; and segment 1 active
+unfoldable pub halves : List ℕ
+halves = esc 0x78 ++ 0x31 ∷ 0x2c ∷ []
+
+unfoldable pub lower : List ℕ
+lower = halves ++ esc 0x7d
+
+-- A B, C at the start of row 2, the cursor at the B
+unfoldable pub threeLetters : List ℕ
+threeLetters = 0x41 ∷ 0x42 ∷ 0x1f ∷ 0x43 ∷ [] ++ goTo 0 1
+
+-- X at home; then in segment 1 A at home and B at the start of the next row, the cursor behind it
+unfoldable pub lettersBelow : List ℕ
+lettersBelow = 0x58 ∷ [] ++ lower ++ 0x41 ∷ 0x1f ∷ 0x42 ∷ []
+
+-- a page of which the first cells are given and all others 0
+unfoldable pub pageOf : List ℕ → List ℕ
+pageOf l = take 1920 (l ++ blank)
+
+-- the power-on state, but with protect mode on and the cursor at a cell; or with some bells counted
+unfoldable pub protectAt : ℕ → State
+protectAt n = record {
+  core =
+      withScreen (withModes (powerOn .core) (withProtect (powerOn .core .modes) true)) (withCursor (powerOn .core .screen) n);
+  setup = powerOn .setup;
+}
+
+unfoldable pub belled : ℕ → State
+belled n = record { core = withBells (powerOn .core) n; setup = powerOn .setup }
+
+-- every byte answers 0; every byte but the last, which answers n
+unfoldable pub obeys : List ℕ → List Claim → Case
+obeys bytes claims = from-power-on (host bytes) (Answers (replicate (length bytes) 0) ∷ claims)
+
+unfoldable pub refuses : ℕ → List ℕ → List Claim → Case
+refuses n bytes claims = from-power-on (host bytes) (Answers (replicate (length bytes - 1) 0 ++ n ∷ []) ∷ claims)
+
+-- the same from a page of which the first cells are given
+unfoldable pub obeysFrom : List ℕ → State → List ℕ → List Claim → Case
+obeysFrom cells s bytes claims = from-page (pageOf cells) s (host bytes) (Answers (replicate (length bytes) 0) ∷ claims)
+
+unfoldable pub refusesFrom : ℕ → List ℕ → State → List ℕ → List Claim → Case
+refusesFrom n cells s bytes claims = from-page (pageOf cells) s (host bytes) (Answers (replicate (length bytes - 1) 0 ++ n ∷ []) ∷ claims)
