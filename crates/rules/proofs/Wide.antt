@@ -11,8 +11,8 @@ use Rattle.rules.specs.Carry.{applied, separator, openCell, textFrom, re
 use Rattle.rules.specs.Step.{overfull, programmed, obeyed, innerRule}
 use Rattle.rules.specs.Calls.{ofStep, after}
 use Rattle.rules.specs.Bench.{same, replies, answers, holds, allHold}
-use Rattle.rules.specs.Inputs.{esc, goTo, labelled}
-use Rattle.rules.specs.Wide.{typed, wideHold, wideTable, WideList}
+use Rattle.rules.specs.Inputs.{esc, goTo, labelled, typed}
+use Rattle.rules.specs.Wide.{wideHold, wideTable, WideList}
 
 pub wide-cases : WideList
 unfolding same replies answers holds allHold esc goTo labelled typed wideHold wideTable columns rowEnd marksBy others startsFrom firstIn lastIn around aroundBack

@@ -1,15 +1,15 @@
--- Which bytes an argument may be, tried with every byte: one table.
+-- Which bytes a sequence takes, tried with all bytes. The bytes are worked by the rule of a byte on a good page, over no cells: none of these
+-- answers depends on a cell.
 use mathlib.Core.Bool.{Bool, true}
 use mathlib.Core.List.{List, [], _∷_, _++_}
 use Prim.Native.Nat.{ℕ, zero, suc}
 use lib.Dec.{eqb}
 use Rattle.rules.specs.declared.State.{State}
 use Rattle.rules.specs.Cell.{pick, both}
-use Rattle.rules.specs.Possible.{powerOn, blank}
-use Rattle.rules.specs.Calls.{Given, Played, play}
+use Rattle.rules.specs.Possible.{powerOn}
+use Rattle.rules.specs.Calls.{Given}
 use Rattle.rules.specs.Noninterference.{anyOf}
-use Rattle.rules.specs.Bench.{host}
-use Rattle.rules.specs.Inputs.{esc, halves, lower}
+use Rattle.rules.specs.Inputs.{esc, halves, lower, typed}
 
 -- n numbers from `first` on
 unfoldable pub span : ℕ → ℕ → List ℕ
@@ -24,14 +24,14 @@ lastAnswer n (g ∷ gs) = lastAnswer (g .answer) gs
 pub data ByteCase : Type 0 where
   takes : (before tried behind : List ℕ) (n : ℕ) (taken : List ℕ) → ByteCase
 
-unfoldable pub triedHold : List ℕ → List ℕ → ℕ → List ℕ → Played → Bool
-triedHold [] behind n taken r = true
-triedHold (b ∷ bs) behind n taken r =
-    both (eqb (lastAnswer 9 ((play (host (b ∷ behind)) (r .page) (r .state)) .given)) (pick (anyOf taken b) 0 n)) (triedHold bs behind n taken r)
+unfoldable pub triedHold : List ℕ → List ℕ → ℕ → List ℕ → State → Bool
+triedHold [] behind n taken s = true
+triedHold (b ∷ bs) behind n taken s =
+    both (eqb (lastAnswer 9 ((typed (b ∷ behind) [] s) .given)) (pick (anyOf taken b) 0 n)) (triedHold bs behind n taken s)
 
 unfoldable pub bytesHold : List ByteCase → Bool
 bytesHold [] = true
-bytesHold (takes before tried behind n taken ∷ cs) = both (triedHold tried behind n taken (play (host before) blank powerOn)) (bytesHold cs)
+bytesHold (takes before tried behind n taken ∷ cs) = both (triedHold tried behind n taken ((typed before [] powerOn) .state)) (bytesHold cs)
 
 -- every byte below 80h, and every byte above
 unfoldable pub low : List ℕ

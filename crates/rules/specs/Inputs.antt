@@ -6,6 +6,8 @@ use lib.ListN.{length, take, replicate}
 use Rattle.rules.specs.declared.State.{State}
 use Rattle.rules.specs.State.{withCursor, withScreen, withModes, withProtect, withBells}
 use Rattle.rules.specs.Possible.{powerOn, blank}
+use Rattle.rules.specs.Step.{outcomeOf, innerRule}
+use Rattle.rules.specs.Calls.{Played, ofStep, after}
 use Rattle.rules.specs.Bench.{Claim, Answers, Case, from-power-on, from-page, host}
 
 -- ESC and a byte; ESC = with a row and a column counted from 0
@@ -48,6 +50,13 @@ protectAt n = record {
 
 unfoldable pub belled : ℕ → State
 belled n = record { core = withBells (powerOn .core) n; setup = powerOn .setup }
+
+-- bytes worked by the rule of a byte on a good page, each with a room of 3,192
+unfoldable pub typed : List ℕ → List ℕ → State → Played
+typed [] p s = record { given = []; state = s; page = p }
+typed (b ∷ bytes) p s =
+    let o = ofStep (outcomeOf s (innerRule p (s .core) (s .setup) b 3192)) in
+    after (o .given) (typed bytes (o .page) (o .given .state))
 
 -- every byte answers 0; every byte but the last, which answers n
 unfoldable pub obeys : List ℕ → List Claim → Case

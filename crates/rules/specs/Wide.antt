@@ -9,10 +9,8 @@ use Rattle.rules.specs.declared.State.{State}
 use Rattle.rules.specs.Cell.{both}
 use Rattle.rules.specs.Row.{wideCells}
 use Rattle.rules.specs.Possible.{powerOn}
-use Rattle.rules.specs.Step.{outcomeOf, innerRule}
-use Rattle.rules.specs.Calls.{Played, ofStep, after}
 use Rattle.rules.specs.Bench.{Claim, Cell, Cursor, Replies, Answers, allHold}
-use Rattle.rules.specs.Inputs.{esc, goTo, labelled}
+use Rattle.rules.specs.Inputs.{esc, goTo, labelled, typed}
 
 -- the power-on state with a wide screen
 abbrev pub widePowerOn : State
@@ -26,13 +24,6 @@ widePowerOn = record {
   };
   setup = powerOn .setup;
 }
-
--- host bytes, each with a room of 3,192
-unfoldable pub typed : List ℕ → List ℕ → State → Played
-typed [] p s = record { given = []; state = s; page = p }
-typed (b ∷ bytes) p s =
-    let o = ofStep (outcomeOf s (innerRule p (s .core) (s .setup) b 3192)) in
-    after (o .given) (typed bytes (o .page) (o .given .state))
 
 pub data WideCase : Type 0 where
   wide : List ℕ → List Claim → WideCase
