@@ -1,5 +1,5 @@
 -- Inputs of worked cases by short names, and the forms of cases.
-use mathlib.Core.Bool.{true}
+use mathlib.Core.Bool.{true, false}
 use mathlib.Core.List.{List, [], _∷_, _++_}
 use Prim.Native.Nat.{ℕ, _+_, _-_}
 use lib.ListN.{length, take, replicate}
@@ -28,26 +28,43 @@ halves = esc 0x78 ++ 0x31 ∷ 0x2c ∷ []
 unfoldable pub lower : List ℕ
 lower = halves ++ esc 0x7d
 
--- A B, C at the start of row 2, the cursor at the B
+-- cells: A B, and C at the start of row 2
 unfoldable pub threeLetters : List ℕ
-threeLetters = 0x41 ∷ 0x42 ∷ 0x1f ∷ 0x43 ∷ [] ++ goTo 0 1
+threeLetters = 0x41 ∷ 0x42 ∷ replicate 78 0 ++ 0x43 ∷ []
 
--- X at home; then in segment 1 A at home and B at the start of the next row, the cursor behind it
+-- cells: X at home, and at the starts of rows 13 and 14 A and B
 unfoldable pub lettersBelow : List ℕ
-lettersBelow = 0x58 ∷ [] ++ lower ++ 0x41 ∷ 0x1f ∷ 0x42 ∷ []
+lettersBelow = 0x58 ∷ replicate 959 0 ++ 0x41 ∷ replicate 79 0 ++ 0x42 ∷ []
 
 -- a page of which the first cells are given and all others 0
 unfoldable pub pageOf : List ℕ → List ℕ
 pageOf l = take 1920 (l ++ blank)
 
--- the power-on state, but with protect mode on and the cursor at a cell; or with some bells counted
+-- the power-on state, but with the cursor at a cell
+unfoldable pub cursorAt : ℕ → State
+cursorAt n = record { core = withScreen (powerOn .core) (withCursor (powerOn .core .screen) n); setup = powerOn .setup }
+
+-- and with protect mode on
 unfoldable pub protectAt : ℕ → State
 protectAt n = record {
-  core =
-      withScreen (withModes (powerOn .core) (withProtect (powerOn .core .modes) true)) (withCursor (powerOn .core .screen) n);
+  core = withModes (cursorAt n .core) (withProtect (powerOn .core .modes) true);
   setup = powerOn .setup;
 }
 
+-- and, of a page split at row 13, in segment 0 or in segment 1, the other cursor home
+unfoldable pub upperAt : ℕ → State
+upperAt n = record {
+  core = withScreen (powerOn .core) record { wide = false; active = 0; split = 13; cursor0 = n; cursor1 = 960 };
+  setup = powerOn .setup;
+}
+
+unfoldable pub lowerAt : ℕ → State
+lowerAt n = record {
+  core = withScreen (powerOn .core) record { wide = false; active = 1; split = 13; cursor0 = 0; cursor1 = n };
+  setup = powerOn .setup;
+}
+
+-- the power-on state with some bells counted
 unfoldable pub belled : ℕ → State
 belled n = record { core = withBells (powerOn .core) n; setup = powerOn .setup }
 

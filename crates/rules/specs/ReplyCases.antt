@@ -4,7 +4,7 @@ use lib.ListN.{replicate}
 use Rattle.rules.specs.Possible.{powerOn}
 use Rattle.rules.specs.Calls.{Step, Press}
 use Rattle.rules.specs.Bench.{Cell, Cursor, Replies, Answers, Segments, InModes, TabStops, FieldAttributes, Features, Bells, Case, from-power-on, from-page}
-use Rattle.rules.specs.Inputs.{esc, goTo, labelled, lower, lettersBelow, pageOf, protectAt, belled, obeys, obeysFrom, refusesFrom}
+use Rattle.rules.specs.Inputs.{esc, goTo, labelled, lettersBelow, pageOf, cursorAt, protectAt, lowerAt, belled, obeys, obeysFrom, refusesFrom}
 
 unfoldable pub replyCases : List Case
 replyCases =
@@ -16,7 +16,7 @@ replyCases =
     ∷ from-power-on (Step 0x3f 1944 ∷ []) (Cell 0 0x3f ∷ [])
     -- the modes, on and off: protect, write-protect, insert, autoscroll, lock, local edit
     ∷ obeys (esc 0x26) (InModes (1 ∷ 0 ∷ 0 ∷ 1 ∷ 0 ∷ 0 ∷ []) ∷ [])
-    ∷ obeys (esc 0x26 ++ esc 0x27) (InModes (0 ∷ 0 ∷ 0 ∷ 1 ∷ 0 ∷ 0 ∷ []) ∷ [])
+    ∷ obeysFrom [] (protectAt 0) (esc 0x27) (InModes (0 ∷ 0 ∷ 0 ∷ 1 ∷ 0 ∷ 0 ∷ []) ∷ [])
     ∷ obeys (esc 0x29) (InModes (0 ∷ 1 ∷ 0 ∷ 1 ∷ 0 ∷ 0 ∷ []) ∷ [])
     ∷ obeys (esc 0x29 ++ esc 0x28) (InModes (0 ∷ 0 ∷ 0 ∷ 1 ∷ 0 ∷ 0 ∷ []) ∷ [])
     ∷ obeys (esc 0x71) (InModes (0 ∷ 0 ∷ 1 ∷ 1 ∷ 0 ∷ 0 ∷ []) ∷ [])
@@ -30,12 +30,12 @@ replyCases =
     ∷ obeys (esc 0x6b) (InModes (0 ∷ 0 ∷ 0 ∷ 1 ∷ 0 ∷ 1 ∷ []) ∷ [])
     ∷ obeys (esc 0x6b ++ esc 0x6c) (InModes (0 ∷ 0 ∷ 0 ∷ 1 ∷ 0 ∷ 0 ∷ []) ∷ [])
     -- each leaves the other modes
-    ∷ obeys (esc 0x26 ++ esc 0x29 ++ esc 0x71 ++ 0x0f ∷ [] ++ esc 0x6b ++ esc 0x4f) (InModes (1 ∷ 1 ∷ 1 ∷ 1 ∷ 1 ∷ 1 ∷ []) ∷ [])
-    ∷ obeys (esc 0x26 ++ esc 0x29 ++ esc 0x71 ++ 0x0f ∷ [] ++ esc 0x6b ++ esc 0x27) (InModes (0 ∷ 1 ∷ 1 ∷ 1 ∷ 1 ∷ 1 ∷ []) ∷ [])
+    ∷ obeysFrom [] (protectAt 0) (esc 0x29 ++ esc 0x71 ++ 0x0f ∷ [] ++ esc 0x6b ++ esc 0x4f) (InModes (1 ∷ 1 ∷ 1 ∷ 1 ∷ 1 ∷ 1 ∷ []) ∷ [])
+    ∷ obeysFrom [] (protectAt 0) (esc 0x29 ++ esc 0x71 ++ 0x0f ∷ [] ++ esc 0x6b ++ esc 0x27) (InModes (0 ∷ 1 ∷ 1 ∷ 1 ∷ 1 ∷ 1 ∷ []) ∷ [])
     -- ESC 1, 2, 0 set, clear, clear all tab stops
-    ∷ obeys (goTo 0 8 ++ esc 0x31 ++ goTo 1 79 ++ esc 0x31 ++ goTo 2 3 ++ esc 0x31) (TabStops (3 ∷ 8 ∷ 79 ∷ []) ∷ Cursor 163 ∷ [])
-    ∷ obeys (goTo 0 8 ++ esc 0x31 ++ goTo 0 79 ++ esc 0x31 ++ goTo 2 8 ++ esc 0x32) (TabStops (79 ∷ []) ∷ Cursor 168 ∷ [])
-    ∷ obeys (goTo 0 8 ++ esc 0x31 ++ goTo 0 79 ++ esc 0x31 ++ esc 0x30) (TabStops [] ∷ Cursor 79 ∷ [])
+    ∷ obeysFrom [] (cursorAt 8) (esc 0x31 ++ goTo 1 79 ++ esc 0x31 ++ goTo 2 3 ++ esc 0x31) (TabStops (3 ∷ 8 ∷ 79 ∷ []) ∷ Cursor 163 ∷ [])
+    ∷ obeysFrom [] (cursorAt 8) (esc 0x31 ++ goTo 0 79 ++ esc 0x31 ++ goTo 2 8 ++ esc 0x32) (TabStops (79 ∷ []) ∷ Cursor 168 ∷ [])
+    ∷ obeysFrom [] (cursorAt 8) (esc 0x31 ++ goTo 0 79 ++ esc 0x31 ++ esc 0x30) (TabStops [] ∷ Cursor 79 ∷ [])
     -- ESC A n attr
     ∷ obeys (esc 0x41 ++ 0x30 ∷ 0x34 ∷ [] ++ esc 0x41 ++ 0x33 ∷ 0x7e ∷ []) (FieldAttributes (0x34 ∷ 0x30 ∷ 0x30 ∷ 0x7e ∷ []) ∷ Cell 0 0 ∷ Cursor 0 ∷ [])
     ∷ obeys (esc 0x41 ++ 0x31 ∷ 0x20 ∷ [] ++ esc 0x41 ++ 0x32 ∷ 0x70 ∷ []) (FieldAttributes (0x30 ∷ 0x20 ∷ 0x70 ∷ 0x30 ∷ []) ∷ [])
@@ -58,11 +58,11 @@ replyCases =
     -- 05h, ESC SPACE
     ∷ obeys (0x05 ∷ [] ++ esc 0x20) (Replies (0x06 ∷ 0x35 ∷ 0x30 ∷ 0x0d ∷ []) ∷ [])
     -- ESC ?, ESC /, ESC b: rows count from the segment's top
-    ∷ obeys (goTo 2 5 ++ esc 0x3f ++ esc 0x2f ++ esc 0x62)
+    ∷ obeysFrom [] (cursorAt 165) (esc 0x3f ++ esc 0x2f ++ esc 0x62)
     (Replies (0x22 ∷ 0x25 ∷ 0x0d ∷ 0x30 ∷ 0x22 ∷ 0x25 ∷ 0x0d ∷ 0x30 ∷ 0x33 ∷ 0x52 ∷ 0x30 ∷ 0x30 ∷ 0x36 ∷ 0x43 ∷ []) ∷ Cursor 165 ∷ [])
-    ∷ obeys (lower ++ goTo 2 5 ++ esc 0x3f ++ esc 0x2f ++ esc 0x62)
+    ∷ obeysFrom [] (lowerAt 1125) (esc 0x3f ++ esc 0x2f ++ esc 0x62)
     (Replies (0x22 ∷ 0x25 ∷ 0x0d ∷ 0x31 ∷ 0x22 ∷ 0x25 ∷ 0x0d ∷ 0x30 ∷ 0x33 ∷ 0x52 ∷ 0x30 ∷ 0x30 ∷ 0x36 ∷ 0x43 ∷ []) ∷ Cursor 1125 ∷ [])
-    ∷ obeys (goTo 23 79 ++ esc 0x3f ++ esc 0x62) (Replies (0x37 ∷ 0x6f ∷ 0x0d ∷ 0x32 ∷ 0x34 ∷ 0x52 ∷ 0x30 ∷ 0x38 ∷ 0x30 ∷ 0x43 ∷ []) ∷ [])
+    ∷ obeysFrom [] (cursorAt 1919) (esc 0x3f ++ esc 0x62) (Replies (0x37 ∷ 0x6f ∷ 0x0d ∷ 0x32 ∷ 0x34 ∷ 0x52 ∷ 0x30 ∷ 0x38 ∷ 0x30 ∷ 0x43 ∷ []) ∷ [])
     -- ESC M: the cursor cell, no CR; guarded 4, before 6
     ∷ obeys (0x41 ∷ 0x08 ∷ [] ++ esc 0x4d) (Replies (0x41 ∷ []) ∷ Cursor 0 ∷ [])
     ∷ obeysFrom (206 ∷ []) powerOn (esc 0x4d) (Replies (0x4e ∷ []) ∷ [])
@@ -74,14 +74,14 @@ replyCases =
     -- ESC 6: the row from column 1 through the cursor, then CR, guarded cells too; ESC 4: the same with guarded cells left out
     ∷ obeys (0x41 ∷ 0x1f ∷ [] ++ labelled 1 1 ++ 0x42 ∷ [] ++ esc 0x26 ++ esc 0x36) (Replies (0x20 ∷ 0x4e ∷ 0x42 ∷ 0x20 ∷ 0x0d ∷ []) ∷ [])
     ∷ obeys (0x41 ∷ 0x1f ∷ [] ++ labelled 1 1 ++ 0x42 ∷ [] ++ esc 0x26 ++ esc 0x34) (Replies (0x20 ∷ 0x42 ∷ 0x20 ∷ 0x0d ∷ []) ∷ [])
-    ∷ obeys (labelled 0 1 ++ 0x42 ∷ [] ++ esc 0x34) (Replies (0x20 ∷ 0x4e ∷ 0x42 ∷ 0x20 ∷ 0x0d ∷ []) ∷ [])
+    ∷ obeysFrom (0 ∷ 206 ∷ []) (cursorAt 2) (0x42 ∷ [] ++ esc 0x34) (Replies (0x20 ∷ 0x4e ∷ 0x42 ∷ 0x20 ∷ 0x0d ∷ []) ∷ [])
     ∷ obeysFrom (206 ∷ []) (protectAt 0) (esc 0x34) (Replies (0x0d ∷ []) ∷ Cursor 0 ∷ [])
     -- ESC 7: segment home through the cursor, US between rows, then CR; ESC 5: guarded cells left out, the US stays
     ∷ obeys (0x41 ∷ 0x1f ∷ 0x42 ∷ [] ++ esc 0x37) (Replies (0x41 ∷ replicate 79 32 ++ 0x1f ∷ 0x42 ∷ 0x20 ∷ 0x0d ∷ []) ∷ [])
-    ∷ obeys (labelled 0 0 ++ labelled 1 0 ++ 0x42 ∷ [] ++ esc 0x26 ++ esc 0x37)
+    ∷ obeysFrom (206 ∷ [] ++ replicate 79 0 ++ 206 ∷ []) (cursorAt 81) (0x42 ∷ [] ++ esc 0x26 ++ esc 0x37)
     (Replies (0x4e ∷ replicate 79 32 ++ 0x1f ∷ 0x4e ∷ 0x42 ∷ 0x20 ∷ 0x0d ∷ []) ∷ [])
-    ∷ obeys (labelled 0 0 ++ labelled 1 0 ++ 0x42 ∷ [] ++ esc 0x26 ++ esc 0x35) (Replies (replicate 79 32 ++ 0x1f ∷ 0x42 ∷ 0x20 ∷ 0x0d ∷ []) ∷ [])
-    ∷ obeys (labelled 0 0 ++ 0x42 ∷ [] ++ esc 0x35) (Replies (0x4e ∷ 0x42 ∷ 0x20 ∷ 0x0d ∷ []) ∷ [])
-    ∷ obeys (lettersBelow ++ esc 0x37) (Replies (0x41 ∷ replicate 79 32 ++ 0x1f ∷ 0x42 ∷ 0x20 ∷ 0x0d ∷ []) ∷ [])
-    ∷ obeys (lettersBelow ++ esc 0x35) (Replies (0x41 ∷ replicate 79 32 ++ 0x1f ∷ 0x42 ∷ 0x20 ∷ 0x0d ∷ []) ∷ [])
+    ∷ obeysFrom (206 ∷ [] ++ replicate 79 0 ++ 206 ∷ []) (cursorAt 81) (0x42 ∷ [] ++ esc 0x26 ++ esc 0x35) (Replies (replicate 79 32 ++ 0x1f ∷ 0x42 ∷ 0x20 ∷ 0x0d ∷ []) ∷ [])
+    ∷ obeysFrom (206 ∷ []) (cursorAt 1) (0x42 ∷ [] ++ esc 0x35) (Replies (0x4e ∷ 0x42 ∷ 0x20 ∷ 0x0d ∷ []) ∷ [])
+    ∷ obeysFrom lettersBelow (lowerAt 1041) (esc 0x37) (Replies (0x41 ∷ replicate 79 32 ++ 0x1f ∷ 0x42 ∷ 0x20 ∷ 0x0d ∷ []) ∷ [])
+    ∷ obeysFrom lettersBelow (lowerAt 1041) (esc 0x35) (Replies (0x41 ∷ replicate 79 32 ++ 0x1f ∷ 0x42 ∷ 0x20 ∷ 0x0d ∷ []) ∷ [])
     ∷ []
