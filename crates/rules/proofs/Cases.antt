@@ -11,6 +11,8 @@ use Rattle.rules.specs.Carry.{applied, separator, openCell, textFrom, re
 use Rattle.rules.specs.Step.{overfull, programmed, obeyed, innerRule, stepRule}
 use Rattle.rules.specs.Calls.{powerOnRule, joined, repeated, runRule, keySends, pressRule, ofStep, ofRun, ofPress, callRule, after, play}
 use Rattle.rules.specs.Room.{over}
+use Rattle.rules.specs.Noninterference.{completes, runCompletes, callCompletes, anyCompleted}
+use Rattle.rules.specs.Completed.{completesFrom, stepCompletes}
 use Rattle.rules.specs.Bench.{same, replies, answers, countsOf, restsOf, segmentsOf, modesOf, stopsFrom, holds, allHold, casesHold, host}
 use Rattle.rules.specs.Inputs.{esc, goTo, labelled, halves, lower, threeLetters, lettersBelow, pageOf, cursorAt, protectAt, upperAt, lowerAt, belled, typed, obeys, refuses, obeysFrom, refusesFrom}
 use Rattle.rules.specs.MovingCases.{movingCases}
@@ -22,7 +24,7 @@ use Rattle.rules.specs.PossibleCases.{placed, keyed, attributed, feature
 use Rattle.rules.specs.Cases.{CaseList}
 
 pub cases : CaseList
-unfolding same replies answers holds allHold casesHold host esc goTo labelled halves lower threeLetters lettersBelow pageOf cursorAt protectAt upperAt lowerAt belled typed obeys refuses obeysFrom refusesFrom countsOf restsOf segmentsOf modesOf stopsFrom movingCases writingCases replyCases callCases span lastAnswer triedHold bytesHold low high digitBytes attributeBytes escapeBytes firstBytes argumentBytes addressBytes decimalBytes placed keyed attributed featured stopped possibleStates impossibleStates allPossible nonePossible over powerOnRule
+unfolding completes runCompletes callCompletes anyCompleted completesFrom stepCompletes same replies answers holds allHold casesHold host esc goTo labelled halves lower threeLetters lettersBelow pageOf cursorAt protectAt upperAt lowerAt belled typed obeys refuses obeysFrom refusesFrom countsOf restsOf segmentsOf modesOf stopsFrom movingCases writingCases replyCases callCases span lastAnswer triedHold bytesHold low high digitBytes attributeBytes escapeBytes firstBytes argumentBytes addressBytes decimalBytes placed keyed attributed featured stopped possibleStates impossibleStates allPossible nonePossible over powerOnRule
     columns rowEnd marksBy others startsFrom firstIn lastIn around aroundBack within filled shiftLeft shiftRight editShifted rowsShifted
     columnFilled segmentTop segmentBottom cursorOf withCursor withMode changed keyBytes powerOn blank unsplitOk splitOk screenOk allBelow
     keyOk keysOk isAttribute attributesOk featurePlace featuresOk isKey pendingOk noStops possible good lookup idleRule escapeRule judged
@@ -46,4 +48,11 @@ cases = record {
   short-page = refl;
   long-page = refl;
   room = refl;
+  six = refl;
+  six-steps = refl;
+  six-behind = refl;
+  six-text = refl;
+  six-no-room = refl;
+  six-argument = refl;
+  not-six = refl;
 }

@@ -21,3 +21,4 @@ pub mod Planned
 pub mod Left
 pub mod Press
 pub mod Reach
+pub mod Completed

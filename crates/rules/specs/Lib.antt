@@ -11,6 +11,7 @@ pub mod Room
 pub mod Step
 pub mod Calls
 pub mod Noninterference
+pub mod Completed
 pub mod Good
 pub mod Steps
 pub mod Left

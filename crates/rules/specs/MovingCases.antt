@@ -45,6 +45,7 @@ movingCases =
     -- 0Bh: up in column, top wraps to bottom
     ∷ obeysFrom [] (cursorAt 165) (0x0b ∷ []) (Cursor 85 ∷ [])
     ∷ obeys (0x41 ∷ 0x0b ∷ []) (Cell 0 0x41 ∷ Cursor 1841 ∷ [])
+    ∷ obeysFrom [] (cursorAt 80) (0x0b ∷ []) (Cursor 0 ∷ [])
     ∷ obeysFrom [] (upperAt 5) (0x0b ∷ []) (Cursor 885 ∷ [])
     ∷ obeysFrom [] (lowerAt 965) (0x0b ∷ []) (Cursor 1845 ∷ [])
     -- ESC j: up; at the top it scrolls the segment down if protect is off, whatever autoscroll is, else stays
@@ -52,6 +53,7 @@ movingCases =
     ∷ obeysFrom threeLetters (cursorAt 1) (esc 0x26 ++ esc 0x6a) (Cell 0 0x41 ∷ Cell 80 0x43 ∷ Cursor 1 ∷ [])
     ∷ obeysFrom threeLetters (cursorAt 1) (esc 0x4e ++ esc 0x6a) (Cell 0 32 ∷ Cell 80 0x41 ∷ Cursor 1 ∷ [])
     ∷ obeysFrom [] (cursorAt 165) (esc 0x6a) (Cursor 85 ∷ [])
+    ∷ obeysFrom threeLetters (cursorAt 80) (esc 0x6a) (Cell 0 0x41 ∷ Cursor 0 ∷ [])
     ∷ obeysFrom [] (cursorAt 880) (0x59 ∷ [] ++ goTo 12 0 ++ 0x58 ∷ [] ++ halves ++ esc 0x6a) (Cell 0 32 ∷ Cell 880 0 ∷ Cell 960 0x58 ∷ Cursor 0 ∷ [])
     ∷ obeysFrom lettersBelow (lowerAt 965) (esc 0x6a) (Cell 0 0x58 ∷ Cell 960 32 ∷ Cell 1039 32 ∷ Cell 1040 0x41 ∷ Cell 1120 0x42 ∷ Cursor 965 ∷ [])
     -- 0Ah: down in column; at the bottom scroll up if autoscroll is on and protect off, else wrap to the top

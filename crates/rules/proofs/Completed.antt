@@ -1,0 +1,331 @@
+-- The test that demand 3 is stated with is true exactly if some byte taken in the list completes one of the six.
+-- Assumes nothing.
+use mathlib.Core.Path.{_≡_, refl, sym, ap, _∙_}
+use mathlib.Core.Bool.{Bool, true, false, false≢true}
+use mathlib.Core.List.{List, [], _∷_, _++_}
+use mathlib.Core.Logic.{_⊎_, inl, inr}
+use Prim.Native.Nat.{ℕ, _-_}
+use native.Mathlib.Nat.{sub-zero}
+use native.Mathlib.Omega.{arith}
+use borrow.Author.Tests.{eqb-true, eq-eqb}
+use lib.Dec.{eqb}
+use lib.ListN.{length, length-append}
+use Rattle.rules.specs.declared.State.{State}
+use Rattle.rules.specs.declared.Pending.{Pending}
+use Rattle.rules.specs.declared.Pending.the-variants as Pending
+use Rattle.rules.specs.Cell.{pick, both, either}
+use Rattle.rules.specs.Possible.{good}
+use Rattle.rules.specs.Step.{Outcome, stepRule}
+use Rattle.rules.specs.Calls.{Ran, ended, joined, repeated, runRule, Call, Step, Run, Press, callRule, Given, Played, after, play}
+use Rattle.rules.specs.Noninterference.{afterEscape, anyOf, excludedBytes, completes, runCompletes, callCompletes, anyCompleted}
+use Rattle.rules.specs.Completed.{OneOfSix, protect-off, clear-nulls, clear-spaces, clear-protected, send-row, send-segment, Completing, CompletedInRun, CompletedIn, in-step, in-run, Completed, Characterised, NoneCompleted}
+use Rattle.rules.proofs.Tests.{either-way, both-parts, both-true}
+use Rattle.rules.proofs.Run.{run-go}
+
+either-parts : (a b : Bool) → either a b ≡ true → (a ≡ true) ⊎ (b ≡ true)
+either-parts true b e = inl refl
+either-parts false b e = inr e
+
+either-second : (a b : Bool) → b ≡ true → either a b ≡ true
+either-second true b e = refl
+either-second false b e = e
+
+-- ---- the byte
+
+bare-escape : (q : Pending) → afterEscape q ≡ true → q ≡ Pending.Escape
+bare-escape Pending.Idle e = absurd (false≢true e)
+bare-escape Pending.Escape e = refl
+bare-escape Pending.Address e = absurd (false≢true e)
+bare-escape (Pending.AddressRow r) e = absurd (false≢true e)
+bare-escape Pending.Segment e = absurd (false≢true e)
+bare-escape (Pending.SegmentNumber n) e = absurd (false≢true e)
+bare-escape (Pending.SegmentRow n r) e = absurd (false≢true e)
+bare-escape (Pending.DecimalRow n row) e = absurd (false≢true e)
+bare-escape (Pending.DecimalColumn row n column) e = absurd (false≢true e)
+bare-escape Pending.Split e = absurd (false≢true e)
+bare-escape Pending.SplitRow e = absurd (false≢true e)
+bare-escape Pending.Attribute e = absurd (false≢true e)
+bare-escape Pending.Graphic e = absurd (false≢true e)
+bare-escape Pending.FillAttribute e = absurd (false≢true e)
+bare-escape Pending.FillCode e = absurd (false≢true e)
+bare-escape Pending.Feature e = absurd (false≢true e)
+bare-escape Pending.FieldAttribute e = absurd (false≢true e)
+bare-escape (Pending.FieldNumber n) e = absurd (false≢true e)
+bare-escape Pending.KeyValue e = absurd (false≢true e)
+bare-escape (Pending.KeyText v) e = absurd (false≢true e)
+bare-escape (Pending.KeyOver v) e = absurd (false≢true e)
+
+-- the byte k, or one of some others
+one-more : (b k : ℕ) (r : Bool) → OneOfSix k → (r ≡ true → OneOfSix b) → either (eqb b k) r ≡ true → OneOfSix b
+one-more b k r here rest e = by (either-parts (eqb b k) r e)
+  where
+    by : (eqb b k ≡ true) ⊎ (r ≡ true) → OneOfSix b
+    by (inl u) = rw (eqb-true b k u) here
+    by (inr u) = rest u
+
+is-one : (b : ℕ) → anyOf excludedBytes b ≡ true → OneOfSix b
+is-one b =
+    one-more b 0x27 _ protect-off (one-more b 0x2a _ clear-nulls (one-more b 0x2b _ clear-spaces (one-more b 0x2c _ clear-protected
+    (one-more b 0x36 _ send-row (one-more b 0x37 false send-segment (λ e. absurd (false≢true e)))))))
+
+one-is : (b : ℕ) → OneOfSix b → anyOf excludedBytes b ≡ true
+one-is b protect-off = refl
+one-is b clear-nulls = refl
+one-is b clear-spaces = refl
+one-is b clear-protected = refl
+one-is b send-row = refl
+one-is b send-segment = refl
+
+module _ (p : List ℕ) (s : State) (b room : ℕ) where
+  byte-completed : completes s b ((stepRule p s b room) .answer) ≡ true → Completing p s b room
+  unfolding completes
+  byte-completed e =
+      let x = both-parts (both (afterEscape (s .core .pending)) (anyOf excludedBytes b)) _ e in
+      let y = both-parts (afterEscape (s .core .pending)) (anyOf excludedBytes b) (x .0) in
+      record { bare = bare-escape (s .core .pending) (y .0); six = is-one b (y .1); done = eqb-true _ 0 (x .1) }
+
+  byte-counted : Completing p s b room → completes s b ((stepRule p s b room) .answer) ≡ true
+  unfolding completes
+  byte-counted x = both-true (both-true (ap afterEscape (x .bare)) (one-is b (x .six))) (eq-eqb _ 0 (x .done))
+
+-- ---- the run
+
+-- as CompletedInRun, over the repeated step
+record InRepeated (p : List ℕ) (s : State) (bytes : List ℕ) (room : ℕ) : Type 0 where
+  before : List ℕ
+  byte : ℕ
+  behind : List ℕ
+  whole : bytes ≡ before ++ (byte ∷ behind)
+  taken : (repeated before p s room) .answer ≡ 0
+  completing :
+      Completing ((repeated before p s room) .page) ((repeated before p s room) .state) byte (room - length ((repeated before p s room) .reply))
+
+zero-six : (n : ℕ) → n ≡ 0 → eqb n 6 ≡ false
+zero-six n e = rw e
+
+taken-counts : (t u r : Bool) → t ≡ false → u ≡ true → pick t false (either u r) ≡ true
+taken-counts t u r e f = rw (e, f)
+
+room-left : (room : ℕ) (a b : List ℕ) → room - length (a ++ b) ≡ room - length a - length b
+room-left room a b = omega (arith, length-append a b)
+
+module _ (b : ℕ) (bs p : List ℕ) (s : State) (room : ℕ) where
+  first-byte : Completing p s b room → InRepeated p s (b ∷ bs) room
+  unfolding repeated
+  first-byte c = record { before = []; byte = b; behind = bs; whole = refl; taken = refl; completing = rw sub-zero c }
+
+  later-byte : eqb ((stepRule p s b room) .answer) 6 ≡ false
+      → InRepeated ((stepRule p s b room) .page) ((stepRule p s b room) .state) bs (room - length ((stepRule p s b room) .reply))
+      → InRepeated p s (b ∷ bs) room
+  unfolding joined
+  later-byte u x =
+      let o = stepRule p s b room in
+      record {
+        before = b ∷ x .before;
+        byte = x .byte;
+        behind = x .behind;
+        whole = ap (λ (l : List ℕ). b ∷ l) (x .whole);
+        taken = rw (run-go b (x .before) p s room u) (x .taken);
+        completing =
+            rw (
+              run-go b (x .before) p s room u,
+              room-left room (o .reply) ((repeated (x .before) (o .page) (o .state) (room - length (o .reply))) .reply),
+            ) (x .completing);
+      }
+
+  byte-of-run : (runCompletes bs ((stepRule p s b room) .page) ((stepRule p s b room) .state) (room - length ((stepRule p s b room) .reply)) ≡ true
+      → InRepeated ((stepRule p s b room) .page) ((stepRule p s b room) .state) bs (room - length ((stepRule p s b room) .reply)))
+      → runCompletes (b ∷ bs) p s room ≡ true → InRepeated p s (b ∷ bs) room
+  unfolding runCompletes
+  byte-of-run ih = by (eqb ((stepRule p s b room) .answer) 6) refl
+    where
+      rest : Bool
+      rest = runCompletes bs ((stepRule p s b room) .page) ((stepRule p s b room) .state) (room - length ((stepRule p s b room) .reply))
+
+      which : eqb ((stepRule p s b room) .answer) 6 ≡ false → (completes s b ((stepRule p s b room) .answer) ≡ true) ⊎ (rest ≡ true)
+          → InRepeated p s (b ∷ bs) room
+      which u (inl h) = first-byte (byte-completed p s b room h)
+      which u (inr h) = later-byte u (ih h)
+
+      by : (t : Bool) → eqb ((stepRule p s b room) .answer) 6 ≡ t → pick t false (either (completes s b ((stepRule p s b room) .answer)) rest) ≡ true
+          → InRepeated p s (b ∷ bs) room
+      by true u e = absurd (false≢true e)
+      by false u e = which u (either-parts (completes s b ((stepRule p s b room) .answer)) rest e)
+
+run-completed : (bytes p : List ℕ) (s : State) (room : ℕ) → runCompletes bytes p s room ≡ true → InRepeated p s bytes room
+unfolding runCompletes
+run-completed [] p s room e = absurd (false≢true e)
+run-completed (b ∷ bs) p s room e =
+    byte-of-run b bs p s room
+    (run-completed bs ((stepRule p s b room) .page) ((stepRule p s b room) .state) (room - length ((stepRule p s b room) .reply))) e
+
+module _ (b : ℕ) (behind p : List ℕ) (s : State) (room : ℕ) where
+  first-counted : Completing p s b room → runCompletes (b ∷ behind) p s room ≡ true
+  unfolding runCompletes
+  first-counted c = taken-counts _ _ _ (zero-six _ (c .done)) (byte-counted p s b room c)
+
+  later-counted : eqb ((stepRule p s b room) .answer) 6 ≡ false
+      → runCompletes behind ((stepRule p s b room) .page) ((stepRule p s b room) .state) (room - length ((stepRule p s b room) .reply)) ≡ true
+      → runCompletes (b ∷ behind) p s room ≡ true
+  unfolding runCompletes
+  later-counted u h = rw u (either-second (completes s b ((stepRule p s b room) .answer)) _ h)
+
+-- a choice that answers 0 is not one that answers otherwise
+not-first : (t : Bool) (a r : Ran) → (a .answer ≡ 0 → ⊥) → (pick t a r) .answer ≡ 0 → t ≡ false
+not-first true a r h e = absurd (h e)
+not-first false a r h e = refl
+
+not-second : (t : Bool) (a r : Ran) → (r .answer ≡ 0 → ⊥) → (pick t a r) .answer ≡ 0 → t ≡ true
+not-second true a r h e = refl
+not-second false a r h e = absurd (h e)
+
+-- a byte of a run that took all of its bytes did not answer 6
+took : (b : ℕ) (bs p : List ℕ) (s : State) (room : ℕ) → (repeated (b ∷ bs) p s room) .answer ≡ 0 → eqb ((stepRule p s b room) .answer) 6 ≡ false
+unfolding repeated
+took b bs p s room =
+    let o = stepRule p s b room in
+    not-first (eqb (o .answer) 6) (ended p s 6 (b ∷ bs)) (joined o (repeated bs (o .page) (o .state) (room - length (o .reply))))
+    (λ e. absurd (omega (arith, e)))
+
+-- one byte more before it
+byte-before : (a : ℕ) (before : List ℕ) (b : ℕ) (behind p : List ℕ) (s : State) (room : ℕ)
+    → ((repeated before ((stepRule p s a room) .page) ((stepRule p s a room) .state) (room - length ((stepRule p s a room) .reply))) .answer ≡ 0
+    → Completing ((repeated before ((stepRule p s a room) .page) ((stepRule p s a room) .state) (room - length ((stepRule p s a room) .reply))) .page)
+    ((repeated before ((stepRule p s a room) .page) ((stepRule p s a room) .state) (room - length ((stepRule p s a room) .reply))) .state) b
+    (room - length ((stepRule p s a room) .reply)
+    - length ((repeated before ((stepRule p s a room) .page) ((stepRule p s a room) .state) (room - length ((stepRule p s a room) .reply))) .reply))
+    → runCompletes (before ++ (b ∷ behind)) ((stepRule p s a room) .page) ((stepRule p s a room) .state) (room - length ((stepRule p s a room) .reply)) ≡ true)
+    → (repeated (a ∷ before) p s room) .answer ≡ 0
+    → Completing ((repeated (a ∷ before) p s room) .page) ((repeated (a ∷ before) p s room) .state) b
+    (room - length ((repeated (a ∷ before) p s room) .reply))
+    → runCompletes (a ∷ (before ++ (b ∷ behind))) p s room ≡ true
+unfolding joined
+byte-before a before b behind p s room ih e c =
+    let o = stepRule p s a room in
+    let r = repeated before (o .page) (o .state) (room - length (o .reply)) in
+    let u = took a before p s room e in
+    later-counted a (before ++ (b ∷ behind)) p s room u
+    (ih (rw (run-go a before p s room u) at e) (rw (run-go a before p s room u, room-left room (o .reply) (r .reply)) at c))
+
+run-counted : (before : List ℕ) (b : ℕ) (behind p : List ℕ) (s : State) (room : ℕ) → (repeated before p s room) .answer ≡ 0
+    → Completing ((repeated before p s room) .page) ((repeated before p s room) .state) b (room - length ((repeated before p s room) .reply))
+    → runCompletes (before ++ (b ∷ behind)) p s room ≡ true
+unfolding repeated
+run-counted [] b behind p s room e c = first-counted b behind p s room (rw sub-zero at c)
+run-counted (a ∷ before) b behind p s room e c =
+    byte-before a before b behind p s room
+    (run-counted before b behind ((stepRule p s a room) .page) ((stepRule p s a room) .state) (room - length ((stepRule p s a room) .reply))) e c
+
+-- ---- the call
+
+good-run : (p : List ℕ) (s : State) (bytes : List ℕ) (room : ℕ) → good p s ≡ true → repeated bytes p s room ≡ runRule p s bytes room
+unfolding runRule
+good-run p s bytes room g = rw g
+
+-- a run that answers 0 is on a good page and state
+answers-good : (p : List ℕ) (s : State) (bytes : List ℕ) (room : ℕ) → (runRule p s bytes room) .answer ≡ 0 → good p s ≡ true
+unfolding runRule
+answers-good p s bytes room =
+    not-second (good p s) (repeated bytes p s room) (ended p s 7 bytes) (λ e. absurd (omega (arith, e)))
+
+-- over the run where the page and state are good
+in-good-run : (p : List ℕ) (s : State) (bytes : List ℕ) (room : ℕ) → good p s ≡ true → InRepeated p s bytes room → CompletedInRun p s bytes room
+in-good-run p s bytes room g x = record {
+  before = x .before;
+  byte = x .byte;
+  behind = x .behind;
+  whole = x .whole;
+  taken = rw (← (good-run p s (x .before) room g)) (x .taken);
+  completing = rw (← (good-run p s (x .before) room g)) (x .completing);
+}
+
+good-run-counted : (p : List ℕ) (s : State) (bytes : List ℕ) (room : ℕ) → CompletedInRun p s bytes room → runCompletes bytes p s room ≡ true
+good-run-counted p s bytes room x =
+    let e = good-run p s (x .before) room (answers-good p s (x .before) room (x .taken)) in
+    rw (x .whole) (run-counted (x .before) (x .byte) (x .behind) p s room (rw e (x .taken)) (rw e (x .completing)))
+
+call-completed : (p : List ℕ) (s : State) (c : Call) → callCompletes p s c ≡ true → CompletedIn p s c
+unfolding callCompletes
+call-completed p s (Step b room) e = in-step p s b room (byte-completed p s b room e)
+call-completed p s (Run bytes room) e = by (good p s) refl e
+  where
+    by : (t : Bool) → good p s ≡ t → pick t (runCompletes bytes p s room) false ≡ true → CompletedIn p s (Run bytes room)
+    by true g h = in-run p s bytes room (in-good-run p s bytes room g (run-completed bytes p s room h))
+    by false g h = absurd (false≢true h)
+call-completed p s (Press v room) e = absurd (false≢true e)
+
+call-counted : (p : List ℕ) (s : State) (c : Call) → CompletedIn p s c → callCompletes p s c ≡ true
+unfolding callCompletes
+call-counted p s (Step b room) (in-step _ _ _ _ x) = byte-counted p s b room x
+call-counted p s (Run bytes room) (in-run _ _ _ _ x) =
+    rw (answers-good p s (x .before) room (x .taken)) (good-run-counted p s bytes room x)
+
+-- ---- the list
+
+list-completed : (calls : List Call) (p : List ℕ) (s : State) → anyCompleted calls p s ≡ true → Completed calls p s
+unfolding anyCompleted play after
+list-completed [] p s e = absurd (false≢true e)
+list-completed (c ∷ cs) p s e = by (either-parts (callCompletes p s c) _ e) (list-completed cs ((callRule p s c) .page) ((callRule p s c) .given .state))
+  where
+    by : (callCompletes p s c ≡ true) ⊎ (anyCompleted cs ((callRule p s c) .page) ((callRule p s c) .given .state) ≡ true)
+        → (anyCompleted cs ((callRule p s c) .page) ((callRule p s c) .given .state) ≡ true
+        → Completed cs ((callRule p s c) .page) ((callRule p s c) .given .state)) → Completed (c ∷ cs) p s
+    by (inl h) ih = record { earlier = []; call = c; later = cs; whole = refl; inside = call-completed p s c h }
+    by (inr h) ih =
+        let x = ih h in
+        record { earlier = c ∷ x .earlier; call = x .call; later = x .later; whole = ap (λ (l : List Call). c ∷ l) (x .whole); inside = x .inside }
+
+list-counted : (earlier : List Call) (c : Call) (later : List Call) (p : List ℕ) (s : State)
+    → CompletedIn ((play earlier p s) .page) ((play earlier p s) .state) c → anyCompleted (earlier ++ (c ∷ later)) p s ≡ true
+unfolding anyCompleted play after
+list-counted [] c later p s x = rw (call-counted p s c x)
+list-counted (a ∷ earlier) c later p s x =
+    either-second (callCompletes p s a) _ (list-counted earlier c later ((callRule p s a) .page) ((callRule p s a) .given .state) x)
+
+pub characterised : Characterised
+characterised = record {
+  counted-completed = list-completed;
+  completed-counted = λ calls p s x. rw (x .whole) (list-counted (x .earlier) (x .call) (x .later) p s (x .inside));
+}
+
+-- ---- what completes nothing
+
+not-true : (t : Bool) → (t ≡ true → ⊥) → t ≡ false
+not-true true h = absurd (h refl)
+not-true false h = refl
+
+none-in : (p : List ℕ) (s : State) (c : Call) → (CompletedIn p s c → ⊥) → anyCompleted (c ∷ []) p s ≡ false
+unfolding anyCompleted
+none-in p s c h = rw (not-true (callCompletes p s c) (λ e. h (call-completed p s c e)))
+
+bad-step : (p : List ℕ) (s : State) (b room : ℕ) → good p s ≡ false → (stepRule p s b room) .answer ≡ 7
+unfolding stepRule
+bad-step p s b room g = rw g
+
+no-press : (p : List ℕ) (s : State) (v room : ℕ) → CompletedIn p s (Press v room) → ⊥
+unfolding callCompletes
+no-press p s v room x = false≢true (call-counted p s (Press v room) x)
+
+no-bad : (p : List ℕ) (s : State) (c : Call) → good p s ≡ false → CompletedIn p s c → ⊥
+no-bad p s (Step b room) g (in-step _ _ _ _ x) = absurd (omega (arith, x .done, bad-step p s b room g))
+no-bad p s (Run bytes room) g (in-run _ _ _ _ x) = false≢true (sym g ∙ answers-good p s (x .before) room (x .taken))
+no-bad p s (Press v room) g x = no-press p s v room x
+
+no-step : (p : List ℕ) (s : State) (b room : ℕ) → (Completing p s b room → ⊥) → CompletedIn p s (Step b room) → ⊥
+no-step p s b room h (in-step _ _ _ _ x) = h x
+
+no-run : (p : List ℕ) (s : State) (bytes : List ℕ) (room : ℕ) → (CompletedInRun p s bytes room → ⊥) → CompletedIn p s (Run bytes room) → ⊥
+no-run p s bytes room h (in-run _ _ _ _ x) = h x
+
+pub none-completed : NoneCompleted
+unfolding anyCompleted
+none-completed = record {
+  empty = λ p s. refl;
+  press = λ p s v room. none-in p s (Press v room) (no-press p s v room);
+  bad = λ p s c g. none-in p s c (no-bad p s c g);
+  refused = λ p s b room h. none-in p s (Step b room) (no-step p s b room (λ x. h (x .done)));
+  step = λ p s b room h. none-in p s (Step b room) (no-step p s b room (λ x. h (x .bare) (x .six)));
+  run =
+      λ p s bytes room h. none-in p s (Run bytes room)
+      (no-run p s bytes room (λ x. h (x .before) (x .byte) (x .behind) (x .whole) (x .completing .bare) (x .completing .six)));
+}

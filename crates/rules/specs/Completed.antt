@@ -1,0 +1,81 @@
+-- When one of the six is completed (document 01): "A command is completed when, by these rules, its last byte is taken and answers 0; bytes
+-- taken as another sequence's argument complete nothing. This is judged in the first terminal alone." The test that demand 3 is stated with is
+-- true exactly then.
+use mathlib.Core.Path.{_≡_}
+use mathlib.Core.Bool.{Bool, true, false}
+use mathlib.Core.List.{List, [], _∷_, _++_}
+use Prim.Native.Nat.{ℕ, _-_}
+use lib.ListN.{length}
+use Rattle.rules.specs.declared.State.{State}
+use Rattle.rules.specs.declared.Pending.{Pending}
+use Rattle.rules.specs.declared.Pending.the-variants as Pending
+use Rattle.rules.specs.Possible.{powerOn, blank, good}
+use Rattle.rules.specs.Step.{stepRule}
+use Rattle.rules.specs.Calls.{Call, Step, Run, Press, runRule, play}
+use Rattle.rules.specs.Noninterference.{anyCompleted}
+
+-- the six, by their last bytes: ESC ', ESC *, ESC +, ESC , and ESC 6, ESC 7
+pub data OneOfSix : ℕ → Type 0 where
+  protect-off : OneOfSix 0x27
+  clear-nulls : OneOfSix 0x2a
+  clear-spaces : OneOfSix 0x2b
+  clear-protected : OneOfSix 0x2c
+  send-row : OneOfSix 0x36
+  send-segment : OneOfSix 0x37
+
+-- a byte completes one of the six: it comes after a bare ESC, so that it is no other sequence's argument, is the last of one of the six, and
+-- answers 0
+pub record Completing (p : List ℕ) (s : State) (b room : ℕ) : Type 0 where
+  pub bare : s .core .pending ≡ Pending.Escape
+  pub six : OneOfSix b
+  pub done : (stepRule p s b room) .answer ≡ 0
+
+-- some byte that a run takes does: a run over the bytes before it takes them all, and it comes where that run stands, with the room that is left
+pub record CompletedInRun (p : List ℕ) (s : State) (bytes : List ℕ) (room : ℕ) : Type 0 where
+  pub before : List ℕ
+  pub byte : ℕ
+  pub behind : List ℕ
+  pub whole : bytes ≡ before ++ (byte ∷ behind)
+  pub taken : (runRule p s before room) .answer ≡ 0
+  pub completing :
+      Completing ((runRule p s before room) .page) ((runRule p s before room) .state) byte (room - length ((runRule p s before room) .reply))
+
+-- a call in which one is completed; no press is one
+pub data CompletedIn : List ℕ → State → Call → Type 0 where
+  in-step : (p : List ℕ) (s : State) (b room : ℕ) → Completing p s b room → CompletedIn p s (Step b room)
+  in-run : (p : List ℕ) (s : State) (bytes : List ℕ) (room : ℕ) → CompletedInRun p s bytes room → CompletedIn p s (Run bytes room)
+
+-- some call of the list, on the page and the state that the earlier ones leave
+pub record Completed (calls : List Call) (p : List ℕ) (s : State) : Type 0 where
+  pub earlier : List Call
+  pub call : Call
+  pub later : List Call
+  pub whole : calls ≡ earlier ++ (call ∷ later)
+  pub inside : CompletedIn ((play earlier p s) .page) ((play earlier p s) .state) call
+
+-- the statement
+pub record Characterised : Type 0 where
+  pub counted-completed : (calls : List Call) (p : List ℕ) (s : State) → anyCompleted calls p s ≡ true → Completed calls p s
+  pub completed-counted : (calls : List Call) (p : List ℕ) (s : State) → Completed calls p s → anyCompleted calls p s ≡ true
+
+-- what completes nothing
+pub record NoneCompleted : Type 0 where
+  pub empty : (p : List ℕ) (s : State) → anyCompleted [] p s ≡ false
+  pub press : (p : List ℕ) (s : State) (v room : ℕ) → anyCompleted (Press v room ∷ []) p s ≡ false
+  -- a call on a bad page or state
+  pub bad : (p : List ℕ) (s : State) (c : Call) → good p s ≡ false → anyCompleted (c ∷ []) p s ≡ false
+  -- a byte that does not answer 0, as ESC 6 and ESC 7 that answer 6
+  pub refused : (p : List ℕ) (s : State) (b room : ℕ) → ((stepRule p s b room) .answer ≡ 0 → ⊥) → anyCompleted (Step b room ∷ []) p s ≡ false
+  -- a step or a run in which no byte after a bare ESC is one of the six
+  pub step : (p : List ℕ) (s : State) (b room : ℕ) → (s .core .pending ≡ Pending.Escape → OneOfSix b → ⊥) → anyCompleted (Step b room ∷ []) p s ≡ false
+  pub run : (p : List ℕ) (s : State) (bytes : List ℕ) (room : ℕ)
+      → ((before : List ℕ) (b : ℕ) (behind : List ℕ) → bytes ≡ before ++ (b ∷ behind)
+      → (runRule p s before room) .state .core .pending ≡ Pending.Escape → OneOfSix b → ⊥)
+      → anyCompleted (Run bytes room ∷ []) p s ≡ false
+
+-- whether a run over bytes from power-on completes one of the six; and whether the steps on ESC and a byte do
+unfoldable pub completesFrom : ℕ → List ℕ → Bool
+completesFrom room bytes = anyCompleted (Run bytes room ∷ []) blank powerOn
+
+unfoldable pub stepCompletes : ℕ → Bool
+stepCompletes b = anyCompleted (Step 0x1b 1944 ∷ Step b 1944 ∷ []) blank powerOn
