@@ -4,7 +4,7 @@ use lib.ListN.{replicate}
 use Rattle.rules.specs.Possible.{powerOn, blank}
 use Rattle.rules.specs.Calls.{Step, Run, Press}
 use Rattle.rules.specs.Bench.{Cell, Cursor, Replies, Answers, Counts, Rests, TabStops, FieldAttributes, Bells, Case, from-power-on, from-page, host}
-use Rattle.rules.specs.Inputs.{esc, pageOf, protectAt, belled, refuses}
+use Rattle.rules.specs.Inputs.{esc, pageOf, protectAt, belled, fullKeys, refuses}
 
 unfoldable pub callCases : List Case
 callCases =
@@ -46,6 +46,9 @@ callCases =
     (Answers (0 ∷ 0 ∷ 0 ∷ 0 ∷ 0 ∷ 1 ∷ 0 ∷ 0 ∷ 0 ∷ 0 ∷ []) ∷ Replies (0x1b ∷ 0x0d ∷ 0x61 ∷ 0x01 ∷ 0x60 ∷ 0x0d ∷ []) ∷ Cursor 0 ∷ [])
     ∷ from-power-on (host ((0x1b ∷ 0x7a ∷ 0x60 ∷ replicate 8 0x61) ++ 0x7f ∷ []) ++ Press 0x60 8 ∷ Press 0x4f 8 ∷ [])
     (Answers (replicate 14 0) ∷ Replies (replicate 8 0x61 ++ 0x01 ∷ 0x4f ∷ 0x0d ∷ []) ∷ [])
+    -- 32 full keys are not too many
+    ∷ from-page blank fullKeys (host ((0x1b ∷ 0x7a ∷ 0x40 ∷ replicate 8 0x62) ++ 0x7f ∷ []) ++ Press 0x40 8 ∷ [])
+    (Answers (replicate 13 0) ∷ Replies (replicate 8 0x62) ∷ [])
     -- more than 8 are swallowed up to DEL, then 3, the key unchanged: ESC , among them is not obeyed
     ∷ from-power-on (host ((0x1b ∷ 0x7a ∷ 0x40 ∷ replicate 8 0x61) ++ esc 0x2c ++ 0x7f ∷ []) ++ Press 0x40 8 ∷ [])
     (Cell 0 0 ∷ Cursor 0 ∷ Answers (replicate 13 0 ++ 3 ∷ 0 ∷ []) ∷ Replies (0x01 ∷ 0x40 ∷ 0x0d ∷ []) ∷ [])

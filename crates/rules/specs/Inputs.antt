@@ -68,6 +68,18 @@ lowerAt n = record {
 unfoldable pub belled : ℕ → State
 belled n = record { core = withBells (powerOn .core) n; setup = powerOn .setup }
 
+-- the power-on state with 8 bytes in every key
+unfoldable pub fullKeys : State
+fullKeys = record {
+  core = powerOn .core;
+  setup = record {
+    tabs = powerOn .setup .tabs;
+    attributes = powerOn .setup .attributes;
+    features = powerOn .setup .features;
+    keys = replicate 32 record { len = 8; bytes = replicate 8 0x61 };
+  };
+}
+
 -- bytes worked by the rule of a byte on a good page, each with a room of 3,192
 unfoldable pub typed : List ℕ → List ℕ → State → Played
 typed [] p s = record { given = []; state = s; page = p }

@@ -101,6 +101,8 @@ movingCases =
     ∷ obeysFrom (replicate 961 0 ++ 206 ∷ []) (lowerAt 962) (esc 0x26 ++ 0x09 ∷ []) (Cursor 960 ∷ [])
     ∷ obeysFrom (replicate 961 0 ++ 206 ∷ []) (lowerAt 962) (esc 0x26 ++ esc 0x49) (Cursor 960 ∷ [])
     ∷ obeysFrom (replicate 961 0 ++ 206 ∷ []) (lowerAt 962) (esc 0x26 ++ 0x1e ∷ [] ++ esc 0x49) (Cursor 962 ∷ [])
+    ∷ obeysFrom (0 ∷ 206 ∷ 206 ∷ []) (protectAt 0) (0x09 ∷ []) (Cursor 3 ∷ [])
+    ∷ obeysFrom (0 ∷ 206 ∷ 206 ∷ []) (protectAt 3) (esc 0x49) (Cursor 0 ∷ [])
     ∷ obeysFrom (206 ∷ []) (protectAt 1) (0x09 ∷ []) (Cursor 1 ∷ [])
     ∷ obeysFrom (206 ∷ []) (protectAt 1) (esc 0x49) (Cursor 1 ∷ [])
     ∷ obeys (esc 0x2c ++ lower ++ esc 0x26 ++ 0x09 ∷ []) (Cursor 960 ∷ [])
