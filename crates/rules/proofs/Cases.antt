@@ -24,15 +24,19 @@ use Rattle.rules.specs.PossibleCases.{placed, keyed, attributed, feature
 use Rattle.rules.specs.Cases.{CaseList}
 
 pub cases : CaseList
-unfolding completes runCompletes callCompletes anyCompleted completesFrom stepCompletes same replies answers holds allHold casesHold host esc goTo labelled halves lower threeLetters lettersBelow pageOf cursorAt protectAt upperAt lowerAt belled fullKeys typed obeys refuses obeysFrom refusesFrom countsOf restsOf segmentsOf modesOf stopsFrom movingCases writingCases replyCases callCases span lastAnswer triedHold bytesHold low high digitBytes attributeBytes escapeBytes firstBytes argumentBytes addressBytes decimalBytes placed keyed attributed featured stopped possibleStates impossibleStates allPossible nonePossible over powerOnRule
-    columns rowEnd marksBy others startsFrom firstIn lastIn around aroundBack within filled shiftLeft shiftRight editShifted rowsShifted
-    columnFilled segmentTop segmentBottom cursorOf withCursor withMode changed keyBytes powerOn blank unsplitOk splitOk screenOk allBelow
-    keyOk keysOk isAttribute attributesOk featurePlace featuresOk isKey pendingOk noStops possible good lookup idleRule escapeRule judged
-    attributeContents featureRule fieldRule splitRule digitRule decimalRowRule decimalColumnRule keyValueRule keyTextRule keyOverRule
-    decodeRule unlessGuarded scrolls nextCell atTop upCell reversePlan downPlan tabCell backTabCell addressPlan movePlan activate isSegment
-    windowPlan storing advancing storePlan rowEditPlan editPlan clearPlan settingPlan sendPlan excludedPlan planRule applied separator
-    openCell textFrom replied landed done carried overfull programmed obeyed innerRule stepRule joined repeated runRule keySends pressRule
-    ofStep ofRun ofPress callRule after play
+unfolding completes runCompletes callCompletes anyCompleted completesFrom stepCompletes same replies answers holds allHold casesHold host
+    esc goTo labelled halves lower threeLetters lettersBelow pageOf cursorAt protectAt upperAt lowerAt belled fullKeys typed obeys refuses
+    obeysFrom refusesFrom countsOf restsOf segmentsOf modesOf stopsFrom movingCases writingCases replyCases callCases span lastAnswer
+    triedHold bytesHold low high digitBytes attributeBytes escapeBytes firstBytes argumentBytes addressBytes decimalBytes placed keyed
+    attributed featured stopped possibleStates impossibleStates allPossible nonePossible over powerOnRule columns rowEnd marksBy others
+    startsFrom firstIn lastIn around aroundBack within filled shiftLeft shiftRight editShifted rowsShifted columnFilled segmentTop
+    segmentBottom cursorOf withCursor withMode changed keyBytes powerOn blank unsplitOk splitOk screenOk allBelow keyOk keysOk isAttribute
+    attributesOk featurePlace featuresOk isKey pendingOk noStops possible good lookup idleRule escapeRule judged attributeContents
+    featureRule fieldRule splitRule digitRule decimalRowRule decimalColumnRule keyValueRule keyTextRule keyOverRule decodeRule unlessGuarded
+    scrolls nextCell atTop upCell reversePlan downPlan tabCell backTabCell addressPlan movePlan activate isSegment windowPlan storing
+    advancing storePlan rowEditPlan editPlan clearPlan settingPlan sendPlan excludedPlan planRule applied separator openCell textFrom
+    replied landed done carried overfull programmed obeyed innerRule stepRule joined repeated runRule keySends pressRule ofStep ofRun
+    ofPress callRule after play
 cases = record {
   moving = refl;
   writing = refl;
@@ -48,11 +52,5 @@ cases = record {
   short-page = refl;
   long-page = refl;
   room = refl;
-  six = refl;
-  six-steps = refl;
-  six-behind = refl;
-  six-text = refl;
-  six-no-room = refl;
-  six-argument = refl;
-  not-six = refl;
+  completed = record { in-run = refl; in-steps = refl; behind = refl; as-text = refl; no-room = refl; as-argument = refl; others = refl };
 }

@@ -1,4 +1,7 @@
 -- The test that demand 3 is stated with is true exactly if some byte taken in the list completes one of the six.
+--     characterised     both directions
+--     unless-completed     demand 3 without the test
+--     none-completed     what completes nothing
 -- Assumes nothing.
 use mathlib.Core.Path.{_≡_, refl, sym, ap, _∙_}
 use mathlib.Core.Bool.{Bool, true, false, false≢true}
@@ -18,9 +21,10 @@ use Rattle.rules.specs.Possible.{good}
 use Rattle.rules.specs.Step.{Outcome, stepRule}
 use Rattle.rules.specs.Calls.{Ran, ended, joined, repeated, runRule, Call, Step, Run, Press, callRule, Given, Played, after, play}
 use Rattle.rules.specs.Noninterference.{afterEscape, anyOf, excludedBytes, completes, runCompletes, callCompletes, anyCompleted}
-use Rattle.rules.specs.Completed.{OneOfSix, protect-off, clear-nulls, clear-spaces, clear-protected, send-row, send-segment, Completing, CompletedInRun, CompletedIn, in-step, in-run, Completed, Characterised, NoneCompleted}
+use Rattle.rules.specs.Completed.{OneOfSix, protect-off, clear-nulls, clear-spaces, clear-protected, send-row, send-segment, Completing, CompletedInRun, CompletedIn, in-step, in-run, Completed, Characterised, UnlessCompleted, NoneCompleted}
 use Rattle.rules.proofs.Tests.{either-way, both-parts, both-true}
 use Rattle.rules.proofs.Run.{run-go}
+use Rattle.rules.proofs.Noninterference.{noninterference}
 
 either-parts : (a b : Bool) → either a b ≡ true → (a ≡ true) ⊎ (b ≡ true)
 either-parts true b e = inl refl
@@ -288,11 +292,15 @@ characterised = record {
   completed-counted = λ calls p s x. rw (x .whole) (list-counted (x .earlier) (x .call) (x .later) p s (x .inside));
 }
 
--- ---- what completes nothing
-
 not-true : (t : Bool) → (t ≡ true → ⊥) → t ≡ false
 not-true true h = absurd (h refl)
 not-true false h = refl
+
+pub unless-completed : UnlessCompleted
+unless-completed p q s t calls on alike none =
+    noninterference p q s t calls on alike (not-true (anyCompleted calls p s) (λ e. none (list-completed calls p s e)))
+
+-- ---- what completes nothing
 
 none-in : (p : List ℕ) (s : State) (c : Call) → (CompletedIn p s c → ⊥) → anyCompleted (c ∷ []) p s ≡ false
 unfolding anyCompleted

@@ -3,16 +3,16 @@
 -- true exactly then.
 use mathlib.Core.Path.{_≡_}
 use mathlib.Core.Bool.{Bool, true, false}
-use mathlib.Core.List.{List, [], _∷_, _++_}
+use mathlib.Core.List.{List, [], _∷_, _++_, map}
 use Prim.Native.Nat.{ℕ, _-_}
-use lib.ListN.{length}
+use lib.ListN.{length, replicate}
 use Rattle.rules.specs.declared.State.{State}
 use Rattle.rules.specs.declared.Pending.{Pending}
 use Rattle.rules.specs.declared.Pending.the-variants as Pending
 use Rattle.rules.specs.Possible.{powerOn, blank, good}
 use Rattle.rules.specs.Step.{stepRule}
 use Rattle.rules.specs.Calls.{Call, Step, Run, Press, runRule, play}
-use Rattle.rules.specs.Noninterference.{anyCompleted}
+use Rattle.rules.specs.Noninterference.{Alike, anyCompleted, Indistinguishable}
 
 -- the six, by their last bytes: ESC ', ESC *, ESC +, ESC , and ESC 6, ESC 7
 pub data OneOfSix : ℕ → Type 0 where
@@ -58,6 +58,12 @@ pub record Characterised : Type 0 where
   pub counted-completed : (calls : List Call) (p : List ℕ) (s : State) → anyCompleted calls p s ≡ true → Completed calls p s
   pub completed-counted : (calls : List Call) (p : List ℕ) (s : State) → Completed calls p s → anyCompleted calls p s ≡ true
 
+-- demand 3, said with this in place of the test
+abbrev pub UnlessCompleted : Type 0
+UnlessCompleted =
+    (p q : List ℕ) (s t : State) (calls : List Call) → s .core .modes .protect ≡ true → Alike p q s t → (Completed calls p s → ⊥)
+    → Indistinguishable p q (play calls p s) (play calls q t)
+
 -- what completes nothing
 pub record NoneCompleted : Type 0 where
   pub empty : (p : List ℕ) (s : State) → anyCompleted [] p s ≡ false
@@ -79,3 +85,13 @@ completesFrom room bytes = anyCompleted (Run bytes room ∷ []) blank powerOn
 
 unfoldable pub stepCompletes : ℕ → Bool
 stepCompletes b = anyCompleted (Step 0x1b 1944 ∷ Step b 1944 ∷ []) blank powerOn
+
+-- each of the six is completed by its last byte, in a run and in steps; not as text, not without room, not as an argument
+pub record SixCompleted : Type 0 where
+  pub in-run : map (λ b. completesFrom 1944 (0x1b ∷ b ∷ [])) (0x27 ∷ 0x2a ∷ 0x2b ∷ 0x2c ∷ 0x36 ∷ 0x37 ∷ []) ≡ replicate 6 true
+  pub in-steps : map stepCompletes (0x27 ∷ 0x2a ∷ 0x2b ∷ 0x2c ∷ 0x36 ∷ 0x37 ∷ []) ≡ replicate 6 true
+  pub behind : completesFrom 1944 (0x41 ∷ 0x1b ∷ 0x3f ∷ 0x1b ∷ 0x36 ∷ 0x42 ∷ []) ≡ true
+  pub as-text : completesFrom 1944 (0x27 ∷ 0x2a ∷ 0x2b ∷ 0x2c ∷ 0x36 ∷ 0x37 ∷ []) ≡ false
+  pub no-room : map (λ b. completesFrom 0 (0x1b ∷ b ∷ [])) (0x36 ∷ 0x37 ∷ []) ≡ replicate 2 false
+  pub as-argument : completesFrom 1944 (0x1b ∷ 0x3d ∷ 0x27 ∷ 0x2a ∷ 0x1b ∷ 0x7a ∷ 0x40 ∷ 0x1b ∷ 0x2c ∷ 0x7f ∷ []) ≡ false
+  pub others : map stepCompletes (0x26 ∷ 0x28 ∷ 0x34 ∷ 0x35 ∷ 0x3a ∷ 0x7e ∷ []) ≡ replicate 6 false

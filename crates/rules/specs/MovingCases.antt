@@ -12,7 +12,7 @@ movingCases =
     ∷ obeysFrom (replicate 5 0 ++ 206 ∷ []) (cursorAt 6) (goTo 0 5) (Cursor 5 ∷ [])
     ∷ obeys (labelled 11 79 ++ halves ++ esc 0x26 ++ goTo 11 79) (Cursor 0 ∷ [])
     ∷ obeys (esc 0x4e ++ labelled 12 0 ++ labelled 23 79 ++ lower ++ esc 0x26 ++ goTo 11 79) (Cursor 961 ∷ [])
-    ∷ obeys (esc 0x2c ++ lower ++ esc 0x26 ++ goTo 3 3) (Cursor 960 ∷ [])
+    ∷ obeysFrom [] (lowerAt 960) (esc 0x2c ++ esc 0x26 ++ goTo 3 3) (Cursor 960 ∷ [])
     -- a move that stays settles; protect-on settles, on already or not
     ∷ obeysFrom (206 ∷ []) (protectAt 0) (0x08 ∷ []) (Cursor 1 ∷ [])
     ∷ obeysFrom (206 ∷ []) (protectAt 0) (esc 0x6a) (Cursor 1 ∷ [])
@@ -105,8 +105,8 @@ movingCases =
     ∷ obeysFrom (0 ∷ 206 ∷ 206 ∷ []) (protectAt 3) (esc 0x49) (Cursor 0 ∷ [])
     ∷ obeysFrom (206 ∷ []) (protectAt 1) (0x09 ∷ []) (Cursor 1 ∷ [])
     ∷ obeysFrom (206 ∷ []) (protectAt 1) (esc 0x49) (Cursor 1 ∷ [])
-    ∷ obeys (esc 0x2c ++ lower ++ esc 0x26 ++ 0x09 ∷ []) (Cursor 960 ∷ [])
-    ∷ obeys (esc 0x2c ++ lower ++ esc 0x26 ++ esc 0x49) (Cursor 960 ∷ [])
+    ∷ obeysFrom [] (lowerAt 960) (esc 0x2c ++ esc 0x26 ++ 0x09 ∷ []) (Cursor 960 ∷ [])
+    ∷ obeysFrom [] (lowerAt 960) (esc 0x2c ++ esc 0x26 ++ esc 0x49) (Cursor 960 ∷ [])
     -- ESC =: within the segment, rows from its top; nothing moves before the last byte
     ∷ obeys (goTo 23 79) (Cursor 1919 ∷ [])
     ∷ obeysFrom [] (lowerAt 960) (goTo 1 2) (Cursor 1042 ∷ [])

@@ -32,6 +32,8 @@ replyCases =
     -- each leaves the other modes
     ∷ obeysFrom [] (protectAt 0) (esc 0x29 ++ esc 0x71 ++ 0x0f ∷ [] ++ esc 0x6b ++ esc 0x4f) (InModes (1 ∷ 1 ∷ 1 ∷ 1 ∷ 1 ∷ 1 ∷ []) ∷ [])
     ∷ obeysFrom [] (protectAt 0) (esc 0x29 ++ esc 0x71 ++ 0x0f ∷ [] ++ esc 0x6b ++ esc 0x27) (InModes (0 ∷ 1 ∷ 1 ∷ 1 ∷ 1 ∷ 1 ∷ []) ∷ [])
+    -- the lock bars key presses only
+    ∷ obeys (0x0f ∷ 0x41 ∷ []) (Cell 0 0x41 ∷ Cursor 1 ∷ [])
     -- ESC 1, 2, 0 set, clear, clear all tab stops
     ∷ obeysFrom [] (cursorAt 8) (esc 0x31 ++ goTo 1 79 ++ esc 0x31 ++ goTo 2 3 ++ esc 0x31) (TabStops (3 ∷ 8 ∷ 79 ∷ []) ∷ Cursor 163 ∷ [])
     ∷ obeysFrom [] (cursorAt 8) (esc 0x31 ++ goTo 0 79 ++ esc 0x31 ++ goTo 2 8 ++ esc 0x32) (TabStops (79 ∷ []) ∷ Cursor 168 ∷ [])
