@@ -28,6 +28,7 @@ callCases =
     ∷ from-power-on (Run (0x41 ∷ 0x42 ∷ [] ++ esc 0x3f ++ esc 0x3f ++ 0x43 ∷ []) 5 ∷ [])
     (Answers (6 ∷ []) ∷ Counts (5 ∷ 3 ∷ 0 ∷ []) ∷ Rests (0x3f ∷ 0x43 ∷ []) ∷ Replies (0x20 ∷ 0x22 ∷ 0x0d ∷ []) ∷ Cell 2 0 ∷ Cursor 2 ∷ [])
     ∷ from-power-on (Run (0x05 ∷ 0x05 ∷ 0x05 ∷ []) 2 ∷ []) (Answers (6 ∷ []) ∷ Counts (2 ∷ 2 ∷ 0 ∷ []) ∷ Rests (0x05 ∷ []) ∷ Replies (0x06 ∷ 0x06 ∷ []) ∷ [])
+    ∷ from-power-on (Run (0x05 ∷ [] ++ esc 0x20) 4 ∷ []) (Answers (0 ∷ []) ∷ Counts (3 ∷ 4 ∷ 0 ∷ []) ∷ Replies (0x06 ∷ 0x35 ∷ 0x30 ∷ 0x0d ∷ []) ∷ [])
     ∷ from-power-on (Run (0x05 ∷ 0x41 ∷ []) 0 ∷ []) (Answers (6 ∷ []) ∷ Counts (0 ∷ 0 ∷ 0 ∷ []) ∷ Rests (0x05 ∷ 0x41 ∷ []) ∷ Cell 0 0 ∷ [])
     ∷ from-power-on (Run (0x41 ∷ 0x42 ∷ [] ++ esc 0x3f ++ 0x1b ∷ []) 5 ∷ Run (0x3f ∷ 0xe9 ∷ 0x43 ∷ []) 5 ∷ [])
     (Answers (0 ∷ 0 ∷ []) ∷ Counts (5 ∷ 3 ∷ 0 ∷ 3 ∷ 3 ∷ 1 ∷ []) ∷ Rests [] ∷ Replies (0x20 ∷ 0x22 ∷ 0x0d ∷ 0x20 ∷ 0x22 ∷ 0x0d ∷ []) ∷ Cell 2 0x43 ∷ Cursor 3 ∷ [])

@@ -18,6 +18,8 @@ movingCases =
     ∷ obeysFrom (206 ∷ []) (protectAt 0) (esc 0x6a) (Cursor 1 ∷ [])
     ∷ obeysFrom (206 ∷ []) (protectAt 0) (esc 0x26) (Cursor 1 ∷ [])
     ∷ obeysFrom (206 ∷ []) (cursorAt 0) (esc 0x26) (Cursor 1 ∷ [])
+    -- the 128s bit alone says what is protected, whatever the kind
+    ∷ obeysFrom (0x1b4 ∷ 0xff80 ∷ 0x100 ∷ []) (cursorAt 0) (esc 0x26) (Cursor 2 ∷ [])
     -- split, unsplit and activation settle the active cursor, and no other
     ∷ obeysFrom (206 ∷ []) (protectAt 1) halves (Segments 0 13 1 960 ∷ [])
     ∷ obeysFrom (206 ∷ []) (lowerAt 960) (esc 0x26 ++ esc 0x78 ++ 0x30 ∷ []) (Segments 0 0 1 0 ∷ [])
