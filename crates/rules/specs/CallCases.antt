@@ -45,8 +45,8 @@ callCases =
     -- ESC z: bytes are stored literally, ESC and controls too; up to 8; 80h and above 1, not gathered
     ∷ from-power-on (host (0x1b ∷ 0x7a ∷ 0x4f ∷ 0x1b ∷ 0x0d ∷ 0xe9 ∷ 0x61 ∷ 0x7f ∷ []) ++ Press 0x4f 8 ∷ Press 0x60 8 ∷ [])
     (Answers (0 ∷ 0 ∷ 0 ∷ 0 ∷ 0 ∷ 1 ∷ 0 ∷ 0 ∷ 0 ∷ 0 ∷ []) ∷ Replies (0x1b ∷ 0x0d ∷ 0x61 ∷ 0x01 ∷ 0x60 ∷ 0x0d ∷ []) ∷ Cursor 0 ∷ [])
-    ∷ from-power-on (host ((0x1b ∷ 0x7a ∷ 0x60 ∷ replicate 8 0x61) ++ 0x7f ∷ []) ++ Press 0x60 8 ∷ Press 0x4f 8 ∷ [])
-    (Answers (replicate 14 0) ∷ Replies (replicate 8 0x61 ++ 0x01 ∷ 0x4f ∷ 0x0d ∷ []) ∷ [])
+    ∷ from-power-on (host ((0x1b ∷ 0x7a ∷ 0x60 ∷ replicate 8 0x61) ++ 0x7f ∷ []) ++ Press 0x60 8 ∷ Press 0x4f 8 ∷ Press 0x40 8 ∷ [])
+    (Answers (replicate 15 0) ∷ Replies (replicate 8 0x61 ++ 0x01 ∷ 0x4f ∷ 0x0d ∷ 0x01 ∷ 0x40 ∷ 0x0d ∷ []) ∷ [])
     -- 32 full keys are not too many
     ∷ from-page blank fullKeys (host ((0x1b ∷ 0x7a ∷ 0x40 ∷ replicate 8 0x62) ++ 0x7f ∷ []) ++ Press 0x40 8 ∷ [])
     (Answers (replicate 13 0) ∷ Replies (replicate 8 0x62) ∷ [])

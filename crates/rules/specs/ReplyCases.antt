@@ -32,6 +32,7 @@ replyCases =
     -- each leaves the other modes
     ∷ obeysFrom [] (protectAt 0) (esc 0x29 ++ esc 0x71 ++ 0x0f ∷ [] ++ esc 0x6b ++ esc 0x4f) (InModes (1 ∷ 1 ∷ 1 ∷ 1 ∷ 1 ∷ 1 ∷ []) ∷ [])
     ∷ obeysFrom [] (protectAt 0) (esc 0x29 ++ esc 0x71 ++ 0x0f ∷ [] ++ esc 0x6b ++ esc 0x27) (InModes (0 ∷ 1 ∷ 1 ∷ 1 ∷ 1 ∷ 1 ∷ []) ∷ [])
+    ∷ obeys (esc 0x4f ++ esc 0x6b ++ 0x0f ∷ [] ++ esc 0x71 ++ esc 0x29 ++ esc 0x26) (InModes (1 ∷ 1 ∷ 1 ∷ 1 ∷ 1 ∷ 1 ∷ []) ∷ [])
     -- the lock bars key presses only
     ∷ obeys (0x0f ∷ 0x41 ∷ []) (Cell 0 0x41 ∷ Cursor 1 ∷ [])
     -- ESC 1, 2, 0 set, clear, clear all tab stops
