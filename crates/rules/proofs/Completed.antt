@@ -248,7 +248,7 @@ good-run-counted p s bytes room x =
     let e = good-run p s (x .before) room (answers-good p s (x .before) room (x .taken)) in
     rw (x .whole) (run-counted (x .before) (x .byte) (x .behind) p s room (rw e (x .taken)) (rw e (x .completing)))
 
-call-completed : (p : List ℕ) (s : State) (c : Call) → callCompletes p s c ≡ true → CompletedIn p s c
+pub call-completed : (p : List ℕ) (s : State) (c : Call) → callCompletes p s c ≡ true → CompletedIn p s c
 unfolding callCompletes
 call-completed p s (Step b room) e = in-step p s b room (byte-completed p s b room e)
 call-completed p s (Run bytes room) e = by (good p s) refl e
@@ -292,7 +292,7 @@ characterised = record {
   completed-counted = λ calls p s x. rw (x .whole) (list-counted (x .earlier) (x .call) (x .later) p s (x .inside));
 }
 
-not-true : (t : Bool) → (t ≡ true → ⊥) → t ≡ false
+pub not-true : (t : Bool) → (t ≡ true → ⊥) → t ≡ false
 not-true true h = absurd (h refl)
 not-true false h = refl
 

@@ -1,6 +1,8 @@
 -- Demand 3, proved. A plan is made from the state and from which cells are guarded, and these are equal in both terminals: so are the plans.
 -- Unless one of the six is completed, a plan leaves protect mode on, writes to no guarded cell and replies with none (Unrevealing), so replies
 -- agree and the pages stay related (Related). By induction over the bytes of a run and over the calls nothing else tells the two apart.
+--     noninterference     demand 3
+--     start-related, call-agrees, related-kept     its start, one call, its end: for calls in another form
 -- Assumes nothing.
 use mathlib.Core.Path.{_≡_, refl, sym, ap, _∙_}
 use mathlib.Core.Bool.{Bool, true, false, false≢true}
@@ -27,12 +29,12 @@ use Rattle.rules.specs.Plan.{planRule}
 use Rattle.rules.specs.Carry.{Effect, effect, planWidth, replyOf, landed, pageAfter, done, carried}
 use Rattle.rules.specs.Step.{overfull, programmed, obeyed, innerRule, Outcome, outcomeOf, stepRule}
 use Rattle.rules.specs.Calls.{Ran, ended, joined, repeated, runRule, pressRule, Call, Step, Run, Press, Called, ofStep, ofRun, ofPress, callRule, Played, after, play}
-use Rattle.rules.specs.Noninterference.{afterEscape, anyOf, excludedBytes, completes, runCompletes, callCompletes, anyCompleted, Demand3}
+use Rattle.rules.specs.Noninterference.{afterEscape, anyOf, excludedBytes, completes, runCompletes, callCompletes, anyCompleted, AlikePages, KeptPages, Demand3}
 use Rattle.rules.proofs.Related.{Related, related-alike, related-cell, related-length, related-guards, related-write, related-reply, related-reply-length}
 use Rattle.rules.proofs.Unrevealing.{both-false, isExcluded, Unrevealing, unrevealing}
 use Rattle.rules.proofs.ExcludedBytes.{givesExcluded, excluded-bytes}
 
-abbrev protects : State → Bool
+abbrev pub protects : State → Bool
 protects s = s .core .modes .protect
 
 -- one test in both terminals
@@ -159,11 +161,11 @@ record AgreeRun (p q : List ℕ) (a b : Ran) : Type 0 where
   related : Related p q (a .page) page
   on : protects (a .state) ≡ true
 
-either-left : (a b : Bool) → either a b ≡ false → a ≡ false
+pub either-left : (a b : Bool) → either a b ≡ false → a ≡ false
 either-left true b e = e
 either-left false b e = refl
 
-either-right : (a b : Bool) → either a b ≡ false → b ≡ false
+pub either-right : (a b : Bool) → either a b ≡ false → b ≡ false
 either-right true b e = absurd (false≢true (sym e))
 either-right false b e = e
 
@@ -210,10 +212,10 @@ repeated-agrees (b ∷ bs) h s on room c = byte-agrees h s on b bs room c (λ y 
 
 -- ---- calls
 
-record AgreeCall (p q : List ℕ) (a b : Called) : Type 0 where
-  given : b .given ≡ a .given
-  related : Related p q (a .page) (b .page)
-  on : protects (a .given .state) ≡ true
+pub record AgreeCall (p q : List ℕ) (a b : Called) : Type 0 where
+  pub given : b .given ≡ a .given
+  pub related : Related p q (a .page) (b .page)
+  pub on : protects (a .given .state) ≡ true
 
 module _ {p q x y : List ℕ} (h : Related p q x y) (s : State) (on : protects s ≡ true) where
   run-agrees : (bs : List ℕ) (room : ℕ) → callCompletes x s (Run bs room) ≡ false → AgreeRun p q (runRule x s bs room) (runRule y s bs room)
@@ -222,7 +224,7 @@ module _ {p q x y : List ℕ} (h : Related p q x y) (s : State) (on : protects s
       rw (← (good-agrees h s on))
       (pick-agrees (AgreeRun p q) (good x s) (λ t. repeated-agrees bs h s on room (rw t at c)) (λ t. ended-agrees h s on 7 bs))
 
-  call-agrees : (c : Call) → callCompletes x s c ≡ false → AgreeCall p q (callRule x s c) (callRule y s c)
+  pub call-agrees : (c : Call) → callCompletes x s c ≡ false → AgreeCall p q (callRule x s c) (callRule y s c)
   unfolding callRule callCompletes ofStep ofRun ofPress pressRule
   call-agrees (Step b room) c =
       let a = step-agrees h s on b room c in
@@ -249,15 +251,19 @@ play-agrees (c ∷ cs) {x = x} h s on e =
     let b = play-agrees cs (a .related) (r .given .state) (a .on) (either-right (callCompletes x s c) _ e) in
     rw (a .given) record { given = rw (b .given); state = b .state; related = b .related }
 
+-- pages alike are related to themselves, and related pages are kept as the statement says
+pub start-related : (p q : List ℕ) → AlikePages p q → Related p q p q
+start-related p q alike = related-alike p q (alike .length) (alike .bits) (alike .cells)
+
+pub related-kept : {p q x y : List ℕ} → Related p q x y → KeptPages p q x y
+related-kept h = record {
+  length = related-length h;
+  open-cells = λ i. related-cell h i .open-cell;
+  first = λ i. related-cell h i .first;
+  second = λ i. related-cell h i .second;
+}
+
 pub noninterference : Demand3
 noninterference p q s t calls on alike e =
-    let a = play-agrees calls (related-alike p q (alike .length) (alike .bits) (alike .cells)) s on e in
-    rw (← (alike .state))
-    record {
-      given = a .given;
-      state = a .state;
-      length = related-length (a .related);
-      open-cells = λ i. related-cell (a .related) i .open-cell;
-      first = λ i. related-cell (a .related) i .first;
-      second = λ i. related-cell (a .related) i .second;
-    }
+    let a = play-agrees calls (start-related p q (alike .pages)) s on e in
+    rw (← (alike .state)) record { given = a .given; state = a .state; pages = related-kept (a .related) }

@@ -13,13 +13,16 @@ use Rattle.rules.specs.Possible.{good}
 use Rattle.rules.specs.Step.{stepRule}
 use Rattle.rules.specs.Calls.{Call, Step, Run, Press, callRule, Played, play}
 
--- "alike" at the start: the same state, the same page length, the same protected bit in each cell, and the same number in each unprotected
--- cell
-pub record Alike (p q : List ℕ) (s t : State) : Type 0 where
-  pub state : s ≡ t
+-- pages alike at the start: the same length, the same protected bit in each cell, and the same number in each unprotected cell
+pub record AlikePages (p q : List ℕ) : Type 0 where
   pub length : lib.ListN.length p ≡ lib.ListN.length q
   pub bits : (i : ℕ) → i < lib.ListN.length p → protected (getD p i 0) ≡ protected (getD q i 0)
   pub cells : (i : ℕ) → i < lib.ListN.length p → protected (getD p i 0) ≡ false → getD p i 0 ≡ getD q i 0
+
+-- "alike" at the start: the same state, and pages alike
+pub record Alike (p q : List ℕ) (s t : State) : Type 0 where
+  pub state : s ≡ t
+  pub pages : AlikePages p q
 
 -- the sequence under way is a bare ESC: the next byte is the last of a two-byte command, and no other sequence's argument
 abbrev pub afterEscape : Pending → Bool
@@ -77,15 +80,19 @@ anyCompleted (c ∷ cs) p s =
     let r = callRule p s c in
     either (callCompletes p s c) (anyCompleted cs (r .page) (r .given .state))
 
--- After the list: all answers, counts, reply bytes, handed-back input and states agree after every call, and so do the states at the end.
--- Cells open at the start have equal numbers in both, and each cell protected at the start has, in each terminal, the number it had there
+-- The pages a and b after the list, from p and q: cells open at the start have equal numbers in both, and each cell protected at the start
+-- has, in each terminal, the number it had there
+pub record KeptPages (p q a b : List ℕ) : Type 0 where
+  pub length : lib.ListN.length a ≡ lib.ListN.length b
+  pub open-cells : (i : ℕ) → protected (getD p i 0) ≡ false → getD a i 0 ≡ getD b i 0
+  pub first : (i : ℕ) → protected (getD p i 0) ≡ true → getD a i 0 ≡ getD p i 0
+  pub second : (i : ℕ) → protected (getD q i 0) ≡ true → getD b i 0 ≡ getD q i 0
+
+-- After the list: all answers, counts, reply bytes, handed-back input and states agree after every call, and so do the states at the end
 pub record Indistinguishable (p q : List ℕ) (a b : Played) : Type 0 where
   pub given : a .given ≡ b .given
   pub state : a .state ≡ b .state
-  pub length : lib.ListN.length (a .page) ≡ lib.ListN.length (b .page)
-  pub open-cells : (i : ℕ) → protected (getD p i 0) ≡ false → getD (a .page) i 0 ≡ getD (b .page) i 0
-  pub first : (i : ℕ) → protected (getD p i 0) ≡ true → getD (a .page) i 0 ≡ getD p i 0
-  pub second : (i : ℕ) → protected (getD q i 0) ≡ true → getD (b .page) i 0 ≡ getD q i 0
+  pub pages : KeptPages p q (a .page) (b .page)
 
 -- any list of calls, from any page and state with protect mode on, in which the first terminal completes none of the six
 abbrev pub Demand3 : Type 0

@@ -13,7 +13,7 @@ use Rattle.rules.proofs.Noninterference.{noninterference}
 use Rattle.terminal.specs.Noninterference.{Made, stepped, ran, sent, Performed, none, next, CodeDemand3}
 
 -- the reply at the front of the room
-front : (l w w′ : List ℕ) (n : ℕ) → n ≡ length l → w′ ≡ over l w → take n w′ ≡ l
+pub front : (l w w′ : List ℕ) (n : ℕ) → n ≡ length l → w′ ≡ over l w → take n w′ ≡ l
 unfolding over
 front l w w′ n e h = rw (e, h) (take-append-seam l _)
 

@@ -2,3 +2,4 @@ mod Loops
 mod Calls
 pub mod RoundTrip
 pub mod Kept
+pub mod Noninterference

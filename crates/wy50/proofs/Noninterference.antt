@@ -1,0 +1,118 @@
+-- Demand 3 of the exported calls. A call on numbers that name a state is the rules' call on that state, which agrees in both terminals; on
+-- other numbers it is refused in both. So after each call the numbers are the same again.
+--     raw-noninterference     the theorem
+--     raw-characterised     when one of the six is completed
+-- Assumes nothing.
+use mathlib.Core.Path.{_≡_, refl, sym, ap, ap₂, subst, subst₂}
+use mathlib.Core.Bool.{Bool, true, false}
+use mathlib.Core.List.{List, [], _∷_}
+use mathlib.Core.Logic.{_⊎_, inl, inr}
+use Prim.Native.Nat.{ℕ}
+use native.Mathlib.Omega.{arith}
+use lib.ListN.{length}
+use Rattle.rules.specs.declared.State.{State}
+use Rattle.rules.specs.Calls.{Call, Step, Run, Press, ofStep, ofRun, ofPress, Called, callRule}
+use Rattle.rules.proofs.Related.{Related}
+use Rattle.rules.proofs.Noninterference.{AgreeCall, call-agrees, start-related, related-kept}
+use Rattle.rules.specs.Completed.{CompletedIn}
+use Rattle.rules.proofs.Completed.{call-completed, not-true}
+use Rattle.terminal.proofs.Noninterference.{front}
+use Rattle.wy50.specs.declared.raw.RawState.{RawState}
+use Rattle.wy50.specs.Raw.{flag, packed, unpacked, named}
+use Rattle.wy50.specs.Promise.{rawStep, rawRun, rawPress}
+use Rattle.wy50.specs.Noninterference.{RawGiven, RawCalled, rawCall, RawCompleted, first, later, Made, stepped, ran, sent, Performed, none, next, RawIndistinguishable, RawDemand3, RawCharacterised}
+use Rattle.wy50.proofs.RoundTrip.{packed-unpacked}
+
+-- ---- one call in both terminals
+
+-- a call of the rules with its state in numbers
+abbrev numbered : Called → RawCalled
+numbered r = record {
+  given = record {
+    answer = r .given .answer;
+    counts = r .given .counts;
+    reply = r .given .reply;
+    rest = r .given .rest;
+    state = packed (r .given .state);
+  };
+  page = r .page;
+}
+
+named-call : (p : List ℕ) (x : RawState) (c : Call) → named x ≡ true → rawCall p x c ≡ numbered (callRule p (unpacked x) c)
+unfolding rawCall rawStep rawRun rawPress callRule ofStep ofRun ofPress
+named-call p x (Step b room) e = rw e
+named-call p x (Run l room) e = rw e
+named-call p x (Press v room) e = rw (e, packed-unpacked x e)
+
+record AgreeRaw (p q : List ℕ) (a b : RawCalled) : Type 0 where
+  given : b .given ≡ a .given
+  related : Related p q (a .page) (b .page)
+  on : a .given .state .modes .protect ≡ 1
+
+flag-on : (b : Bool) → b ≡ true → flag b ≡ 1
+flag-on b e = ap flag e
+
+numbered-on : (s : State) → s .core .modes .protect ≡ true → packed s .modes .protect ≡ 1
+unfolding packed
+numbered-on s e = flag-on (s .core .modes .protect) e
+
+unpacked-on : (x : RawState) → x .modes .protect ≡ 1 → unpacked x .core .modes .protect ≡ true
+unfolding unpacked
+unpacked-on x e = rw e
+
+module _ {p q a b : List ℕ} (h : Related p q a b) (x : RawState) (on : x .modes .protect ≡ 1) where
+  named-agrees : (c : Call) → named x ≡ true → (CompletedIn a (unpacked x) c → ⊥) → AgreeRaw p q (rawCall a x c) (rawCall b x c)
+  named-agrees c e free =
+      let k = call-agrees h (unpacked x) (unpacked-on x on) c (not-true _ (λ t. free (call-completed a (unpacked x) c t))) in
+      rw (named-call a x c e, named-call b x c e)
+      (record { given = rw (k .given); related = k .related; on = numbered-on (callRule a (unpacked x) c .given .state) (k .on) })
+
+  unnamed-agrees : (c : Call) → named x ≡ false → AgreeRaw p q (rawCall a x c) (rawCall b x c)
+  unfolding rawCall rawStep rawRun rawPress
+  unnamed-agrees (Step v room) e = rw e (record { given = refl; related = h; on = on })
+  unnamed-agrees (Run l room) e = rw e (record { given = refl; related = h; on = on })
+  unnamed-agrees (Press v room) e = rw e (record { given = refl; related = h; on = on })
+
+  raw-agrees : (c : Call) → (named x ≡ true → CompletedIn a (unpacked x) c → ⊥) → AgreeRaw p q (rawCall a x c) (rawCall b x c)
+  raw-agrees c free = by (named x) refl where
+    by : (t : Bool) → named x ≡ t → AgreeRaw p q (rawCall a x c) (rawCall b x c)
+    by true e = named-agrees c e (free e)
+    by false e = unnamed-agrees c e
+
+-- ---- calls whose promises hold
+
+made-is : {p p′ : List ℕ} {x : RawState} {c : Call} {g : RawGiven} → Made p x c g p′ → rawCall p x c ≡ record { given = g; page = p′ }
+unfolding rawCall
+made-is {p} {p′} {x} (stepped {b = b} {w = w} {w′ = w′} {r = r} h) =
+    cc (h .answer, h .state, h .replied, h .page, front _ w w′ (r .replied) (h .replied) (h .room))
+made-is {p} {p′} {x} (ran {l = l} {w = w} {w′ = w′} {r = r} h) =
+    cc (h .answer, h .taken, h .replied, h .refused, h .rest, h .state, h .page, front _ w w′ (r .replied) (h .replied) (h .room))
+made-is {p} {p′} {x} (sent {v = v} {w = w} {w′ = w′} {r = r} h) = cc (h .answer, h .replied, front _ w w′ (r .replied) (h .replied) (h .room))
+
+-- by induction over the calls
+performed-agrees : {calls : List Call} {p q a b : List ℕ} {x y z : RawState} {gs hs : List RawGiven} {a′ b′ : List ℕ} → Related p q a b
+    → x .modes .protect ≡ 1 → (RawCompleted calls a x → ⊥) → Performed a x calls gs y a′ → Performed b x calls hs z b′
+    → RawIndistinguishable p q gs hs y z a′ b′
+performed-agrees h on free none none = record { given = refl; state = refl; pages = related-kept h }
+performed-agrees {p = p} {q = q} h on free (next {p = a} {p′ = a₁} {x = x} {c = c} {cs = cs} {g = g} m f) (next {p′ = b₁} {p″ = b″} {x″ = z} {g = k} {gs = ks} n l) =
+    let r = subst₂ (AgreeRaw p q) (made-is m) (made-is n) (raw-agrees h x on c (λ e k. free (first e k))) in
+    let free₁ : RawCompleted cs a₁ (g .state) → ⊥ =
+    subst (λ (r : RawCalled). RawCompleted cs (r .page) (r .given .state) → ⊥) (made-is m) (λ k. free (later k)) in
+    let l₁ : Performed b₁ (g .state) cs ks z b″ = subst (λ (k : RawGiven). Performed b₁ (k .state) cs ks z b″) (r .given) l in
+    let t = performed-agrees (r .related) (r .on) free₁ f l₁ in
+    record { given = ap₂ _∷_ (sym (r .given)) (t .given); state = t .state; pages = t .pages }
+
+pub raw-noninterference : RawDemand3
+raw-noninterference p q x calls gs hs y z a b on alike free f g = performed-agrees (start-related p q alike) on free f g
+
+some-call : {cs : List Call} {p : List ℕ} {x : RawState} → RawCompleted cs p x → cs ≡ [] → ⊥
+some-call (first e k) n = absurd (omega (arith, ap length n))
+some-call (later k) n = absurd (omega (arith, ap length n))
+
+by-first : {c : Call} {cs : List Call} {p : List ℕ} {x : RawState} → RawCompleted (c ∷ cs) p x
+    → ((named x ≡ true) × CompletedIn p (unpacked x) c) ⊎ RawCompleted cs ((rawCall p x c) .page) ((rawCall p x c) .given .state)
+by-first (first e k) = inl (e, k)
+by-first (later k) = inr k
+
+pub raw-characterised : RawCharacterised
+raw-characterised = record { none = λ p x k. some-call k refl; some = λ c cs p x k. by-first k }
