@@ -1,1 +1,4 @@
 pub mod Loops
+pub mod Puts
+pub mod Texts
+pub mod Watching

@@ -1,1 +1,5 @@
 pub mod Cells
+pub mod Room
+pub mod Fields
+pub mod Guarded
+pub mod Watch

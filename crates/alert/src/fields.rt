@@ -1,129 +1,156 @@
 // The open text, field by field. A field is a longest stretch of open cells within a row.
 ghost use mathlib.Core.Path.{_≡_};
-ghost use Prim.Native.Nat.{_≤_};
-ghost use lib.ListN.{length};
-ghost use Rattle.alert.specs.Cells.{like, Stretch, Spelled};
+ghost use mathlib.Core.Bool.{false};
+ghost use mathlib.Core.List.{[]};
+ghost use Prim.Native.Nat.{_+_, _-_, _*_, _%_, _≤_, _<_};
+ghost use lib.Dec.{eqb};
+ghost use lib.ListN.{length, getD, take};
+ghost use Rattle.rules.specs.Cell.{pick, either};
+ghost use Rattle.rules.specs.Row.{Width};
+ghost use Rattle.rules.specs.Search.{guardedAt, editEnd};
+ghost use Rattle.rules.specs.Carry.{textOf};
+ghost use Rattle.alert.specs.Room.{Puts};
+ghost use Rattle.alert.specs.Fields.{startsAt, fieldText, told as toldOf, fieldLine, openText, unguarded as unguardedText, message as messageOf};
 use crate::cells::trimmed;
-use crate::out;
-use page::cell::is_guarded;
-use page::cell::is_open;
-use page::cell::sent_code;
-use std::num::wrapping_add_u64;
+use crate::put;
+use page::search::edit_end;
+use page::search::is_guarded_at;
+use page::text::put_text;
 
-// Whether a cell is open, where open cells are wanted, or guarded.
-fn is_like(wanted: bool, protect: bool, v: u16) -> bool
-    ensures { λ r. ⌜ r ≡ like wanted protect v ⌝ }
+// Whether a cell is first in its row or follows a guarded cell.
+fn is_first(page: &[u16], width: usize, protect: bool, at: usize) -> bool
+    requires { ⌜ Width width × (at < length (now page)) ⌝ }
+    ensures { λ r. ⌜ r ≡ either (eqb (at % width) 0) (getD (guardedAt protect (now (page .entry))) (at - 1) false) ⌝ }
 {
-    if wanted {
-        is_open(protect, v)
-    } else {
-        is_guarded(protect, v)
+    if at % width == 0 {
+        return true;
     }
+    is_guarded_at(page, protect, at - 1)
 }
 
-// Where the stretch of open cells, or of guarded ones, ends that starts at `from`.
-fn stretch_end(row: &[u16], wanted: bool, protect: bool, from: usize) -> usize
-    requires { ⌜ from ≤ length (now row) ⌝ }
-    ensures { λ r. ⌜ Stretch (like wanted protect) (now (row .entry)) from r ⌝ }
+// Whether a field starts at a cell.
+fn starts(page: &[u16], width: usize, protect: bool, at: usize) -> bool
+    requires { ⌜ Width width × (at < length (now page)) ⌝ }
+    ensures { λ r. ⌜ r ≡ startsAt width (guardedAt protect (now (page .entry))) at ⌝ }
 {
-    let mut i = from;
-    while i < row.len() {
-        if !is_like(wanted, protect, row[i]) {
-            return i;
-        }
-        i += 1;
+    if is_guarded_at(page, protect, at) {
+        return false;
     }
-    i
+    is_first(page, width, protect, at)
 }
 
-// Puts what a send gives for each cell at the front of the text.
-fn spell(cells: &[u16], text: &mut [u8])
-    requires { ⌜ length (now cells) ≤ length (now text) ⌝ }
-    ensures { λ _. ⌜ Spelled (now (cells .entry)) (now (text .exit)) ⌝ }
+// The text of the field from `at` up to `end`, at the front of a row's room; its length.
+fn spell(text: &mut [u8], page: &[u16], width: usize, protect: bool, at: usize, end: usize) -> usize
+    requires { ⌜ Width width × ((length (now page) ≡ 24 * width) × ((at < 24 * width) × ((end ≡ editEnd width (guardedAt protect (now page)) at) × (132 ≤ length (now text))))) ⌝ }
+    ensures { λ r. ⌜ (r ≤ length (now (text .exit))) × (take r (now (text .exit)) ≡ fieldText width protect (now (page .entry)) at) ⌝ }
 {
-    let mut i = 0;
-    while i < cells.len() {
-        text[i] = sent_code(cells[i]);
-        i += 1;
-    }
+    let n = put_text(text, page, width, protect, at, end);
+    trimmed(&text[..n])
 }
 
-fn heading(number: u64, row: u64, column: u64, cells: u64) {
-    out::text(b"  field ");
-    out::number(number);
-    out::text(b" (");
-    out::place(row, column);
-    out::text(b", ");
-    out::count(cells, b"cell");
-    out::text(b"): ");
+fn told(room: &mut [u8], n: usize, text: &[u8]) -> usize
+    ensures { λ r. ⌜ Puts (toldOf (now (text .entry))) n (now (room .entry)) r (now (room .exit)) ⌝ }
+{
+    if text.len() == 0 {
+        return put::bytes(room, n, b"empty");
+    }
+    put::bytes(room, n, text)
 }
 
-// One field, its text without trailing spaces.
-fn show_field(cells: &[u16], number: u64, row: u64, column: u64)
-    requires { ⌜ length (now cells) ≤ 80 ⌝ }
+// The line of a field.
+fn line(
+    room: &mut [u8],
+    start: usize,
+    page: &[u16],
+    width: usize,
+    protect: bool,
+    number: u64,
+    at: usize,
+) -> usize
+    requires { ⌜ Width width × ((length (now page) ≡ 24 * width) × (at < 24 * width)) ⌝ }
+    ensures { λ r. ⌜ Puts (fieldLine width protect (now (page .entry)) number at) start (now (room .entry)) r (now (room .exit)) ⌝ }
 {
-    let mut text = [b' '; 80];
-    spell(cells, &mut text);
-    let n = trimmed(&text);
-    heading(number, row, column, cells.len() as u64);
-    if n == 0 {
-        out::text(b"empty");
-    }
-    out::text(&text[..n]);
-    out::text(b"\n");
+    let end = edit_end(page, width, protect, at);
+    let mut text = [b' '; 132];
+    let k = spell(&mut text, page, width, protect, at, end);
+    let a = put::bytes(room, start, b"  field ");
+    let b = put::decimal(room, a, number);
+    let c = put::bytes(room, b, b" (");
+    let d = put::place(room, c, width, at);
+    let e = put::bytes(room, d, b", ");
+    let f = put::count(room, e, (end - at) as u64, b"cell");
+    let g = put::bytes(room, f, b"): ");
+    let h = told(room, g, &text[..k]);
+    put::bytes(room, h, b"\n")
 }
 
-// The fields of a row, numbered on from `count`; answers the last number.
-fn show_row(cells: &[u16], protect: bool, row: u64, count: u64) -> u64
-    requires { ⌜ length (now cells) ≤ 80 ⌝ }
+// The line of a field that starts at a cell, if one does.
+fn line_if(
+    room: &mut [u8],
+    start: usize,
+    starts: bool,
+    page: &[u16],
+    width: usize,
+    protect: bool,
+    number: u64,
+    at: usize,
+) -> usize
+    requires { ⌜ Width width × ((length (now page) ≡ 24 * width) × (at < 24 * width)) ⌝ }
+    ensures { λ r. ⌜ Puts (pick starts (fieldLine width protect (now (page .entry)) number at) []) start (now (room .entry)) r (now (room .exit)) ⌝ }
 {
-    let mut number = count;
-    let mut i = 0;
-    while i < cells.len() {
-        let a = stretch_end(cells, false, protect, i);
-        if a == cells.len() {
-            break;
-        }
-        let e = stretch_end(cells, true, protect, a + 1);
-        number = wrapping_add_u64(number, 1);
-        show_field(&cells[a..e], number, row, a as u64 + 1);
-        i = e;
+    if starts {
+        return line(room, start, page, width, protect, number, at);
     }
-    number
+    start
 }
 
-// The fields of the page; answers how many there are.
-fn show_rows(page: &[u16], protect: bool) -> u64
-    requires { ⌜ length (now page) ≡ 1920 ⌝ }
+fn more(number: u64, starts: bool) -> u64
+    requires { ⌜ number ≤ 3168 ⌝ }
+    ensures { λ r. ⌜ r ≡ number + pick starts 1 0 ⌝ }
 {
-    let mut count = 0;
-    let mut r = 0;
-    while r < 24 {
-        let a = r * 80;
-        let e = a + 80;
-        count = show_row(&page[a..e], protect, r as u64 + 1, count);
-        r += 1;
+    if starts { number + 1 } else { number }
+}
+
+// A line for each field.
+fn lines(room: &mut [u8], start: usize, page: &[u16], width: usize, protect: bool) -> usize
+    requires { ⌜ Width width × (length (now page) ≡ 24 * width) ⌝ }
+    ensures { λ r. ⌜ Puts (openText width protect (now (page .entry))) start (now (room .entry)) r (now (room .exit)) ⌝ }
+{
+    let mut n = start;
+    let mut number = 0;
+    let mut at = 0;
+    while at < page.len() {
+        let is = starts(page, width, protect, at);
+        n = line_if(room, n, is, page, width, protect, number + 1, at);
+        number = more(number, is);
+        at += 1;
     }
-    count
+    if number == 0 {
+        return put::bytes(room, n, b"  There is no open cell.\n");
+    }
+    n
 }
 
 // With protect mode off every cell is open, and no text is told apart from the labels.
-fn unguarded() {
-    out::text(
+fn unguarded(room: &mut [u8], n: usize) -> usize
+    ensures { λ r. ⌜ Puts unguardedText n (now (room .entry)) r (now (room .exit)) ⌝ }
+{
+    let a = put::bytes(
+        room,
+        n,
         b"  Protect mode is off: nothing is guarded, and a send would carry labels, account numbers and prices.\n",
     );
-    out::text(b"  No message is made from such a page.\n");
+    put::bytes(room, a, b"  No message is made from such a page.\n")
 }
 
-pub fn show(page: &[u16], protect: bool)
-    requires { ⌜ length (now page) ≡ 1920 ⌝ }
+// What members would be sent.
+pub fn message(room: &mut [u8], page: &[u16], width: usize, protect: bool) -> usize
+    requires { ⌜ Width width × (length (now page) ≡ 24 * width) ⌝ }
+    ensures { λ r. ⌜ Puts (messageOf width protect (now (page .entry))) 0 (now (room .entry)) r (now (room .exit)) ⌝ }
 {
-    out::text(b"\nOpen text, as members would be sent it\n");
-    if !protect {
-        unguarded();
-        return;
+    let n = put::bytes(room, 0, b"\nOpen text, as members would be sent it\n");
+    if protect {
+        return lines(room, n, page, width, protect);
     }
-    if show_rows(page, protect) == 0 {
-        out::text(b"  There is no open cell.\n");
-    }
+    unguarded(room, n)
 }

@@ -2,16 +2,23 @@
 // the replies. The stream is standard input, or the file that the first argument names.
 mod cells;
 mod fields;
+mod guarded;
 mod out;
 mod picture;
+mod put;
 mod report;
 mod stream;
 
 ghost use mathlib.Core.Path.{_≡_};
+ghost use mathlib.Core.List.{List};
+ghost use Prim.Native.Nat.{ℕ};
 ghost use lib.ListN.{length};
+ghost use Rattle.alert.specs.Watch.{Came};
 use libc::STDERR_FILENO;
 use libc::STDIN_FILENO;
 use stream::Played;
+
+const COLUMNS: usize = 80;
 
 // What stopped the reading, with the system's reason.
 fn unreadable(name: &[u8]) {
@@ -19,8 +26,26 @@ fn unreadable(name: &[u8]) {
     os::fail(name);
 }
 
+// Prints what is told of the guarded cells.
+fn show_guarded(page: &[u16], drawn: &[u16], protect: bool)
+    requires { ⌜ (length (now page) ≡ 1920) × ((length (now drawn) ≡ 1920) × Came (now page) (now drawn) protect) ⌝ }
+{
+    let mut room = [0u8; 256];
+    let n = guarded::line(&mut room, page, drawn, COLUMNS, protect);
+    out::text(&room[..n]);
+}
+
+// Prints what members would be sent.
+fn show_message(page: &[u16], protect: bool)
+    requires { ⌜ (length (now page) ≡ 1920) × ((drawn : List ℕ) × Came (now page) drawn protect) ⌝ }
+{
+    let mut room = [0u8; 122880];
+    let n = fields::message(&mut room, page, COLUMNS, protect);
+    out::text(&room[..n]);
+}
+
 fn show(name: &[u8], page: &[u16], drawn: &[u16], p: Played, log: &[u8])
-    requires { ⌜ (length (now page) ≡ 1920) × (length (now drawn) ≡ 1920) ⌝ }
+    requires { ⌜ (length (now page) ≡ 1920) × ((length (now drawn) ≡ 1920) × Came (now page) (now drawn) (p .state .core .modes .protect)) ⌝ }
 {
     let state = p.state;
     let core = state.core;
@@ -34,9 +59,9 @@ fn show(name: &[u8], page: &[u16], drawn: &[u16], p: Played, log: &[u8])
     report::place(page, protect, screen);
     report::modes(modes);
     report::sequence(pending);
-    report::guarded(page, drawn, protect);
+    show_guarded(page, drawn, protect);
     report::refused(refusals, p.bytes, p.clean);
-    fields::show(page, protect);
+    show_message(page, protect);
     report::replies(p, log);
 }
 

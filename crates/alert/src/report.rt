@@ -3,7 +3,6 @@ ghost use mathlib.Core.Path.{_≡_};
 ghost use Prim.Native.Nat.{_≤_};
 ghost use lib.ListN.{length};
 ghost use Rattle.rules.specs.State.{cursorOf};
-ghost use Rattle.alert.specs.Cells.{kept, Kept};
 use crate::out;
 use crate::stream::Played;
 use crate::stream::Refusals;
@@ -99,66 +98,6 @@ pub fn sequence(q: Pending) {
         return;
     }
     out::text(b"Sequence  the stream ends within one\n");
-}
-
-// 1 for a guarded cell.
-fn guard(protect: bool, v: u16) -> u64 {
-    if is_guarded(protect, v) { 1 } else { 0 }
-}
-
-fn guarded_cells(page: &[u16], protect: bool) -> u64 {
-    let mut n = 0;
-    let mut i = 0;
-    while i < page.len() {
-        n = wrapping_add_u64(n, guard(protect, page[i]));
-        i += 1;
-    }
-    n
-}
-
-// Whether a cell that was guarded is as it was; any other cell is.
-fn is_kept(protect: bool, was: u16, is: u16) -> bool
-    ensures { λ r. ⌜ r ≡ kept protect was is ⌝ }
-{
-    if is_guarded(protect, was) {
-        is == was
-    } else {
-        true
-    }
-}
-
-// The first cell that was guarded and has changed, or the page's length.
-fn first_change(page: &[u16], drawn: &[u16], protect: bool) -> usize
-    requires { ⌜ length (now page) ≡ length (now drawn) ⌝ }
-    ensures { λ r. ⌜ Kept protect (now (drawn .entry)) (now (page .entry)) r ⌝ }
-{
-    let mut i = 0;
-    while i < page.len() {
-        if !is_kept(protect, drawn[i], page[i]) {
-            return i;
-        }
-        i += 1;
-    }
-    i
-}
-
-// `drawn` is the page as it was when protect mode went on.
-pub fn guarded(page: &[u16], drawn: &[u16], protect: bool)
-    requires { ⌜ length (now page) ≡ length (now drawn) ⌝ }
-{
-    if !protect {
-        return;
-    }
-    out::text(b"Guarded   ");
-    out::count(guarded_cells(page, protect), b"cell");
-    let at = first_change(page, drawn, protect);
-    if at == page.len() {
-        out::text(b", none changed since protect mode went on\n");
-        return;
-    }
-    out::text(b"; since protect mode went on the first that changed is at ");
-    cell_place(at as u64);
-    out::text(b"\n");
 }
 
 // A kind of refusal, where there was one: how many, of what, and why.

@@ -1,6 +1,11 @@
 // The bytes of the host, one by one to the terminal, and what came of them.
 ghost use mathlib.Core.Path.{_≡_};
 ghost use lib.ListN.{length};
+ghost use Rattle.rules.specs.Cell.{pick};
+ghost use Rattle.rules.specs.Possible.{powerOn};
+ghost use Rattle.rules.specs.Step.{stepRule};
+ghost use Rattle.rules.specs.Calls.{powerOnRule};
+ghost use Rattle.alert.specs.Watch.{Took, goesOn, watch, watched, FedBy, Fed, Came};
 use crate::cells::copy;
 use crate::cells::same;
 use rules::Answer;
@@ -32,7 +37,9 @@ pub struct Played {
 }
 
 // Power-on.
-fn start(page: &mut [u16]) -> Played {
+fn start(page: &mut [u16]) -> Played
+    ensures { λ r. ⌜ (r .state ≡ powerOn) × (now (page .exit) ≡ (powerOnRule (now (page .entry))) .page) ⌝ }
+{
     let on = terminal::power_on(page);
     let state = on.state;
     let none = Refusals {
@@ -91,7 +98,9 @@ fn keep(log: &mut [u8], at: usize, bytes: &[u8]) -> usize {
 }
 
 // One byte to the terminal.
-fn step(page: &mut [u16], p: Played, byte: u8, room: &mut [u8], log: &mut [u8]) -> Played {
+fn step(page: &mut [u16], p: Played, byte: u8, room: &mut [u8], log: &mut [u8]) -> Played
+    ensures { λ r. ⌜ Took (stepRule (now (page .entry)) (p .state) byte (length (now (room .entry)))) (r .state) (now (page .exit)) ⌝ }
+{
     let state = p.state;
     let r = terminal::step(page, state, byte, room);
     let next = r.state;
@@ -111,6 +120,18 @@ fn step(page: &mut [u16], p: Played, byte: u8, room: &mut [u8], log: &mut [u8]) 
     }
 }
 
+// What is told of a page that had to stay the same.
+fn compared(p: Played, same: bool) -> Played
+    ensures { λ r. ⌜ r .state ≡ p .state ⌝ }
+{
+    let mut t = p;
+    if same {
+        return t;
+    }
+    t.clean = false;
+    t
+}
+
 // A byte above 7Fh: the page is compared with what it was before.
 fn step_high(
     page: &mut [u16],
@@ -121,13 +142,11 @@ fn step_high(
     log: &mut [u8],
 ) -> Played
     requires { ⌜ length (now page) ≡ length (now before) ⌝ }
+    ensures { λ r. ⌜ Took (stepRule (now (page .entry)) (p .state) byte (length (now (room .entry)))) (r .state) (now (page .exit)) ⌝ }
 {
     copy(page, before);
-    let mut t = step(page, p, byte, room, log);
-    if !same(page, before) {
-        t.clean = false;
-    }
-    t
+    let t = step(page, p, byte, room, log);
+    compared(t, same(page, before))
 }
 
 fn take(
@@ -139,6 +158,7 @@ fn take(
     log: &mut [u8],
 ) -> Played
     requires { ⌜ length (now page) ≡ length (now before) ⌝ }
+    ensures { λ r. ⌜ Took (stepRule (now (page .entry)) (p .state) byte (length (now (room .entry)))) (r .state) (now (page .exit)) ⌝ }
 {
     if byte < 0x80 {
         return step(page, p, byte, room, log);
@@ -146,18 +166,22 @@ fn take(
     step_high(page, before, p, byte, room, log)
 }
 
-fn protects(p: Played) -> bool {
+fn protects(p: Played) -> bool
+    ensures { λ r. ⌜ r ≡ p .state .core .modes .protect ⌝ }
+{
     p.state.core.modes.protect
 }
 
 // Where protect mode has just gone on, the page is kept as the host drew it.
 fn remember(page: &[u16], drawn: &mut [u16], was: bool, is: bool)
     requires { ⌜ length (now page) ≡ length (now drawn) ⌝ }
+    ensures { λ _. ⌜ now (drawn .exit) ≡ pick (goesOn was is) (now (page .entry)) (now (drawn .entry)) ⌝ }
 {
-    if !was {
-        if is {
-            copy(page, drawn);
-        }
+    if was {
+        return;
+    }
+    if is {
+        copy(page, drawn);
     }
 }
 
@@ -171,6 +195,7 @@ fn obey(
     log: &mut [u8],
 ) -> Played
     requires { ⌜ (length (now page) ≡ length (now before)) × (length (now page) ≡ length (now drawn)) ⌝ }
+    ensures { λ r. ⌜ watch (now (page .exit)) (now (drawn .exit)) (r .state) ≡ watched (length (now (room .entry))) (watch (now (page .entry)) (now (drawn .entry)) (p .state)) byte ⌝ }
 {
     let t = take(page, before, p, byte, room, log);
     remember(page, drawn, protects(p), protects(t));
@@ -187,6 +212,7 @@ fn feed(
     log: &mut [u8],
 ) -> Played
     requires { ⌜ (length (now page) ≡ length (now before)) × (length (now page) ≡ length (now drawn)) ⌝ }
+    ensures { λ r. ⌜ FedBy (now (input .entry)) (length (now (room .entry))) (watch (now (page .entry)) (now (drawn .entry)) (p .state)) (watch (now (page .exit)) (now (drawn .exit)) (r .state)) ⌝ }
 {
     let mut t = p;
     let mut i = 0;
@@ -198,7 +224,9 @@ fn feed(
     t
 }
 
-fn ended(p: Played, failed: bool) -> Played {
+fn ended(p: Played, failed: bool) -> Played
+    ensures { λ r. ⌜ r .state ≡ p .state ⌝ }
+{
     let mut t = p;
     t.going = false;
     t.failed = failed;
@@ -216,6 +244,7 @@ fn piece(
     log: &mut [u8],
 ) -> Played
     requires { ⌜ (length (now page) ≡ length (now before)) × (length (now page) ≡ length (now drawn)) ⌝ }
+    ensures { λ r. ⌜ Fed (length (now (room .entry))) (watch (now (page .entry)) (now (drawn .entry)) (p .state)) (watch (now (page .exit)) (now (drawn .exit)) (r .state)) ⌝ }
 {
     let mut input = io::buffer();
     let got = libc::read(fd, &mut input);
@@ -237,6 +266,7 @@ fn pieces(
     log: &mut [u8],
 ) -> Played
     requires { ⌜ (length (now page) ≡ length (now before)) × (length (now page) ≡ length (now drawn)) ⌝ }
+    ensures { λ r. ⌜ Fed (length (now (room .entry))) (watch (now (page .entry)) (now (drawn .entry)) (start .state)) (watch (now (page .exit)) (now (drawn .exit)) (r .state)) ⌝ }
 {
     let mut p = start;
     let mut left = u64::MAX;
@@ -262,6 +292,7 @@ pub fn play(
     log: &mut [u8],
 ) -> Played
     requires { ⌜ (length (now page) ≡ length (now before)) × (length (now page) ≡ length (now drawn)) ⌝ }
+    ensures { λ r. ⌜ Came (now (page .exit)) (now (drawn .exit)) (r .state .core .modes .protect) ⌝ }
 {
     let p = start(page);
     pieces(fd, page, before, drawn, p, room, log)

@@ -1,4 +1,4 @@
--- `alert::stream::step` is safe and ends. Of the terminal it uses that a reply fits its room.
+-- `alert::stream::step` meets its contract. Of the terminal it uses its outcome, and that a reply fits its room.
 use mathlib.Core.Path.{sym}
 use lib.Seq.{length-take-le}
 use borrow.Author.Needs.{needs}
@@ -35,4 +35,6 @@ step-spec =
     -- same-length-3
     (λ c. search needs)
     -- returns
-    (λ c. search needs))
+    (λ c.
+    let s = c .before .before .before .before .before .before .before .before .before .before .before .before .before .before .step in
+    record { state = s .ensures .state; page = s .ensures .page }))

@@ -1,0 +1,32 @@
+-- `alert::show` is safe and ends. The pages that it shows are those that the stream left.
+use borrow.Author.Needs.{needs}
+use denote.Ref.{now}
+use Rattle.alert.proofs.show.Statement.{statement}
+use Rattle.alert.proofs.show.Tie as tie
+
+pub show-spec : {M : Type 1} → statement M
+show-spec =
+    tie.close
+    (tie.spec
+    -- heading-requires
+    (λ c κs. search needs)
+    -- cursor-of-requires
+    (λ c κs. search needs)
+    -- show-requires
+    (λ c κs. c .before .before .before .before .before .before .before .before .before .before .before .pre .0)
+    -- place-requires
+    (λ c κs. search needs)
+    -- modes-requires
+    (λ c κs. search needs)
+    -- sequence-requires
+    (λ c κs. search needs)
+    -- show-guarded-requires
+    (λ c κs. c .before .before .before .before .before .before .before .before .before .before .before .before .before .before .before .pre)
+    -- refused-requires
+    (λ c κs. search needs)
+    -- show-message-requires
+    (λ c κs. (c .before .before .before .before .before .before .before .before .before .before .before .before .before .before .before .before .before .pre .0, (now (c .before .before .before .before .before .before .before .before .before .before .before .before .before .before .before .before .before .args .drawn), c .before .before .before .before .before .before .before .before .before .before .before .before .before .before .before .before .before .pre .1 .1)))
+    -- replies-requires
+    (λ c κs. search needs)
+    -- returns
+    (λ c. search needs))
