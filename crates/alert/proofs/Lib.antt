@@ -2,3 +2,4 @@ pub mod Loops
 pub mod Puts
 pub mod Texts
 pub mod Watching
+pub mod Private

@@ -3,3 +3,4 @@ pub mod Room
 pub mod Fields
 pub mod Guarded
 pub mod Watch
+pub mod Private

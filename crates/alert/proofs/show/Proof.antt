@@ -1,4 +1,5 @@
 -- `alert::show` is safe and ends. The pages that it shows are those that the stream left.
+use native.Mathlib.Omega.{arith}
 use borrow.Author.Needs.{needs}
 use denote.Ref.{now}
 use Rattle.alert.proofs.show.Statement.{statement}
@@ -21,7 +22,7 @@ show-spec =
     -- sequence-requires
     (λ c κs. search needs)
     -- show-guarded-requires
-    (λ c κs. c .before .before .before .before .before .before .before .before .before .before .before .before .before .before .before .pre)
+    (λ c κs. (c .before .before .before .before .before .before .before .before .before .before .before .before .before .before .before .pre .0, (omega (arith, c .before .before .before .before .before .before .before .before .before .before .before .before .before .before .before .pre), c .before .before .before .before .before .before .before .before .before .before .before .before .before .before .before .pre .1 .1)))
     -- refused-requires
     (λ c κs. search needs)
     -- show-message-requires

@@ -25,7 +25,7 @@ line-spec =
     -- count-requires
     (λ c κs. search needs)
     -- first-change-requires
-    (λ c κs. (c .before .before .before .before .before .before .before .before .before .before .before .before .before .before .before .pre .1 .1, omega (arith, c .before .before .before .before .before .before .before .before .before .before .before .before .before .before .before .pre, page-small (c .before .before .before .before .before .before .before .before .before .before .before .before .before .before .before .pre .0))))
+    (λ c κs. (omega (arith, c .before .before .before .before .before .before .before .before .before .before .before .before .before .before .before .pre), omega (arith, c .before .before .before .before .before .before .before .before .before .before .before .before .before .before .before .pre, page-small (c .before .before .before .before .before .before .before .before .before .before .before .before .before .before .before .pre .0))))
     -- change-requires
     (λ c κs. (c .before .before .before .before .before .before .before .before .before .before .before .before .before .before .before .before .before .pre .0, (omega (arith, c .before .first-change .ensures, change-range (c .before .before .before .before .before .before .before .before .before .before .before .before .before .before .before .before .before .args .protect) 0 (now (c .before .before .before .before .before .before .before .before .before .before .before .before .before .before .before .before .before .args .drawn)) (now (c .before .before .before .before .before .before .before .before .before .before .before .before .before .before .before .before .before .args .page))), c .before .before .before .before .before .before .before .before .before .before .before .before .before .before .before .before .before .pre .1 .0)))
     -- same-length
