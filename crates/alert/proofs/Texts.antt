@@ -4,7 +4,7 @@
 --     columns, inside-row, field-range, field-fits, spelled        a field and its text
 --     starts-all, starts-count, starts-none, lines-on, lines-begin, lines-done, no-fields, some-fields     the loop over the cells
 --     line-put, message-on, message-off, guarded-on, guarded-off, place-small     what is told
---     more-cells, no-cells, keeps, changes, none-changes, change-range            the loops over the guarded cells
+--     more-cells, no-cells, keeps, changes, none-changes            the loops over the guarded cells
 -- Assumes nothing.
 use mathlib.Core.Path.{_≡_, refl, sym, ap, _∙_}
 use mathlib.Core.Bool.{Bool, true, false}
@@ -257,13 +257,3 @@ module _ (on : Bool) (was is : List ℕ) (i : ℕ) (same : length is ≡ length 
   pub none-changes : length is ≤ i → firstChange on i (drop i was) (drop i is) ≡ i
   unfolding firstChange
   none-changes h = rw (drop-of-length-le was {i = i} (omega arith))
-
-pub change-range : (on : Bool) (at : ℕ) (was is : List ℕ) → firstChange on at was is ≤ at + length is
-unfolding firstChange
-change-range on at [] is = omega arith
-change-range on at (x ∷ was) [] = omega arith
-change-range on at (x ∷ was) (y ∷ is) = by-test (kept on x y) (change-range on (suc at) was is)
-  where
-    by-test : (t : Bool) → firstChange on (suc at) was is ≤ suc at + length is → pick t (firstChange on (suc at) was is) at ≤ at + suc (length is)
-    by-test true h = omega arith
-    by-test false h = omega arith

@@ -43,7 +43,7 @@ fn is_kept(protect: bool, was: u16, is: u16) -> bool
 // The first cell that was guarded and has changed, or the page's length.
 fn first_change(page: &[u16], drawn: &[u16], protect: bool) -> usize
     requires { ⌜ (length (now page) ≡ length (now drawn)) × (length (now page) ≤ 3168) ⌝ }
-    ensures { λ r. ⌜ r ≡ firstChange protect 0 (now (drawn .entry)) (now (page .entry)) ⌝ }
+    ensures { λ r. ⌜ (r ≤ length (now (page .entry))) × (r ≡ firstChange protect 0 (now (drawn .entry)) (now (page .entry))) ⌝ }
 {
     let mut i = 0;
     while i < page.len() {

@@ -3,10 +3,8 @@
 mod cells;
 mod fields;
 mod guarded;
-mod out;
-mod picture;
+mod print;
 mod put;
-mod report;
 mod stream;
 
 ghost use mathlib.Core.Path.{_≡_};
@@ -16,6 +14,9 @@ ghost use lib.ListN.{length};
 ghost use Rattle.alert.specs.Watch.{Came};
 use libc::STDERR_FILENO;
 use libc::STDIN_FILENO;
+use print::out;
+use print::picture;
+use print::report;
 use stream::Played;
 
 const COLUMNS: usize = 80;

@@ -42,7 +42,7 @@ trimmed-spec =
     (λ c. (
       search needs,
       spaces-more (now (c .before .before .before .before .args .text)) _ (c .before .before .before .loop .inv .1)
-          (c .before .before .loop-test .taken) (c .if1 .left),
+          (omega (arith, c .before .before .loop-test .taken)) (c .if1 .left),
     ))
     -- returns-2
     (λ c. record { most = search needs; spaces = λ k a. c .before .loop .inv .1 k (omega arith); last = λ k e s. omega arith }))

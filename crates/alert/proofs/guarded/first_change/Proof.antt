@@ -37,7 +37,7 @@ first-change-spec =
     -- is-kept-requires
     (λ c κs. search needs)
     -- returns
-    (λ c. sym (changes (c .before .before .before .before .before .before .before .before .args .protect) (now (c .before .before .before .before .before .before .before .before .args .drawn)) (now (c .before .before .before .before .before .before .before .before .args .page)) (c .before .before .before .before .before .loop .i) (c .before .before .before .before .before .before .before .before .pre .0) (c .before .before .before .before .loop-test .taken) (sym (c .before .is-kept .ensures) ∙ not-true _ (c .if1 .taken))) ∙ c .before .before .before .before .before .loop .inv .1)
+    (λ c. (omega (arith, c .before .before .before .before .loop-test .taken), sym (changes (c .before .before .before .before .before .before .before .before .args .protect) (now (c .before .before .before .before .before .before .before .before .args .drawn)) (now (c .before .before .before .before .before .before .before .before .args .page)) (c .before .before .before .before .before .loop .i) (c .before .before .before .before .before .before .before .before .pre .0) (c .before .before .before .before .loop-test .taken) (sym (c .before .is-kept .ensures) ∙ not-true _ (c .if1 .taken))) ∙ c .before .before .before .before .before .loop .inv .1))
     -- add-i
     (λ c. search needs)
     -- loop-less
@@ -45,4 +45,4 @@ first-change-spec =
     -- loop-again
     (λ c. (omega (arith, c .before .before .before .before .loop-test .taken), sym (keeps (c .before .before .before .before .before .before .before .before .args .protect) (now (c .before .before .before .before .before .before .before .before .args .drawn)) (now (c .before .before .before .before .before .before .before .before .args .page)) (c .before .before .before .before .before .loop .i) (c .before .before .before .before .before .before .before .before .pre .0) (c .before .before .before .before .loop-test .taken) (sym (c .before .is-kept .ensures) ∙ not-false _ (c .if1 .left))) ∙ c .before .before .before .before .before .loop .inv .1))
     -- returns-2
-    (λ c. sym (none-changes (c .before .before .before .before .args .protect) (now (c .before .before .before .before .args .drawn)) (now (c .before .before .before .before .args .page)) (c .before .loop .i) (c .before .before .before .before .pre .0) (c .loop-test .left)) ∙ c .before .loop .inv .1))
+    (λ c. (omega (arith, c .before .loop .inv), sym (none-changes (c .before .before .before .before .args .protect) (now (c .before .before .before .before .args .drawn)) (now (c .before .before .before .before .args .page)) (c .before .loop .i) (c .before .before .before .before .pre .0) (c .loop-test .left)) ∙ c .before .loop .inv .1)))

@@ -1,9 +1,9 @@
--- `alert::report::reply_bytes` is safe and ends.
+-- `alert::print::report::reply_bytes` is safe and ends.
 use Prim.Native.Nat.{ℕ, _+_, _-_, _≤_, _<_}
 use lib.ListN.{length}
 use borrow.Author.Needs.{needs}
-use Rattle.alert.proofs.report.reply_bytes.Statement.{statement}
-use Rattle.alert.proofs.report.reply_bytes.Tie as tie
+use Rattle.alert.proofs.print.report.reply_bytes.Statement.{statement}
+use Rattle.alert.proofs.print.report.reply_bytes.Tie as tie
 
 abbrev Inv-loop : tie.InvT-loop
 Inv-loop bytes last₀ i₀ last i = i ≤ length bytes

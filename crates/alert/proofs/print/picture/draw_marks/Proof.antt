@@ -1,10 +1,10 @@
--- `alert::picture::draw_marks` is safe and ends.
+-- `alert::print::picture::draw_marks` is safe and ends.
 use mathlib.Core.Path.{_≡_}
 use Prim.Native.Nat.{ℕ, _+_, _-_, _≤_, _<_}
 use lib.ListN.{length}
 use borrow.Author.Needs.{needs}
-use Rattle.alert.proofs.picture.draw_marks.Statement.{statement}
-use Rattle.alert.proofs.picture.draw_marks.Tie as tie
+use Rattle.alert.proofs.print.picture.draw_marks.Statement.{statement}
+use Rattle.alert.proofs.print.picture.draw_marks.Tie as tie
 
 abbrev Inv-loop : tie.InvT-loop
 Inv-loop cells protect cursor line₀ i₀ line i = (i ≤ length cells) × (length line ≡ length line₀)

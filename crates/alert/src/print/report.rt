@@ -3,7 +3,7 @@ ghost use mathlib.Core.Path.{_≡_};
 ghost use Prim.Native.Nat.{_≤_};
 ghost use lib.ListN.{length};
 ghost use Rattle.rules.specs.State.{cursorOf};
-use crate::out;
+use crate::print::out;
 use crate::stream::Played;
 use crate::stream::Refusals;
 use page::cell::is_guarded;

@@ -1,9 +1,9 @@
--- `alert::report::replies` is safe and ends.
+-- `alert::print::report::replies` is safe and ends.
 use mathlib.Core.Path.{sym}
 use lib.Seq.{length-take-le}
 use borrow.Author.Needs.{needs}
-use Rattle.alert.proofs.report.replies.Statement.{statement}
-use Rattle.alert.proofs.report.replies.Tie as tie
+use Rattle.alert.proofs.print.report.replies.Statement.{statement}
+use Rattle.alert.proofs.print.report.replies.Tie as tie
 
 pub replies-spec : {M : Type 1} → statement M
 replies-spec =

@@ -4,7 +4,7 @@ ghost use mathlib.Core.Path.{_≡_};
 ghost use Prim.Native.Nat.{_≤_};
 ghost use lib.ListN.{length};
 use crate::cells::trimmed;
-use crate::out;
+use crate::print::out;
 use page::cell::is_open;
 use page::cell::sent_code;
 

@@ -1,8 +1,8 @@
--- `alert::picture::rows_used` is safe and ends.
+-- `alert::print::picture::rows_used` is safe and ends.
 use Prim.Native.Nat.{_≤_}
 use borrow.Author.Needs.{needs}
-use Rattle.alert.proofs.picture.rows_used.Statement.{statement}
-use Rattle.alert.proofs.picture.rows_used.Tie as tie
+use Rattle.alert.proofs.print.picture.rows_used.Statement.{statement}
+use Rattle.alert.proofs.print.picture.rows_used.Tie as tie
 
 abbrev Inv-loop : tie.InvT-loop
 Inv-loop page protect cursor n₀ n = n ≤ 24

@@ -1,8 +1,8 @@
--- `alert::picture::show_rows` is safe and ends.
+-- `alert::print::picture::show_rows` is safe and ends.
 use Prim.Native.Nat.{_-_, _≤_}
 use borrow.Author.Needs.{needs}
-use Rattle.alert.proofs.picture.show_rows.Statement.{statement}
-use Rattle.alert.proofs.picture.show_rows.Tie as tie
+use Rattle.alert.proofs.print.picture.show_rows.Statement.{statement}
+use Rattle.alert.proofs.print.picture.show_rows.Tie as tie
 
 abbrev Inv-loop : tie.InvT-loop
 Inv-loop page protect cursor n r₀ r = r ≤ n

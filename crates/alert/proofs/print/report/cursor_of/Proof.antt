@@ -1,9 +1,9 @@
--- `alert::report::cursor_of` meets its contract.
+-- `alert::print::report::cursor_of` meets its contract.
 use borrow.Author.Needs.{needs}
 use borrow.Author.Tests.{eq-eqb, ne-eqb}
 use Rattle.rules.specs.State.{cursorOf}
-use Rattle.alert.proofs.report.cursor_of.Statement.{statement}
-use Rattle.alert.proofs.report.cursor_of.Tie as tie
+use Rattle.alert.proofs.print.report.cursor_of.Statement.{statement}
+use Rattle.alert.proofs.print.report.cursor_of.Tie as tie
 
 returns : tie.Need-returns
 unfolding cursorOf
