@@ -3,3 +3,4 @@ pub mod Puts
 pub mod Texts
 pub mod Watching
 pub mod Private
+pub mod Short

@@ -1,0 +1,62 @@
+-- The message has its room.
+--     short     how long it is at most
+-- Assumes nothing.
+use mathlib.Core.Path.{_≡_, refl, ap}
+use mathlib.Core.Bool.{Bool, true, false}
+use mathlib.Core.List.{List, [], _∷_, _++_}
+use Prim.Native.Nat.{ℕ, zero, suc, _+_, _-_, _*_, _/_, _%_, _≤_, _<_}
+use native.Mathlib.Omega.{arith}
+use lib.Dec.{leb, eqb}
+use lib.ListN.{length, length-append}
+use Rattle.rules.specs.Cell.{pick, both}
+use Rattle.rules.specs.Row.{Width}
+use Rattle.rules.specs.Search.{guardedAt, editEnd}
+use Rattle.rules.specs.Carry.{digit, textOf}
+use Rattle.rules.proofs.Marks.{length-guards}
+use Rattle.alert.specs.Room.{words, decimalOf, countOf, placeOf}
+use Rattle.alert.specs.Fields.{trimmed, startsAt, startsFrom, fieldStarts, fieldText, told, fieldLine, fieldLines, openText, unguarded, message}
+use Rattle.alert.proofs.Texts.{field-fits}
+
+pick-most : (t : Bool) (x y : List ℕ) (n : ℕ) → length x ≤ n → length y ≤ n → length (pick t x y) ≤ n
+pick-most true x y n a b = a
+pick-most false x y n a b = b
+
+decimal-short : (v : ℕ) → length (decimalOf v) ≤ 4
+unfolding decimalOf
+decimal-short v =
+    let a = pick-most (leb 1000 v) (digit (v / 1000) ∷ []) [] 1 (omega arith) (omega arith) in
+    let b = pick-most (leb 100 v) (digit (v / 100) ∷ []) [] 1 (omega arith) (omega arith) in
+    let c = pick-most (leb 10 v) (digit (v / 10) ∷ []) [] 1 (omega arith) (omega arith) in
+    simp length-append (omega arith)
+
+count-short : (n : ℕ) (word : List ℕ) → length (countOf n word) ≤ 6 + length word
+unfolding countOf
+count-short n word =
+    let a = decimal-short n in
+    let b = pick-most (eqb n 1) [] (words "s") 1 (omega arith) (omega arith) in
+    simp length-append (omega arith)
+
+place-short : (w at : ℕ) → length (placeOf w at) ≤ 21
+unfolding placeOf
+place-short w at =
+    let a = decimal-short (at / w + 1) in
+    let b = decimal-short (at % w + 1) in
+    simp length-append (omega arith)
+
+trimmed-short : (l : List ℕ) → length (trimmed l) ≤ length l
+unfolding trimmed
+trimmed-short [] = omega arith
+trimmed-short (x ∷ l) =
+    let r = trimmed-short l in
+    pick-most (both (eqb (length (trimmed l)) 0) (eqb x 32)) [] (x ∷ trimmed l) (suc (length l)) (omega arith) (omega arith)
+
+told-short : (t : List ℕ) (n : ℕ) → 5 ≤ n → length t ≤ n → length (told t) ≤ n
+unfolding told
+told-short t n h k = pick-most (eqb (length t) 0) (words "empty") t n (omega arith) k
+
+starts-short : (w : ℕ) (g : List Bool) (at n : ℕ) → length (startsFrom w g at n) ≤ n
+unfolding startsFrom
+starts-short w g at zero = omega arith
+starts-short w g at (suc n) =
+    let r = starts-short w g (suc at) n in
+    pick-most (startsAt w g at) (at ∷ startsFrom w g (suc at) n) (startsFrom w g (suc at) n) (suc n) (omega arith) (omega arith)
