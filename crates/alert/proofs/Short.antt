@@ -1,5 +1,5 @@
 -- The message has its room.
---     short     how long it is at most
+--     short     no message is longer than its room
 -- Assumes nothing.
 use mathlib.Core.Path.{_≡_, refl, ap}
 use mathlib.Core.Bool.{Bool, true, false}
@@ -15,7 +15,7 @@ use Rattle.rules.specs.Carry.{digit, textOf}
 use Rattle.rules.proofs.Marks.{length-guards}
 use Rattle.alert.specs.Room.{words, decimalOf, countOf, placeOf}
 use Rattle.alert.specs.Fields.{trimmed, startsAt, startsFrom, fieldStarts, fieldText, told, fieldLine, fieldLines, openText, unguarded, message}
-use Rattle.alert.proofs.Texts.{field-fits}
+use Rattle.alert.proofs.Texts.{columns, field-fits}
 
 pick-most : (t : Bool) (x y : List ℕ) (n : ℕ) → length x ≤ n → length y ≤ n → length (pick t x y) ≤ n
 pick-most true x y n a b = a
@@ -60,3 +60,49 @@ starts-short w g at zero = omega arith
 starts-short w g at (suc n) =
     let r = starts-short w g (suc at) n in
     pick-most (startsAt w g at) (at ∷ startsFrom w g (suc at) n) (startsFrom w g (suc at) n) (suc n) (omega arith) (omega arith)
+
+module _ {w : ℕ} (k : Width w) (on : Bool) (p : List ℕ) (n : length p ≡ 24 * w) where
+  field-short : (at : ℕ) → at < 24 * w → length (fieldText w on p at) ≤ 132
+  unfolding fieldText
+  field-short at h =
+      let f = field-fits k on p {at = at} {e = editEnd w (guardedAt on p) at} n h refl in
+      omega (arith, trimmed-short (textOf w on p at (editEnd w (guardedAt on p) at)))
+
+  line-short : (j at : ℕ) → at < 24 * w → length (fieldLine w on p j at) ≤ 183
+  unfolding fieldLine
+  line-short j at h =
+      let a = decimal-short j in
+      let b = place-short w at in
+      let c = count-short (editEnd w (guardedAt on p) at - at) (words "cell") in
+      let d = told-short (fieldText w on p at) 132 (omega arith) (field-short at h) in
+      simp length-append (omega arith)
+
+  lines-first : (b : Bool) (j at m : ℕ) (t : List ℕ) → at < 24 * w → length (fieldLines w on p j t) ≤ 183 * m
+      → length (fieldLines w on p (suc j) t) ≤ 183 * m → length (fieldLines w on p j (pick b (at ∷ t) t)) ≤ 183 * suc m
+  unfolding fieldLines
+  lines-first true j at m t h x y = let l = line-short j at h in simp length-append (omega arith)
+  lines-first false j at m t h x y = omega arith
+
+  lines-short : (j at m : ℕ) → at + m ≤ 24 * w → length (fieldLines w on p j (startsFrom w (guardedAt on p) at m)) ≤ 183 * m
+  unfolding startsFrom fieldLines
+  lines-short j at zero h = omega arith
+  lines-short j at (suc m) h =
+      lines-first (startsAt w (guardedAt on p) at) j at m (startsFrom w (guardedAt on p) (suc at) m) (omega arith)
+      (lines-short j (suc at) m (omega arith)) (lines-short (suc j) (suc at) m (omega arith))
+
+  open-short : length (openText w on p) ≤ 183 * length p
+  unfolding openText
+  open-short =
+      let g = length-guards on p in
+      let c = columns k in
+      let l = lines-short 1 0 (length (guardedAt on p)) (omega arith) in
+      pick-most (eqb (length (fieldStarts w (guardedAt on p))) 0) (words "  There is no open cell.\n")
+      (fieldLines w on p 1 (fieldStarts w (guardedAt on p))) (183 * length p) (omega arith) (omega arith)
+
+  -- the message of a page of 24 rows
+  pub short : length (message w on p) ≤ 40 + 183 * length p
+  unfolding message unguarded
+  short =
+      let c = columns k in
+      let m = pick-most on (openText w on p) unguarded (183 * length p) open-short (omega arith) in
+      simp length-append (omega arith)
