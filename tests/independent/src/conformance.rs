@@ -701,6 +701,7 @@ impl Book {
         self.cursor(1, 200);
         self.line(Line::Active(1));
         self.steps(b"\x09\x09");
+        self.field_at_the_split();
         self.case("corner 36: back tab over fields and without any");
         self.form(&[(2, 2), (100, 3), (1900, 2)]);
         self.cursor(0, 101);
@@ -754,7 +755,30 @@ impl Book {
         self.lines_and_rows();
     }
 
+    /// One field over the split and one below it, so that a start missed shows.
+    fn field_at_the_split(&mut self) {
+        for split in [0, 3] {
+            self.case(&format!(
+                "corner 35: the first cell of a segment is a field start, split row {split}"
+            ));
+            self.form(&[(0, 5), (150, 170), (400, 5)]);
+            self.line(Line::Split(split));
+            self.cursor(1, 402);
+            self.line(Line::Active((split > 0) as u8));
+            self.cursor(0, if split > 0 { 3 } else { 402 });
+            self.steps(b"\x09\x09\x09");
+            self.run(b"\x1bI");
+            self.run(b"\x1bI");
+            self.run(b"\x1bI");
+            self.run(b"\x1b]\x09");
+            self.run(b"\x09");
+            self.run(b"\x09\x1bI");
+            self.run(b"\x1bI");
+        }
+    }
+
     fn lines_and_rows(&mut self) {
+        self.rows_of_the_lower_segment();
         for (autoscroll, protect) in [(true, false), (false, false), (true, true), (false, true)] {
             self.case(&format!(
                 "top and bottom of a segment, autoscroll {}, protect {}",
@@ -781,6 +805,28 @@ impl Book {
             self.run(b"\x1b=\x20\x25\x1bj");
             self.run(b"\x1b=\x22\x25\x1bE");
             self.run(b"\x1b=\x21\x25\x1bR");
+            self.show();
+        }
+    }
+
+    fn rows_of_the_lower_segment(&mut self) {
+        let (top, middle, bottom) = (0x20, 0x28, 0x33);
+        for (row, command) in [
+            (bottom, &b"\x0a"[..]),
+            (bottom, b"\x1f"),
+            (bottom, b"A"),
+            (top, b"\x1bj"),
+            (middle, b"\x1bE"),
+            (middle, b"\x1bR"),
+        ] {
+            self.case("rows of segment 1 alone are shifted");
+            self.line(Line::Noise {
+                seed: 11,
+                mask: 0x7F,
+                share: 32,
+            });
+            self.run(&[b"\x1bx1\x24\x1b}\x1b=", &[row, 0x6F][..]].concat());
+            self.run(command);
             self.show();
         }
     }
@@ -858,6 +904,17 @@ impl Book {
         self.case("corner 56: ESC M replies one byte");
         self.run(b"A\x08\x1bM");
         self.run(b"\x1bG0\x08\x1bM\x1bH0\x08\x1bM");
+        self.case("text cells of every code sent");
+        for code in 0x00..=0x7F {
+            self.cell(code as usize, code);
+        }
+        for cell in [0x00, 0x1F, 0x20, 0x7E, 0x7F] {
+            self.cursor(0, cell);
+            self.run(b"\x1bM");
+        }
+        for byte in *b"4567" {
+            self.run(&[ESC, byte]);
+        }
         self.case("corner 57: sending with guarded cells left out");
         self.form(&[(2, 3), (170, 2), (250, 5)]);
         for cursor in [0, 3, 79, 80, 171, 252, 400] {
