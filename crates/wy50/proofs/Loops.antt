@@ -1,16 +1,16 @@
 -- Laws of the loops that translate an array, and of the table of sequences.
 --     begin, go, finish     such a loop's start, a turn, its end
---     shown-length, shown-at, longer, zeros-at, unshown-map     C's tab stops and a state's
+--     shown-length, shown-at, stop-go, stop-finish     C's tab stops and a state's
 --     not-found     a kind that is none of the table's
 -- Assumes nothing.
-use mathlib.Core.Path.{_≡_, refl, sym, ap, _∙_}
+use mathlib.Core.Path.{_≡_, refl, sym, subst, _∙_}
 use mathlib.Core.Bool.{Bool, false}
-use mathlib.Core.List.{List, [], _∷_, _++_, map}
+use mathlib.Core.List.{List, [], _∷_, map}
 use Prim.Native.Nat.{ℕ, zero, suc, _+_, _-_, _≤_, _<_}
 use native.Mathlib.Omega.{arith}
 use native.Mathlib.Numerals.{add-one}
-use lib.ListN.{length, take, getD, set, replicate, length-set, length-map, length-append, length-replicate, List·getD-map}
-use lib.Seq.{take-all, take-suc, take-suc-set, length-take-le}
+use lib.ListN.{length, take, drop, getD, set, replicate, length-set, length-map, take-append-drop, List·getD-map}
+use lib.Seq.{take-all, take-suc, take-suc-set, length-take-le, drop-set-lt}
 use borrow.Author.Tests.{ne-eqb}
 use Rattle.rules.specs.declared.Pending.{Pending}
 use Rattle.rules.specs.declared.Pending.the-variants as Pending
@@ -53,23 +53,30 @@ getD-take (suc n) (x ∷ l) (suc i) d h = getD-take n l i d (omega arith)
 pub shown-at : (l : List Bool) (i : ℕ) → length l ≡ 132 → i < 80 → getD l i false ≡ getD (shown l) i false
 shown-at l i n h = getD-take (length l - 52) l i false (omega arith)
 
--- the numbers of C's, with zeros behind them
-pub longer : (l : List ℕ) → length (l ++ replicate 52 0) ≡ length l + 52
-longer l = length-append l (replicate 52 0) ∙ ap (λ (n : ℕ). length l + n) (length-replicate {A = ℕ} 52 0)
+-- a state's tab stops, written from the 80 numbers l of C's: the first i are those, and none is beyond the 80th
+pub record Stopped (l : List ℕ) (t : List Bool) (i : ℕ) : Type 0 where
+  pub within : i ≤ 80
+  pub size : length t ≡ 132
+  pub front : take i t ≡ take i (map isOn l)
+  pub beyond : drop 80 t ≡ replicate 52 false
 
-zero-at : (n i : ℕ) → getD (replicate n 0) i 0 ≡ zero
-zero-at zero i = refl
-zero-at (suc n) zero = refl
-zero-at (suc n) (suc i) = zero-at n i
+module _ (l : List ℕ) (n : length l ≡ 80) (t : List Bool) where
+  pub stop-go : (i : ℕ) {v : Bool} → Stopped l t i → i < 80 → v ≡ isOn (getD l i 0) → Stopped l (set t i v) (i + 1)
+  stop-go i {v} x h e =
+      let m : i < length (map isOn l) = omega (arith, length-map l isOn) in
+      record {
+        within = omega arith;
+        size = length-set t i v ∙ x .size;
+        front = rw (add-one, take-suc-set t i v (omega (arith, x .size)), x .front, take-suc (map isOn l) i (isOn 0) m, List·getD-map isOn l i 0, e);
+        beyond = drop-set-lt 80 t i v h ∙ x .beyond;
+      }
 
-pub zeros-at : (l : List ℕ) (n i : ℕ) → getD l i 0 ≡ getD (l ++ replicate n 0) i 0
-zeros-at [] n i = sym (zero-at n i)
-zeros-at (x ∷ l) n zero = refl
-zeros-at (x ∷ l) n (suc i) = zeros-at l n i
-
-pub unshown-map : (l : List ℕ) → map isOn (l ++ replicate 52 0) ≡ unshown (map isOn l)
-unshown-map [] = refl
-unshown-map (x ∷ l) = ap (λ (r : List Bool). isOn x ∷ r) (unshown-map l)
+  pub stop-finish : (i : ℕ) → Stopped l t i → 80 ≤ i → t ≡ unshown (map isOn l)
+  stop-finish i x h =
+      let e : i ≡ 80 = omega (arith, x .within) in
+      let front : take 80 t ≡ map isOn l =
+      subst (λ (k : ℕ). take k t ≡ take k (map isOn l)) e (x .front) ∙ take-all 80 (map isOn l) (omega (arith, length-map l isOn)) in
+      sym (take-append-drop 80 t) ∙ rw (front, x .beyond)
 
 -- what the last arm of a match on a number knows: the number is none of the keys, the last key outermost
 abbrev pub NoneOf : Type 0 → ℕ → List (ℕ × Pending) → Type 0

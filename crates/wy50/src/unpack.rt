@@ -2,7 +2,6 @@
 ghost use mathlib.Core.Path.{_≡_};
 ghost use mathlib.Core.Bool.{true};
 ghost use mathlib.Core.List.{map};
-ghost use lib.ListN.{getD};
 ghost use Rattle.rules.specs.Possible.{allBelow};
 ghost use Rattle.wy50.specs.Raw.{isOn, unshown, pendingOf, sameSequence, isSequence, areFlags, modesOf, keyOf, named, unpacked};
 use crate::pack::sequence_of;
@@ -121,19 +120,13 @@ fn key_of(k: RawKey) -> Key
 }
 
 // Beyond the 80 columns that C holds there is no tab stop.
-fn tab_of(tabs: [u8; 80], i: usize) -> bool
-    ensures { λ r. ⌜ r ≡ isOn (getD tabs i 0) ⌝ }
-{
-    if i < 80 { tabs[i] == 1 } else { false }
-}
-
 fn tabs_of(tabs: [u8; 80]) -> [bool; 132]
     ensures { λ r. ⌜ r ≡ unshown (map isOn tabs) ⌝ }
 {
     let mut t = [false; 132];
     let mut i = 0;
-    while i < 132 {
-        t[i] = tab_of(tabs, i);
+    while i < 80 {
+        t[i] = tabs[i] == 1;
         i += 1;
     }
     t
