@@ -22,11 +22,16 @@ show-spec =
     -- sequence-requires
     (λ c κs. search needs)
     -- show-guarded-requires
-    (λ c κs. (c .before .before .before .before .before .before .before .before .before .before .before .before .before .before .before .pre .0, (omega (arith, c .before .before .before .before .before .before .before .before .before .before .before .before .before .before .before .pre), c .before .before .before .before .before .before .before .before .before .before .before .before .before .before .before .pre .1 .1)))
+    (λ c κs.
+    let k = c .before .before .before .before .before .before .before .before .before .before .before .before .before .before .before .pre in
+    (k .0, (omega (arith, k), k .1 .1)))
     -- refused-requires
     (λ c κs. search needs)
     -- show-message-requires
-    (λ c κs. (c .before .before .before .before .before .before .before .before .before .before .before .before .before .before .before .before .before .pre .0, (now (c .before .before .before .before .before .before .before .before .before .before .before .before .before .before .before .before .before .args .drawn), c .before .before .before .before .before .before .before .before .before .before .before .before .before .before .before .before .before .pre .1 .1)))
+    (λ c κs.
+    let k = c .before .before .before .before .before .before .before .before .before .before .before .before .before .before .before .before .before .pre in
+    let x = c .before .before .before .before .before .before .before .before .before .before .before .before .before .before .before .before .before .args in
+    (k .0, (now (x .drawn), k .1 .1)))
     -- replies-requires
     (λ c κs. search needs)
     -- returns

@@ -30,21 +30,48 @@ lines-spec =
     Inv-loop
     μ-loop
     -- loop-holds
-    (λ c. (search needs, (search needs, (search needs, (starts-all (c .before .before .args .width) (guardedAt (c .before .before .args .protect) (now (c .before .before .args .page))), lines-begin (c .before .before .args .width) (c .before .before .args .protect) (now (c .before .before .args .page)))))))
+    (λ c.
+    let x = c .before .before .args in
+    (search needs, (search needs, (search needs, (starts-all (x .width) (guardedAt (x .protect) (now (x .page))), lines-begin (x .width) (x .protect) (now (x .page)))))))
     -- starts-requires
     (λ c κs. (c .before .before .before .before .pre .0, c .loop-test .taken))
     -- add-line-if
-    (λ c. let s = page-small (c .before .before .before .before .before .before .pre .0) in omega (arith, c .before .before .before .before .before .before .pre, c .before .before .before .loop .inv, c .before .before .loop-test .taken))
+    (λ c.
+    let k = c .before .before .before .before .before .before .pre in
+    let l = c .before .before .before .loop in
+    let test = c .before .before .loop-test in
+    let s = page-small (k .0) in
+    omega (arith, k, l .inv, test .taken))
     -- line-if-requires
-    (λ c κs. (c .before .before .before .before .before .before .pre .0, (c .before .before .before .before .before .before .pre .1, omega (arith, c .before .before .before .before .before .before .pre, c .before .before .loop-test .taken))))
+    (λ c κs.
+    let k = c .before .before .before .before .before .before .pre in
+    let test = c .before .before .loop-test in
+    (k .0, (k .1, omega (arith, k, test .taken))))
     -- more-requires
-    (λ c κs. omega (arith, c .before .before .before .before .before .before .before .before .before .pre, c .before .before .before .before .before .before .loop .inv, c .before .before .before .before .before .loop-test .taken, page-small (c .before .before .before .before .before .before .before .before .before .pre .0)))
+    (λ c κs.
+    let k = c .before .before .before .before .before .before .before .before .before .pre in
+    let l = c .before .before .before .before .before .before .loop in
+    let test = c .before .before .before .before .before .loop-test in
+    omega (arith, k, l .inv, test .taken, page-small (k .0)))
     -- add-at
-    (λ c. omega (arith, c .before .before .before .before .before .before .before .before .before .before .pre, c .before .before .before .before .before .before .loop-test .taken, page-small (c .before .before .before .before .before .before .before .before .before .before .pre .0)))
+    (λ c.
+    let k = c .before .before .before .before .before .before .before .before .before .before .pre in
+    let test = c .before .before .before .before .before .before .loop-test in
+    omega (arith, k, test .taken, page-small (k .0)))
     -- loop-less
     (λ c. omega (arith, c .before .before .before .before .before .before .loop-test .taken))
     -- loop-again
-    (λ c. let g = length-guards (c .before .before .before .before .before .before .before .before .before .before .args .protect) (now (c .before .before .before .before .before .before .before .before .before .before .args .page)) in let i = c .before .before .before .before .before .before .before .loop .inv in let one = one-at-most (c .before .before .before .before .before .starts .result) in let s = starts-count (c .before .before .before .before .before .before .before .before .before .before .args .width) (guardedAt (c .before .before .before .before .before .before .before .before .before .before .args .protect) (now (c .before .before .before .before .before .before .before .before .before .before .args .page))) (c .before .before .before .before .before .before .before .loop .at) (omega (arith, c .before .before .before .before .before .before .loop-test .taken)) (c .before .before .before .before .before .starts .ensures) in (omega (arith, c .before .before .before .before .before .before .loop-test .taken), (omega (arith, c .more .ensures), (c .before .before .before .line-if .kept .0 ∙ i .1 .1 .0, (omega (arith, c .more .ensures), lines-on (c .before .before .before .before .before .before .before .before .before .before .args .width) (c .before .before .before .before .before .before .before .before .before .before .args .protect) (now (c .before .before .before .before .before .before .before .before .before .before .args .page)) (c .before .before .before .before .before .before .before .loop .number) (c .before .before .before .before .before .before .before .loop .at) (c .before .before .before .before .before .before .loop-test .taken) (c .before .before .before .before .before .starts .ensures) (c .more .ensures) (c .before .before .before .line-if .ensures) (i .1 .1 .1 .1))))))
+    (λ c.
+    let x = c .before .before .before .before .before .before .before .before .before .before .args in
+    let l = c .before .before .before .before .before .before .before .loop in
+    let test = c .before .before .before .before .before .before .loop-test in
+    let starts′ = c .before .before .before .before .before .starts in
+    let line-if′ = c .before .before .before .line-if in
+    let g = length-guards (x .protect) (now (x .page)) in
+    let i = l .inv in
+    let one = one-at-most (starts′ .result) in
+    let s = starts-count (x .width) (guardedAt (x .protect) (now (x .page))) (l .at) (omega (arith, test .taken)) (starts′ .ensures) in
+    (omega (arith, test .taken), (omega (arith, c .more .ensures), (line-if′ .kept .0 ∙ i .1 .1 .0, (omega (arith, c .more .ensures), lines-on (x .width) (x .protect) (now (x .page)) (l .number) (l .at) (test .taken) (starts′ .ensures) (c .more .ensures) (line-if′ .ensures) (i .1 .1 .1 .1))))))
     -- slice-aggregate-bytes
     (λ c. search needs)
     -- bytes-requires
@@ -52,8 +79,24 @@ lines-spec =
     -- same-length
     (λ c. c .before .before .bytes .kept .0 ∙ c .before .before .before .before .before .before .before .loop .inv .1 .1 .0)
     -- returns
-    (λ c. let g = length-guards (c .before .before .before .before .before .before .before .before .before .before .args .protect) (now (c .before .before .before .before .before .before .before .before .before .before .args .page)) in let i = c .before .before .before .before .before .before .before .loop .inv in let z = ap length (starts-none (c .before .before .before .before .before .before .before .before .before .before .args .width) (guardedAt (c .before .before .before .before .before .before .before .before .before .before .args .protect) (now (c .before .before .before .before .before .before .before .before .before .before .args .page))) (c .before .before .before .before .before .before .before .loop .at) (omega (arith, c .before .before .before .before .before .before .loop-test .left))) in no-fields (c .before .before .before .before .before .before .before .before .before .before .args .width) (c .before .before .before .before .before .before .before .before .before .before .args .protect) (now (c .before .before .before .before .before .before .before .before .before .before .args .page)) (lines-done (c .before .before .before .before .before .before .before .before .before .before .args .width) (c .before .before .before .before .before .before .before .before .before .before .args .protect) (now (c .before .before .before .before .before .before .before .before .before .before .args .page)) (c .before .before .before .before .before .before .before .loop .number) (c .before .before .before .before .before .before .before .loop .at) (c .before .before .before .before .before .before .loop-test .left) (i .1 .1 .1 .1)) (omega (arith, c .before .before .before .before .before .if1 .taken)) (c .before .before .bytes .ensures))
+    (λ c.
+    let x = c .before .before .before .before .before .before .before .before .before .before .args in
+    let l = c .before .before .before .before .before .before .before .loop in
+    let test = c .before .before .before .before .before .before .loop-test in
+    let t1 = c .before .before .before .before .before .if1 in
+    let bytes′ = c .before .before .bytes in
+    let g = length-guards (x .protect) (now (x .page)) in
+    let i = l .inv in
+    let z = ap length (starts-none (x .width) (guardedAt (x .protect) (now (x .page))) (l .at) (omega (arith, test .left))) in
+    no-fields (x .width) (x .protect) (now (x .page)) (lines-done (x .width) (x .protect) (now (x .page)) (l .number) (l .at) (test .left) (i .1 .1 .1 .1)) (omega (arith, t1 .taken)) (bytes′ .ensures))
     -- same-length-2
     (λ c. c .before .before .loop .inv .1 .1 .0)
     -- returns-2
-    (λ c. let g = length-guards (c .before .before .before .before .before .args .protect) (now (c .before .before .before .before .before .args .page)) in let i = c .before .before .loop .inv in let z = ap length (starts-none (c .before .before .before .before .before .args .width) (guardedAt (c .before .before .before .before .before .args .protect) (now (c .before .before .before .before .before .args .page))) (c .before .before .loop .at) (omega (arith, c .before .loop-test .left))) in some-fields (c .before .before .before .before .before .args .width) (c .before .before .before .before .before .args .protect) (now (c .before .before .before .before .before .args .page)) (lines-done (c .before .before .before .before .before .args .width) (c .before .before .before .before .before .args .protect) (now (c .before .before .before .before .before .args .page)) (c .before .before .loop .number) (c .before .before .loop .at) (c .before .loop-test .left) (i .1 .1 .1 .1)) (λ e. c .if1 .left (omega arith))))
+    (λ c.
+    let x = c .before .before .before .before .before .args in
+    let l = c .before .before .loop in
+    let test = c .before .loop-test in
+    let g = length-guards (x .protect) (now (x .page)) in
+    let i = l .inv in
+    let z = ap length (starts-none (x .width) (guardedAt (x .protect) (now (x .page))) (l .at) (omega (arith, test .left))) in
+    some-fields (x .width) (x .protect) (now (x .page)) (lines-done (x .width) (x .protect) (now (x .page)) (l .number) (l .at) (test .left) (i .1 .1 .1 .1)) (λ e. c .if1 .left (omega arith))))

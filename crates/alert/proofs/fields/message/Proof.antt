@@ -18,10 +18,20 @@ message-spec =
     -- same-length
     (λ c. search needs)
     -- returns
-    (λ c. message-on (c .before .before .before .before .before .before .before .before .before .before .before .before .args .width) (now (c .before .before .before .before .before .before .before .before .before .before .before .before .args .page)) (c .before .before .before .before .before .before .before .bytes .ensures) (c .before .before .before .before .before .before .before .before .before .before .before .before .args .protect) (c .before .before .before .before .if1 .taken) (c .before .before .lines .ensures))
+    (λ c.
+    let x = c .before .before .before .before .before .before .before .before .before .before .before .before .args in
+    let bytes′ = c .before .before .before .before .before .before .before .bytes in
+    let t1 = c .before .before .before .before .if1 in
+    let lines′ = c .before .before .lines in
+    message-on (x .width) (now (x .page)) (bytes′ .ensures) (x .protect) (t1 .taken) (lines′ .ensures))
     -- unguarded-requires
     (λ c κs. search needs)
     -- same-length-2
     (λ c. search needs)
     -- returns-2
-    (λ c. message-off (c .before .before .before .before .before .before .before .before .before .before .before .before .args .width) (now (c .before .before .before .before .before .before .before .before .before .before .before .before .args .page)) (c .before .before .before .before .before .before .before .bytes .ensures) (c .before .before .before .before .before .before .before .before .before .before .before .before .args .protect) (c .before .before .before .before .if1 .left) (c .before .before .unguarded .ensures)))
+    (λ c.
+    let x = c .before .before .before .before .before .before .before .before .before .before .before .before .args in
+    let bytes′ = c .before .before .before .before .before .before .before .bytes in
+    let t1 = c .before .before .before .before .if1 in
+    let unguarded′ = c .before .before .unguarded in
+    message-off (x .width) (now (x .page)) (bytes′ .ensures) (x .protect) (t1 .left) (unguarded′ .ensures)))

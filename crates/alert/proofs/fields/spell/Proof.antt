@@ -13,14 +13,34 @@ spell-spec =
     tie.close
     (tie.spec
     -- put-text-requires
-    (λ c κs. let k = c .before .before .before .pre in let r = field-range (k .0) (c .before .before .before .args .protect) (now (c .before .before .before .args .page)) (k .1 .0) (k .1 .1 .0) (k .1 .1 .1 .0) in let f = field-fits (k .0) (c .before .before .before .args .protect) (now (c .before .before .before .args .page)) (k .1 .0) (k .1 .1 .0) (k .1 .1 .1 .0) in (k .0, (r .0, (r .1 .1, (k .1 .0, omega (arith, f, k))))))
+    (λ c κs.
+    let x = c .before .before .before .args in
+    let k = c .before .before .before .pre in
+    let r = field-range (k .0) (x .protect) (now (x .page)) (k .1 .0) (k .1 .1 .0) (k .1 .1 .1 .0) in
+    let f = field-fits (k .0) (x .protect) (now (x .page)) (k .1 .0) (k .1 .1 .0) (k .1 .1 .1 .0) in
+    (k .0, (r .0, (r .1 .1, (k .1 .0, omega (arith, f, k))))))
     -- slice-reshare-prefix-trimmed
-    (λ c. let k = c .before .before .before .before .before .before .pre in let f = field-fits (k .0) (c .before .before .before .before .before .before .args .protect) (now (c .before .before .before .before .before .before .args .page)) (k .1 .0) (k .1 .1 .0) (k .1 .1 .1 .0) in omega (arith, f, k, c .before .before .put-text .ensures .0, c .before .before .put-text .kept))
+    (λ c.
+    let k = c .before .before .before .before .before .before .pre in
+    let x = c .before .before .before .before .before .before .args in
+    let put-text′ = c .before .before .put-text in
+    let f = field-fits (k .0) (x .protect) (now (x .page)) (k .1 .0) (k .1 .1 .0) (k .1 .1 .1 .0) in
+    omega (arith, f, k, put-text′ .ensures .0, put-text′ .kept))
     -- slice-aggregate-trimmed
-    (λ c. let k = c .before .before .before .before .before .before .before .pre in let f = field-fits (k .0) (c .before .before .before .before .before .before .before .args .protect) (now (c .before .before .before .before .before .before .before .args .page)) (k .1 .0) (k .1 .1 .0) (k .1 .1 .1 .0) in sym (length-take-le _ _ (omega (arith, f, k, c .before .before .before .put-text .ensures .0, c .before .before .before .put-text .kept))))
+    (λ c.
+    let k = c .before .before .before .before .before .before .before .pre in
+    let x = c .before .before .before .before .before .before .before .args in
+    let put-text′ = c .before .before .before .put-text in
+    let f = field-fits (k .0) (x .protect) (now (x .page)) (k .1 .0) (k .1 .1 .0) (k .1 .1 .1 .0) in
+    sym (length-take-le _ _ (omega (arith, f, k, put-text′ .ensures .0, put-text′ .kept))))
     -- trimmed-requires
     (λ c κs. search needs)
     -- same-length
     (λ c. search needs)
     -- returns
-    (λ c. let k = c .before .before .before .before .before .before .before .before .pre in let f = field-fits (k .0) (c .before .before .before .before .before .before .before .before .args .protect) (now (c .before .before .before .before .before .before .before .before .args .page)) (k .1 .0) (k .1 .1 .0) (k .1 .1 .1 .0) in spelled (c .before .before .before .before .before .before .before .before .args .width) (c .before .before .before .before .before .before .before .before .args .protect) (now (c .before .before .before .before .before .before .before .before .args .page)) (c .before .before .before .before .before .before .before .before .args .at) (now (c .before .before .before .before .before .before .before .before .args .text)) (k .1 .1 .1 .0) (omega (arith, f, k)) (c .before .before .before .before .put-text .ensures .0) (c .before .before .before .before .put-text .ensures .1) (c .trimmed .ensures)))
+    (λ c.
+    let x = c .before .before .before .before .before .before .before .before .args in
+    let k = c .before .before .before .before .before .before .before .before .pre in
+    let put-text′ = c .before .before .before .before .put-text in
+    let f = field-fits (k .0) (x .protect) (now (x .page)) (k .1 .0) (k .1 .1 .0) (k .1 .1 .1 .0) in
+    spelled (x .width) (x .protect) (now (x .page)) (x .at) (now (x .text)) (k .1 .1 .1 .0) (omega (arith, f, k)) (put-text′ .ensures .0) (put-text′ .ensures .1) (c .trimmed .ensures)))

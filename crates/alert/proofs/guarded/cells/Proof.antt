@@ -33,12 +33,24 @@ cells-spec =
     -- guard-requires
     (λ c κs. search needs)
     -- add-n
-    (λ c. omega (arith, c .guard .ensures, c .before .before .before .before .before .pre, c .before .before .before .loop .inv, c .before .before .loop-test .taken, one-at-most (guarded (c .before .before .before .before .before .args .protect) (getD (now (c .before .before .before .before .before .args .page)) (c .before .before .before .loop .i) 0))))
+    (λ c.
+    let k = c .before .before .before .before .before .pre in
+    let x = c .before .before .before .before .before .args in
+    let l = c .before .before .before .loop in
+    let test = c .before .before .loop-test in
+    omega (arith, c .guard .ensures, k, l .inv, test .taken, one-at-most (guarded (x .protect) (getD (now (x .page)) (l .i) 0))))
     -- add-i
     (λ c. search needs)
     -- loop-less
     (λ c. search needs)
     -- loop-again
-    (λ c. omega (arith, c .guard .ensures, c .before .before .before .loop .inv, c .before .before .loop-test .taken, one-at-most (guarded (c .before .before .before .before .before .args .protect) (getD (now (c .before .before .before .before .before .args .page)) (c .before .before .before .loop .i) 0)), more-cells (c .before .before .before .before .before .args .protect) (now (c .before .before .before .before .before .args .page)) (c .before .before .before .loop .i) (c .before .before .loop-test .taken)))
+    (λ c.
+    let x = c .before .before .before .before .before .args in
+    let l = c .before .before .before .loop in
+    let test = c .before .before .loop-test in
+    omega (arith, c .guard .ensures, l .inv, test .taken, one-at-most (guarded (x .protect) (getD (now (x .page)) (l .i) 0)), more-cells (x .protect) (now (x .page)) (l .i) (test .taken)))
     -- returns
-    (λ c. omega (arith, no-cells (c .before .before .before .args .protect) (now (c .before .before .before .args .page)) (c .before .loop .i) (c .loop-test .left), c .before .loop .inv)))
+    (λ c.
+    let x = c .before .before .before .args in
+    let l = c .before .loop in
+    omega (arith, no-cells (x .protect) (now (x .page)) (l .i) (c .loop-test .left), l .inv)))

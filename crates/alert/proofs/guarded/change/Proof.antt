@@ -25,7 +25,10 @@ change-spec =
     -- bytes-requires-2
     (λ c κs. search needs)
     -- place-requires
-    (λ c κs. (c .before .before .before .before .before .before .before .before .pre .0, omega (arith, c .before .before .before .before .before .before .before .before .pre, c .before .before .before .before .before .before .if1 .left)))
+    (λ c κs.
+    let k = c .before .before .before .before .before .before .before .before .pre in
+    let t1 = c .before .before .before .before .before .before .if1 in
+    (k .0, omega (arith, k, t1 .left)))
     -- slice-aggregate-bytes-3
     (λ c. search needs)
     -- bytes-requires-3
@@ -33,4 +36,9 @@ change-spec =
     -- same-length-2
     (λ c. search needs)
     -- returns-2
-    (λ c. rw (ne-eqb _ _ (c .before .before .before .before .before .before .before .before .before .before .before .before .before .before .if1 .left)) (and (and (c .before .before .before .before .before .before .before .before .before .before .before .bytes2 .ensures) (c .before .before .before .before .before .before .before .place .ensures)) (c .before .before .bytes3 .ensures))))
+    (λ c.
+    let t1 = c .before .before .before .before .before .before .before .before .before .before .before .before .before .before .if1 in
+    let bytes2′ = c .before .before .before .before .before .before .before .before .before .before .before .bytes2 in
+    let place′ = c .before .before .before .before .before .before .before .place in
+    let bytes3′ = c .before .before .bytes3 in
+    rw (ne-eqb _ _ (t1 .left)) (and (and (bytes2′ .ensures) (place′ .ensures)) (bytes3′ .ensures))))

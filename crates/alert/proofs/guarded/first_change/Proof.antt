@@ -37,12 +37,28 @@ first-change-spec =
     -- is-kept-requires
     (λ c κs. search needs)
     -- returns
-    (λ c. (omega (arith, c .before .before .before .before .loop-test .taken), sym (changes (c .before .before .before .before .before .before .before .before .args .protect) (now (c .before .before .before .before .before .before .before .before .args .drawn)) (now (c .before .before .before .before .before .before .before .before .args .page)) (c .before .before .before .before .before .loop .i) (c .before .before .before .before .before .before .before .before .pre .0) (c .before .before .before .before .loop-test .taken) (sym (c .before .is-kept .ensures) ∙ not-true _ (c .if1 .taken))) ∙ c .before .before .before .before .before .loop .inv .1))
+    (λ c.
+    let x = c .before .before .before .before .before .before .before .before .args in
+    let k = c .before .before .before .before .before .before .before .before .pre in
+    let l = c .before .before .before .before .before .loop in
+    let test = c .before .before .before .before .loop-test in
+    let is-kept′ = c .before .is-kept in
+    (omega (arith, test .taken), sym (changes (x .protect) (now (x .drawn)) (now (x .page)) (l .i) (k .0) (test .taken) (sym (is-kept′ .ensures) ∙ not-true _ (c .if1 .taken))) ∙ l .inv .1))
     -- add-i
     (λ c. search needs)
     -- loop-less
     (λ c. search needs)
     -- loop-again
-    (λ c. (omega (arith, c .before .before .before .before .loop-test .taken), sym (keeps (c .before .before .before .before .before .before .before .before .args .protect) (now (c .before .before .before .before .before .before .before .before .args .drawn)) (now (c .before .before .before .before .before .before .before .before .args .page)) (c .before .before .before .before .before .loop .i) (c .before .before .before .before .before .before .before .before .pre .0) (c .before .before .before .before .loop-test .taken) (sym (c .before .is-kept .ensures) ∙ not-false _ (c .if1 .left))) ∙ c .before .before .before .before .before .loop .inv .1))
+    (λ c.
+    let x = c .before .before .before .before .before .before .before .before .args in
+    let k = c .before .before .before .before .before .before .before .before .pre in
+    let l = c .before .before .before .before .before .loop in
+    let test = c .before .before .before .before .loop-test in
+    let is-kept′ = c .before .is-kept in
+    (omega (arith, test .taken), sym (keeps (x .protect) (now (x .drawn)) (now (x .page)) (l .i) (k .0) (test .taken) (sym (is-kept′ .ensures) ∙ not-false _ (c .if1 .left))) ∙ l .inv .1))
     -- returns-2
-    (λ c. (omega (arith, c .before .loop .inv), sym (none-changes (c .before .before .before .before .args .protect) (now (c .before .before .before .before .args .drawn)) (now (c .before .before .before .before .args .page)) (c .before .loop .i) (c .before .before .before .before .pre .0) (c .loop-test .left)) ∙ c .before .loop .inv .1)))
+    (λ c.
+    let x = c .before .before .before .before .args in
+    let k = c .before .before .before .before .pre in
+    let l = c .before .loop in
+    (omega (arith, l .inv), sym (none-changes (x .protect) (now (x .drawn)) (now (x .page)) (l .i) (k .0) (c .loop-test .left)) ∙ l .inv .1)))

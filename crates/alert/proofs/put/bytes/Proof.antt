@@ -32,7 +32,12 @@ bytes-spec =
     -- loop-less
     (λ c. search needs)
     -- loop-again
-    (λ c. (omega (arith, c .before .before .before .before .before .loop-test .taken), (c .before .before .byte .kept .0 ∙ c .before .before .before .before .before .before .loop .inv .1 .0, byte-on (now (c .before .before .before .before .before .before .before .before .before .args .text)) (c .before .before .before .before .before .before .loop .i) (c .before .before .before .before .before .loop-test .taken) (c .before .before .byte .ensures) (c .before .before .before .before .before .before .loop .inv .1 .1))))
+    (λ c.
+    let x = c .before .before .before .before .before .before .before .before .before .args in
+    let l = c .before .before .before .before .before .before .loop in
+    let test = c .before .before .before .before .before .loop-test in
+    let byte′ = c .before .before .byte in
+    (omega (arith, test .taken), (byte′ .kept .0 ∙ l .inv .1 .0, byte-on (now (x .text)) (l .i) (test .taken) (byte′ .ensures) (l .inv .1 .1))))
     -- same-length
     (λ c. search needs)
     -- returns

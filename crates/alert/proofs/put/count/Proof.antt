@@ -20,10 +20,20 @@ count-spec =
     -- same-length
     (λ c. search needs)
     -- returns
-    (λ c. rw (eq-eqb _ _ (c .if1 .taken)) (and (and (and (c .before .before .before .before .before .before .before .before .before .before .before .decimal .ensures) (c .before .before .before .before .before .before .before .byte .ensures)) (c .before .before .before .bytes .ensures)) none))
+    (λ c.
+    let decimal′ = c .before .before .before .before .before .before .before .before .before .before .before .decimal in
+    let byte′ = c .before .before .before .before .before .before .before .byte in
+    let bytes′ = c .before .before .before .bytes in
+    rw (eq-eqb _ _ (c .if1 .taken)) (and (and (and (decimal′ .ensures) (byte′ .ensures)) (bytes′ .ensures)) none))
     -- byte-requires-2
     (λ c κs. search needs)
     -- same-length-2
     (λ c. search needs)
     -- returns-2
-    (λ c. rw (ne-eqb _ _ (c .before .before .before .before .if1 .left)) (and (and (and (c .before .before .before .before .before .before .before .before .before .before .before .before .before .before .before .decimal .ensures) (c .before .before .before .before .before .before .before .before .before .before .before .byte .ensures)) (c .before .before .before .before .before .before .before .bytes .ensures)) (c .before .before .byte2 .ensures))))
+    (λ c.
+    let decimal′ = c .before .before .before .before .before .before .before .before .before .before .before .before .before .before .before .decimal in
+    let byte′ = c .before .before .before .before .before .before .before .before .before .before .before .byte in
+    let bytes′ = c .before .before .before .before .before .before .before .bytes in
+    let t1 = c .before .before .before .before .if1 in
+    let byte2′ = c .before .before .byte2 in
+    rw (ne-eqb _ _ (t1 .left)) (and (and (and (decimal′ .ensures) (byte′ .ensures)) (bytes′ .ensures)) (byte2′ .ensures))))

@@ -27,4 +27,14 @@ decimal-spec =
     -- same-length
     (λ c. search needs)
     -- returns
-    (λ c. decimal-put (c .before .before .before .before .before .before .before .before .before .before .before .before .before .before .before .before .before .before .before .before .before .args .v) (c .before .before .before .before .before .before .before .before .before .before .before .before .before .before .before .before .before .before .digit .ensures) (c .before .before .before .before .before .before .before .before .before .before .before .before .before .digit2 .ensures) (c .before .before .before .before .before .before .before .before .digit3 .ensures) (c .before .before .before .digit4 .ensures) (c .before .before .before .before .before .before .before .before .before .before .before .before .before .before .before .before .before .wanted .ensures) (c .before .before .before .before .before .before .before .before .before .before .before .before .wanted2 .ensures) (c .before .before .before .before .before .before .before .wanted3 .ensures) (c .before .before .byte .ensures)))
+    (λ c.
+    let x = c .before .before .before .before .before .before .before .before .before .before .before .before .before .before .before .before .before .before .before .before .before .args in
+    let digit′ = c .before .before .before .before .before .before .before .before .before .before .before .before .before .before .before .before .before .before .digit in
+    let wanted′ = c .before .before .before .before .before .before .before .before .before .before .before .before .before .before .before .before .before .wanted in
+    let digit2′ = c .before .before .before .before .before .before .before .before .before .before .before .before .before .digit2 in
+    let wanted2′ = c .before .before .before .before .before .before .before .before .before .before .before .before .wanted2 in
+    let digit3′ = c .before .before .before .before .before .before .before .before .digit3 in
+    let wanted3′ = c .before .before .before .before .before .before .before .wanted3 in
+    let digit4′ = c .before .before .before .digit4 in
+    let byte′ = c .before .before .byte in
+    decimal-put (x .v) (digit′ .ensures) (digit2′ .ensures) (digit3′ .ensures) (digit4′ .ensures) (wanted′ .ensures) (wanted2′ .ensures) (wanted3′ .ensures) (byte′ .ensures)))

@@ -19,7 +19,10 @@ place-spec =
     -- div-decimal
     (λ c. omega (arith, c .before .before .before .before .before .before .before .pre))
     -- add-decimal
-    (λ c. let s = place-small (c .before .before .before .before .before .before .before .pre .0) (c .before .before .before .before .before .before .before .pre .1) in search needs)
+    (λ c.
+    let k = c .before .before .before .before .before .before .before .pre in
+    let s = place-small (k .0) (k .1) in
+    search needs)
     -- decimal-requires
     (λ c κs. search needs)
     -- slice-aggregate-bytes-2
@@ -27,12 +30,22 @@ place-spec =
     -- bytes-requires-2
     (λ c κs. search needs)
     -- rem-decimal
-    (λ c. omega (arith, c .before .before .before .before .before .before .before .before .before .before .before .before .before .before .before .before .pre))
+    (λ c.
+    let k = c .before .before .before .before .before .before .before .before .before .before .before .before .before .before .before .before .pre in
+    omega (arith, k))
     -- add-decimal-2
-    (λ c. let s = place-small (c .before .before .before .before .before .before .before .before .before .before .before .before .before .before .before .before .pre .0) (c .before .before .before .before .before .before .before .before .before .before .before .before .before .before .before .before .pre .1) in search needs)
+    (λ c.
+    let k = c .before .before .before .before .before .before .before .before .before .before .before .before .before .before .before .before .pre in
+    let s = place-small (k .0) (k .1) in
+    search needs)
     -- decimal-requires-2
     (λ c κs. search needs)
     -- same-length
     (λ c. search needs)
     -- returns
-    (λ c. and (and (and (c .before .before .before .before .before .before .before .before .before .before .before .before .before .before .before .bytes .ensures) (c .before .before .before .before .before .before .before .before .before .before .before .decimal .ensures)) (c .before .before .before .before .before .before .bytes2 .ensures)) (c .before .before .decimal2 .ensures)))
+    (λ c.
+    let bytes′ = c .before .before .before .before .before .before .before .before .before .before .before .before .before .before .before .bytes in
+    let decimal′ = c .before .before .before .before .before .before .before .before .before .before .before .decimal in
+    let bytes2′ = c .before .before .before .before .before .before .bytes2 in
+    let decimal2′ = c .before .before .decimal2 in
+    and (and (and (bytes′ .ensures) (decimal′ .ensures)) (bytes2′ .ensures)) (decimal2′ .ensures)))

@@ -18,16 +18,40 @@ obey-spec =
     -- protects-requires-2
     (λ c κs. search needs)
     -- remember-requires
-    (λ c κs. omega (arith, c .before .before .before .before .before .before .before .before .before .before .before .before .take .kept, c .before .before .before .before .before .before .before .before .before .before .before .before .before .before .before .before .before .before .before .before .before .before .pre))
+    (λ c κs.
+    let k = c .before .before .before .before .before .before .before .before .before .before .before .before .before .before .before .before .before .before .before .before .before .before .pre in
+    let take′ = c .before .before .before .before .before .before .before .before .before .before .before .before .take in
+    omega (arith, take′ .kept, k))
     -- same-length
-    (λ c. omega (arith, c .before .before .before .before .before .before .before .before .before .before .before .before .before .before .before .take .kept, c .before .before .remember .kept))
+    (λ c.
+    let take′ = c .before .before .before .before .before .before .before .before .before .before .before .before .before .before .before .take in
+    let remember′ = c .before .before .remember in
+    omega (arith, take′ .kept, remember′ .kept))
     -- same-length-2
-    (λ c. omega (arith, c .before .before .before .before .before .before .before .before .before .before .before .before .before .before .before .take .kept, c .before .before .remember .kept))
+    (λ c.
+    let take′ = c .before .before .before .before .before .before .before .before .before .before .before .before .before .before .before .take in
+    let remember′ = c .before .before .remember in
+    omega (arith, take′ .kept, remember′ .kept))
     -- same-length-3
-    (λ c. omega (arith, c .before .before .before .before .before .before .before .before .before .before .before .before .before .before .before .take .kept, c .before .before .remember .kept))
+    (λ c.
+    let take′ = c .before .before .before .before .before .before .before .before .before .before .before .before .before .before .before .take in
+    let remember′ = c .before .before .remember in
+    omega (arith, take′ .kept, remember′ .kept))
     -- same-length-4
-    (λ c. omega (arith, c .before .before .before .before .before .before .before .before .before .before .before .before .before .before .before .take .kept, c .before .before .remember .kept))
+    (λ c.
+    let take′ = c .before .before .before .before .before .before .before .before .before .before .before .before .before .before .before .take in
+    let remember′ = c .before .before .remember in
+    omega (arith, take′ .kept, remember′ .kept))
     -- same-length-5
-    (λ c. omega (arith, c .before .before .before .before .before .before .before .before .before .before .before .before .before .before .before .take .kept, c .before .before .remember .kept))
+    (λ c.
+    let take′ = c .before .before .before .before .before .before .before .before .before .before .before .before .before .before .before .take in
+    let remember′ = c .before .before .remember in
+    omega (arith, take′ .kept, remember′ .kept))
     -- returns
-    (λ c. obeyed (length (now (c .before .before .before .before .before .before .before .before .before .before .before .before .before .before .before .before .before .before .before .before .before .before .before .before .before .args .room))) (c .before .before .before .before .before .before .before .before .before .before .before .before .before .before .before .before .before .before .before .before .before .before .before .before .before .args .byte) (now (c .before .before .before .before .before .before .before .before .before .before .before .before .before .before .before .before .before .before .before .before .before .before .before .before .before .args .page)) (now (c .before .before .before .before .before .before .before .before .before .before .before .before .before .before .before .before .before .before .before .before .before .before .before .before .before .args .drawn)) (c .before .before .before .before .before .before .before .before .before .before .before .before .before .before .before .before .before .before .before .before .before .before .before .before .before .args .p .state) (c .before .before .before .before .before .before .before .before .before .before .before .before .before .before .before .take .ensures) (c .before .before .before .before .protects .ensures) (c .before .before .before .protects2 .ensures) (c .before .before .remember .ensures)))
+    (λ c.
+    let x = c .before .before .before .before .before .before .before .before .before .before .before .before .before .before .before .before .before .before .before .before .before .before .before .before .before .args in
+    let take′ = c .before .before .before .before .before .before .before .before .before .before .before .before .before .before .before .take in
+    let protects′ = c .before .before .before .before .protects in
+    let protects2′ = c .before .before .before .protects2 in
+    let remember′ = c .before .before .remember in
+    obeyed (length (now (x .room))) (x .byte) (now (x .page)) (now (x .drawn)) (x .p .state) (take′ .ensures) (protects′ .ensures) (protects2′ .ensures) (remember′ .ensures)))

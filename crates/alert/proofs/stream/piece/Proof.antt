@@ -22,7 +22,9 @@ piece-spec =
     -- ended-requires
     (λ c κs. search needs)
     -- returns
-    (λ c. fed-none (ap (watch (now (c .before .before .before .before .before .before .before .before .before .before .before .args .page)) (now (c .before .before .before .before .before .before .before .before .before .before .before .args .drawn))) (c .ended .ensures)))
+    (λ c.
+    let x = c .before .before .before .before .before .before .before .before .before .before .before .args in
+    fed-none (ap (watch (now (x .page)) (now (x .drawn))) (c .ended .ensures)))
     -- slice-aggregate-count
     (λ c. search needs)
     -- count-requires
@@ -32,7 +34,9 @@ piece-spec =
     -- slice-aggregate-feed
     (λ c. sym (length-take-le _ _ (search needs)))
     -- feed-requires
-    (λ c κs. c .before .before .before .before .before .before .before .before .before .before .before .before .before .before .before .before .before .before .pre)
+    (λ c κs.
+    let k = c .before .before .before .before .before .before .before .before .before .before .before .before .before .before .before .before .before .before .pre in
+    k)
     -- same-length
     (λ c. omega (arith, c .before .before .before .before .before .before .before .before .before .before .feed .kept))
     -- same-length-2

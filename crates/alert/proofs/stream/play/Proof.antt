@@ -13,16 +13,38 @@ play-spec =
     -- start-requires
     (λ c κs. search needs)
     -- pieces-requires
-    (λ c κs. omega (arith, c .before .before .before .before .before .before .before .start .kept, c .before .before .before .before .before .before .before .before .before .before .before .before .before .before .pre))
+    (λ c κs.
+    let k = c .before .before .before .before .before .before .before .before .before .before .before .before .before .before .pre in
+    let start′ = c .before .before .before .before .before .before .before .start in
+    omega (arith, start′ .kept, k))
     -- same-length
-    (λ c. omega (arith, c .before .before .before .before .before .before .before .before .before .before .before .before .before .before .before .before .before .before .start .kept, c .before .before .before .before .before .before .before .before .before .before .pieces .kept))
+    (λ c.
+    let start′ = c .before .before .before .before .before .before .before .before .before .before .before .before .before .before .before .before .before .before .start in
+    let pieces′ = c .before .before .before .before .before .before .before .before .before .before .pieces in
+    omega (arith, start′ .kept, pieces′ .kept))
     -- same-length-2
-    (λ c. omega (arith, c .before .before .before .before .before .before .before .before .before .before .before .before .before .before .before .before .before .before .start .kept, c .before .before .before .before .before .before .before .before .before .before .pieces .kept))
+    (λ c.
+    let start′ = c .before .before .before .before .before .before .before .before .before .before .before .before .before .before .before .before .before .before .start in
+    let pieces′ = c .before .before .before .before .before .before .before .before .before .before .pieces in
+    omega (arith, start′ .kept, pieces′ .kept))
     -- same-length-3
-    (λ c. omega (arith, c .before .before .before .before .before .before .before .before .before .before .before .before .before .before .before .before .before .before .start .kept, c .before .before .before .before .before .before .before .before .before .before .pieces .kept))
+    (λ c.
+    let start′ = c .before .before .before .before .before .before .before .before .before .before .before .before .before .before .before .before .before .before .start in
+    let pieces′ = c .before .before .before .before .before .before .before .before .before .before .pieces in
+    omega (arith, start′ .kept, pieces′ .kept))
     -- same-length-4
-    (λ c. omega (arith, c .before .before .before .before .before .before .before .before .before .before .before .before .before .before .before .before .before .before .start .kept, c .before .before .before .before .before .before .before .before .before .before .pieces .kept))
+    (λ c.
+    let start′ = c .before .before .before .before .before .before .before .before .before .before .before .before .before .before .before .before .before .before .start in
+    let pieces′ = c .before .before .before .before .before .before .before .before .before .before .pieces in
+    omega (arith, start′ .kept, pieces′ .kept))
     -- same-length-5
-    (λ c. omega (arith, c .before .before .before .before .before .before .before .before .before .before .before .before .before .before .before .before .before .before .start .kept, c .before .before .before .before .before .before .before .before .before .before .pieces .kept))
+    (λ c.
+    let start′ = c .before .before .before .before .before .before .before .before .before .before .before .before .before .before .before .before .before .before .start in
+    let pieces′ = c .before .before .before .before .before .before .before .before .before .before .pieces in
+    omega (arith, start′ .kept, pieces′ .kept))
     -- returns
-    (λ c. came (now (c .before .before .before .before .before .before .before .before .before .before .before .before .before .before .before .before .before .before .before .before .before .before .before .before .before .args .page)) (c .before .before .before .before .before .before .before .before .before .before .before .before .before .before .before .before .before .before .start .ensures .0) (c .before .before .before .before .before .before .before .before .before .before .before .before .before .before .before .before .before .before .start .ensures .1) (c .before .before .before .before .before .before .before .before .before .before .pieces .ensures)))
+    (λ c.
+    let x = c .before .before .before .before .before .before .before .before .before .before .before .before .before .before .before .before .before .before .before .before .before .before .before .before .before .args in
+    let start′ = c .before .before .before .before .before .before .before .before .before .before .before .before .before .before .before .before .before .before .start in
+    let pieces′ = c .before .before .before .before .before .before .before .before .before .before .pieces in
+    came (now (x .page)) (start′ .ensures .0) (start′ .ensures .1) (pieces′ .ensures)))

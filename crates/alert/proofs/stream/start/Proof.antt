@@ -15,4 +15,7 @@ start-spec =
     -- same-length
     (λ c. search needs)
     -- returns
-    (λ c. (c .before .before .before .power-on .ensures .state ∙ on-state (now (c .before .before .before .before .before .before .args .page)), c .before .before .before .power-on .ensures .page)))
+    (λ c.
+    let x = c .before .before .before .before .before .before .args in
+    let power-on′ = c .before .before .before .power-on in
+    (power-on′ .ensures .state ∙ on-state (now (x .page)), power-on′ .ensures .page)))

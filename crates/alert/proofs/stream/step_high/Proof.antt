@@ -18,12 +18,26 @@ step-high-spec =
     -- compared-requires
     (λ c κs. search needs)
     -- same-length
-    (λ c. omega (arith, c .before .before .before .before .before .before .before .before .before .before .step .kept, c .before .before .before .before .before .before .before .before .before .before .before .before .before .before .before .before .copy .kept))
+    (λ c.
+    let copy′ = c .before .before .before .before .before .before .before .before .before .before .before .before .before .before .before .before .copy in
+    let step′ = c .before .before .before .before .before .before .before .before .before .before .step in
+    omega (arith, step′ .kept, copy′ .kept))
     -- same-length-2
-    (λ c. omega (arith, c .before .before .before .before .before .before .before .before .before .before .step .kept, c .before .before .before .before .before .before .before .before .before .before .before .before .before .before .before .before .copy .kept))
+    (λ c.
+    let copy′ = c .before .before .before .before .before .before .before .before .before .before .before .before .before .before .before .before .copy in
+    let step′ = c .before .before .before .before .before .before .before .before .before .before .step in
+    omega (arith, step′ .kept, copy′ .kept))
     -- same-length-3
-    (λ c. omega (arith, c .before .before .before .before .before .before .before .before .before .before .step .kept, c .before .before .before .before .before .before .before .before .before .before .before .before .before .before .before .before .copy .kept))
+    (λ c.
+    let copy′ = c .before .before .before .before .before .before .before .before .before .before .before .before .before .before .before .before .copy in
+    let step′ = c .before .before .before .before .before .before .before .before .before .before .step in
+    omega (arith, step′ .kept, copy′ .kept))
     -- same-length-4
-    (λ c. omega (arith, c .before .before .before .before .before .before .before .before .before .before .step .kept, c .before .before .before .before .before .before .before .before .before .before .before .before .before .before .before .before .copy .kept))
+    (λ c.
+    let copy′ = c .before .before .before .before .before .before .before .before .before .before .before .before .before .before .before .before .copy in
+    let step′ = c .before .before .before .before .before .before .before .before .before .before .step in
+    omega (arith, step′ .kept, copy′ .kept))
     -- returns
-    (λ c. record { state = c .compared .ensures ∙ c .before .before .before .before .before .before .before .before .before .before .step .ensures .state; page = c .before .before .before .before .before .before .before .before .before .before .step .ensures .page }))
+    (λ c.
+    let step′ = c .before .before .before .before .before .before .before .before .before .before .step in
+    record { state = c .compared .ensures ∙ step′ .ensures .state; page = step′ .ensures .page }))
