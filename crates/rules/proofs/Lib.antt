@@ -22,3 +22,4 @@ pub mod Left
 pub mod Press
 pub mod Reach
 pub mod Completed
+pub mod KeyStore

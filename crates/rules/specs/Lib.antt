@@ -17,6 +17,7 @@ pub mod Steps
 pub mod Left
 pub mod Press
 pub mod Reach
+pub mod KeyStore
 pub mod Bench
 pub mod Inputs
 pub mod MovingCases
