@@ -33,7 +33,7 @@ enum {
     WY50_UNKNOWN = 2,      /* no such byte after ESC; the sequence is cleared */
     WY50_BAD_ARGUMENT = 3, /* an argument outside its range, no such key or segment; the sequence is cleared */
     WY50_BARRED = 4,       /* a guarded cell or protect mode bars it; the sequence is cleared */
-    WY50_KEYS_FULL = 5,    /* the key bytes would total over 256; the sequence is cleared */
+                           /* 5 is unused: 32 keys of 8 bytes are never over 256 */
     WY50_NO_ROOM = 6,      /* the reply is longer than the room; nothing changed, the byte may come again */
     WY50_BAD_CALL = 7,     /* the page is not 1,920 cells long, or the state is not possible; nothing changed */
     WY50_LOCKED = 8        /* a key is pressed while the keyboard is locked; nothing changed */
@@ -145,7 +145,7 @@ typedef struct wy50_run_result {
     uint8_t answer; /* 0, 6 or 7 */
     size_t taken;   /* bytes taken; the rest of the input starts at input + taken */
     size_t replied; /* reply bytes */
-    size_t refused; /* how many of the bytes taken answered 1 to 5 */
+    size_t refused; /* how many of the bytes taken answered 1 to 4 */
     wy50_state state;
 } wy50_run_result;
 

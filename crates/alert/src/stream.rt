@@ -12,13 +12,12 @@ use rules::Answer;
 use rules::State;
 use std::num::wrapping_add_u64;
 
-// The bytes refused, by answer: 1 to 5 in this order, and the rest.
+// The bytes refused, by answer: 1 to 4 in this order, and the rest.
 pub struct Refusals {
     pub high: u64,
     pub unknown: u64,
     pub argument: u64,
     pub barred: u64,
-    pub keys: u64,
     pub other: u64,
 }
 
@@ -47,7 +46,6 @@ fn start(page: &mut [u16]) -> Played
         unknown: 0,
         argument: 0,
         barred: 0,
-        keys: 0,
         other: 0,
     };
     Played {
@@ -70,7 +68,6 @@ fn counted(r: Refusals, a: Answer) -> Refusals {
         Answer::Unknown => t.unknown = wrapping_add_u64(r.unknown, 1),
         Answer::BadArgument => t.argument = wrapping_add_u64(r.argument, 1),
         Answer::Barred => t.barred = wrapping_add_u64(r.barred, 1),
-        Answer::KeysFull => t.keys = wrapping_add_u64(r.keys, 1),
         Answer::NoRoom => t.other = wrapping_add_u64(r.other, 1),
         Answer::BadCall => t.other = wrapping_add_u64(r.other, 1),
         Answer::Locked => t.other = wrapping_add_u64(r.other, 1),

@@ -29,7 +29,7 @@ use Rattle.rules.specs.Possible.{isKey, allBelow, keyOk, good}
 use Rattle.rules.specs.Decode.{decodeRule}
 use Rattle.rules.specs.Good.{GoodReply}
 use Rattle.rules.specs.Carry.{separator, openCell, textFrom, textOf, replied, replyOf, Effect, done, carried}
-use Rattle.rules.specs.Step.{overfull, programmed, obeyed, innerRule, Outcome, stepRule}
+use Rattle.rules.specs.Step.{obeyed, innerRule, Outcome, stepRule}
 use Rattle.rules.specs.Calls.{joined, repeated, runRule, keySends, keyAt, Pressed, pressRule}
 use Rattle.rules.proofs.Tests.{pick-if, both-parts, among-parts}
 use Rattle.rules.proofs.Rows.{by-width, columns-width}
@@ -135,29 +135,28 @@ module _ (p : List ℕ) (c : Core) (n : length p ≡ pageLength (c .screen)) (h 
             (omega (arith, leb-false (length (replyOf (c .modes .protect) p x)) room e));
       })
 
-  obeyed-bounded : (u : Setup) (d : Decoded) (room : ℕ) → decodedOk (c .pending) (c .gathered) d ≡ true → Bounded (c .screen) room (obeyed p c u d room)
-  unfolding obeyed decodedOk programmed
-  obeyed-bounded u (Decoded.Wait q) room e = silent refl refl
-  obeyed-bounded u (Decoded.Gather b) room e = silent refl refl
-  obeyed-bounded u (Decoded.Program i) room e =
-      pick-if (Bounded (c .screen) room) (overfull (u .keys) i (c .gathered)) (λ z. silent refl refl) (λ z. silent refl refl)
-  obeyed-bounded u (Decoded.Reject a) room e = silent refl (ne-eqb (number a) 6 (omega (arith, among-parts 2 4 (number a) e)))
-  obeyed-bounded u (Decoded.Do d) room e = carried-bounded _ room (planned-kept p c n h (u .tabs) d)
+  obeyed-bounded : (tabs : List Bool) (d : Decoded) (room : ℕ) → decodedOk (c .pending) (c .gathered) d ≡ true → Bounded (c .screen) room (obeyed p c tabs d room)
+  unfolding obeyed decodedOk
+  obeyed-bounded tabs (Decoded.Wait q) room e = silent refl refl
+  obeyed-bounded tabs (Decoded.Gather b) room e = silent refl refl
+  obeyed-bounded tabs (Decoded.Program i) room e = silent refl refl
+  obeyed-bounded tabs (Decoded.Reject a) room e = silent refl (ne-eqb (number a) 6 (omega (arith, among-parts 2 3 (number a) e)))
+  obeyed-bounded tabs (Decoded.Do d) room e = carried-bounded _ room (planned-kept p c n h tabs d)
 
-  pub inner-bounded : (u : Setup) (b room : ℕ) → Bounded (c .screen) room (innerRule p c u b room)
+  pub inner-bounded : (tabs : List Bool) (b room : ℕ) → Bounded (c .screen) room (innerRule p c tabs b room)
   unfolding innerRule
-  inner-bounded u b room =
+  inner-bounded tabs b room =
       pick-if (Bounded (c .screen) room) (ltb b 128)
-      (λ e. obeyed-bounded u (decodeRule (c .pending) (c .gathered .len) b) room
+      (λ e. obeyed-bounded tabs (decodeRule (c .pending) (c .gathered .len) b) room
       (decoded-ok (c .pending) (c .gathered) b (ltb-true b 128 e) (h .pending)))
       (λ e. silent refl refl)
 
 -- ---- the calls
 
-step-bounded : (p : List ℕ) (s : State) (b room : ℕ) → good p s ≡ true → Bounded (s .core .screen) room (innerRule p (s .core) (s .setup) b room)
+step-bounded : (p : List ℕ) (s : State) (b room : ℕ) → good p s ≡ true → Bounded (s .core .screen) room (innerRule p (s .core) (s .setup .tabs) b room)
 step-bounded p s b room g =
     let r = good-parts p s g in
-    inner-bounded p (s .core) (r .0) (possible-parts s (r .1) .core) (s .setup) b room
+    inner-bounded p (s .core) (r .0) (possible-parts s (r .1) .core) (s .setup .tabs) b room
 
 module _ (p : List ℕ) (s : State) (b room : ℕ) where
   pub reply-bound : length (stepRule p s b room .reply) ≤ mostReply (s .core .screen)

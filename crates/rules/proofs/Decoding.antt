@@ -1,5 +1,5 @@
 -- What a byte comes to after a possible sequence under way: a possible sequence again, a byte that the key's text can take, a key that is
--- there, a refusal with 2 to 5, or a command whose change fits the set-up.
+-- there, a refusal with 2 to 4, or a command whose change fits the set-up.
 -- Assumes nothing.
 use mathlib.Core.Path.{_≡_, refl}
 use mathlib.Core.Bool.{Bool, true, false}
@@ -30,7 +30,7 @@ unfoldable pub decodedOk : Pending → Key → Decoded → Bool
 decodedOk q k (Decoded.Wait r) = pendingOk r noKey
 decodedOk q k (Decoded.Gather b) = pendingOk q (grown k b)
 decodedOk q k (Decoded.Program n) = both (ltb n 32) (keyOk k)
-decodedOk q k (Decoded.Reject a) = among 2 4 (number a)
+decodedOk q k (Decoded.Reject a) = among 2 3 (number a)
 decodedOk q k (Decoded.Do d) = commandOk d
 
 -- ---- tables: what holds of each entry holds at every byte

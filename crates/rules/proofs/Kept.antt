@@ -34,7 +34,7 @@ use Rattle.rules.specs.Decode.{decodeRule}
 use Rattle.rules.specs.Plan.{planRule}
 use Rattle.rules.specs.Good.{GoodLand}
 use Rattle.rules.specs.Carry.{replyOf, landed, Effect, pageAfter, done, carried}
-use Rattle.rules.specs.Step.{overfull, programmed, obeyed, innerRule, Outcome, stepRule}
+use Rattle.rules.specs.Step.{obeyed, innerRule, Outcome, stepRule}
 use Rattle.rules.specs.Calls.{powerOnRule, Ran, joined, repeated, runRule, Call, Step, Run, Press, ofStep, ofRun, ofPress, callRule, after, play}
 use Rattle.rules.proofs.Tests.{pick-if, both-parts, both-true}
 use Rattle.rules.proofs.Marks.{length-guards}
@@ -193,29 +193,27 @@ module _ (p : List ℕ) (c : Core) (n : length p ≡ pageLength (c .screen)) (h 
       })
       (λ e. record { size = n; wide = refl; core = h; change = refl })
 
-  obeyed-kept : (u : Setup) (d : Decoded) (room : ℕ) → decodedOk (c .pending) (c .gathered) d ≡ true → EffectKept c (obeyed p c u d room)
-  unfolding obeyed decodedOk programmed changeOk
-  obeyed-kept u (Decoded.Wait q) room e = record { size = n; wide = refl; core = record { screen = h .screen; bells = h .bells; pending = e }; change = refl }
-  obeyed-kept u (Decoded.Gather b) room e = record { size = n; wide = refl; core = record { screen = h .screen; bells = h .bells; pending = e }; change = refl }
-  obeyed-kept u (Decoded.Program i) room e =
-      pick-if (EffectKept c) (overfull (u .keys) i (c .gathered)) (λ z. record { size = n; wide = refl; core = idle-kept c h; change = refl })
-      (λ z. record { size = n; wide = refl; core = idle-kept c h; change = e })
-  obeyed-kept u (Decoded.Reject a) room e = record { size = n; wide = refl; core = idle-kept c h; change = refl }
-  obeyed-kept u (Decoded.Do d) room e = carried-kept _ room (planned-kept (u .tabs) d) e
+  obeyed-kept : (tabs : List Bool) (d : Decoded) (room : ℕ) → decodedOk (c .pending) (c .gathered) d ≡ true → EffectKept c (obeyed p c tabs d room)
+  unfolding obeyed decodedOk changeOk
+  obeyed-kept tabs (Decoded.Wait q) room e = record { size = n; wide = refl; core = record { screen = h .screen; bells = h .bells; pending = e }; change = refl }
+  obeyed-kept tabs (Decoded.Gather b) room e = record { size = n; wide = refl; core = record { screen = h .screen; bells = h .bells; pending = e }; change = refl }
+  obeyed-kept tabs (Decoded.Program i) room e = record { size = n; wide = refl; core = idle-kept c h; change = e }
+  obeyed-kept tabs (Decoded.Reject a) room e = record { size = n; wide = refl; core = idle-kept c h; change = refl }
+  obeyed-kept tabs (Decoded.Do d) room e = carried-kept _ room (planned-kept tabs d) e
 
-  pub inner-kept : (u : Setup) (b room : ℕ) → EffectKept c (innerRule p c u b room)
+  pub inner-kept : (tabs : List Bool) (b room : ℕ) → EffectKept c (innerRule p c tabs b room)
   unfolding innerRule changeOk
-  inner-kept u b room =
+  inner-kept tabs b room =
       pick-if (EffectKept c) (ltb b 128)
-      (λ e. obeyed-kept u (decodeRule (c .pending) (c .gathered .len) b) room
+      (λ e. obeyed-kept tabs (decodeRule (c .pending) (c .gathered .len) b) room
       (decoded-ok (c .pending) (c .gathered) b (ltb-true b 128 e) (h .pending)))
       (λ e. record { size = n; wide = refl; core = h; change = refl })
 
   pub inner-setup : (u : Setup) (b room : ℕ) → PossibleSetup (widthOf (c .screen)) u
-      → PossibleSetup (widthOf (innerRule p c u b room .core .screen)) (changed (innerRule p c u b room .change) (c .gathered) u)
+      → PossibleSetup (widthOf (innerRule p c (u .tabs) b room .core .screen)) (changed (innerRule p c (u .tabs) b room .change) (c .gathered) u)
   inner-setup u b room w =
-      let e = innerRule p c u b room in
-      let k = inner-kept u b room in
+      let e = innerRule p c (u .tabs) b room in
+      let k = inner-kept (u .tabs) b room in
       subst (λ (t : Bool). PossibleSetup (columns t) (changed (e .change) (c .gathered) u)) (sym (k .wide))
       (changed-kept (c .screen .wide) (e .change) (c .gathered) u (k .change) w)
 
@@ -255,7 +253,7 @@ step-keeps p s b room =
     (λ g.
     let r = good-parts p s g in
     let w = possible-parts s (r .1) in
-    let k = inner-kept p (s .core) (r .0) (w .core) (s .setup) b room in
+    let k = inner-kept p (s .core) (r .0) (w .core) (s .setup .tabs) b room in
     record {
       size = k .size ∙ sym (r .0);
       wide = k .wide;

@@ -1,22 +1,21 @@
 -- The store of the function keys is never over 256 bytes.
---     key-stores
+--     key-stores     the key bytes of a possible state, and those after a key is programmed
+--     five-unused     no step answers 5
 -- Assumes nothing.
 use mathlib.Core.Path.{_≡_}
-use mathlib.Core.Bool.{true, false}
+use mathlib.Core.Bool.{true}
 use mathlib.Core.List.{List, [], _∷_}
 use Prim.Native.Nat.{ℕ, _*_, _≤_}
 use native.Mathlib.Omega.{arith}
-use lib.Dec.{ltb}
 use lib.ListN.{length, set, length-set}
-use borrow.Author.Tests.{le-ltb}
 use Rattle.rules.specs.declared.Key.{Key}
-use Rattle.rules.specs.State.{keyText, keyOf, changed, keyBytes}
+use Rattle.rules.specs.State.{keyText, keyOf, changed}
 use Rattle.rules.specs.Possible.{keyOk, keysOk}
-use Rattle.rules.specs.Step.{overfull}
-use Rattle.rules.specs.KeyStore.{KeyStores}
+use Rattle.rules.specs.KeyStore.{keyBytes, KeyStores, Unused}
 use Rattle.rules.proofs.Tests.{both-parts}
 use Rattle.rules.proofs.Keys.{key-parts, key-copied, keys-set}
 use Rattle.rules.proofs.Kept.{possible-parts}
+use Rattle.rules.proofs.Left.{step-unused}
 
 -- eight bytes a key
 bytes-most : (l : List Key) → keysOk l ≡ true → keyBytes l ≤ 8 * length l
@@ -33,11 +32,13 @@ set-most l n k m e h =
     omega (arith, bytes-most (set l n (keyOf (keyText k))) (keys-set l n (keyOf (keyText k)) e (key-copied k h)), size)
 
 pub key-stores : KeyStores
-unfolding changed overfull
+unfolding changed
 key-stores s m h =
     let e = possible-parts s h .setup .keys in
     record {
       total = omega (arith, bytes-most (s .setup .keys) e, m);
       programmed = λ n k o. set-most (s .setup .keys) n k m e o;
-      untested = λ n k o. le-ltb _ _ (set-most (s .setup .keys) n k m e o);
     }
+
+pub five-unused : Unused
+five-unused = step-unused

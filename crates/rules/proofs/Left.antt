@@ -1,5 +1,5 @@
 -- What each answer of a step leaves.
---     step-left, step-most     an answer other than 0 leaves what the table says; none is above 7
+--     step-left, step-most, step-unused     an answer other than 0 leaves what the table says; none is above 7, and none is 5
 --     page-changed     nothing but answer 0 changes a page
 --     step-high     a byte of 80h or above changes nothing, whatever is under way
 --     inner-ends     the ways in which a byte ends, on a good page and core
@@ -14,7 +14,6 @@ use lib.ListN.{length}
 use borrow.Author.Tests.{le-ltb, ltb-true, eqb-true, eqb-false}
 use Rattle.rules.specs.declared.State.{State}
 use Rattle.rules.specs.declared.Core.{Core}
-use Rattle.rules.specs.declared.Setup.{Setup}
 use Rattle.rules.specs.declared.Plan.{Plan}
 use Rattle.rules.specs.declared.Decoded.{Decoded}
 use Rattle.rules.specs.declared.Decoded.the-variants as Decoded
@@ -24,41 +23,41 @@ use Rattle.rules.specs.State.{number, idle, changed}
 use Rattle.rules.specs.Possible.{pendingOk, good}
 use Rattle.rules.specs.Decode.{decodeRule}
 use Rattle.rules.specs.Carry.{Effect, quiet, applied, replied, replyOf, landed, done, carried}
-use Rattle.rules.specs.Step.{Outcome, outcomeOf, overfull, programmed, obeyed, innerRule, stepRule}
+use Rattle.rules.specs.Step.{Outcome, outcomeOf, obeyed, innerRule, stepRule}
 use Rattle.rules.specs.Left.{Left, Unchanged}
 use Rattle.rules.proofs.Tests.{pick-if, among-parts}
 use Rattle.rules.proofs.Decoding.{decodedOk, decoded-ok}
 use Rattle.rules.proofs.Kept.{good-parts, possible-parts}
 use Rattle.rules.proofs.Planned.{Planned, obeys, refuses, planned}
 
--- how a byte ends: 0; 2 to 5 and the sequence cleared; 1 or 6 and nothing changed
+-- how a byte ends: 0; 2 to 4 and the sequence cleared; 1 or 6 and nothing changed
 pub data Ended (p : List ℕ) (c : Core) : Effect → Type 0 where
   ends : {e : Effect} → e .answer ≡ 0 → Ended p c e
-  clears : (n : ℕ) → among 2 4 n ≡ true → Ended p c (quiet n (idle c) p)
-  keeps : (n : ℕ) → among 2 4 n ≡ false → n ≤ 6 → Ended p c (quiet n c p)
+  clears : (n : ℕ) → among 2 3 n ≡ true → Ended p c (quiet n (idle c) p)
+  keeps : (n : ℕ) → among 2 3 n ≡ false → (n ≤ 6) × (n ≡ 5 → ⊥) → Ended p c (quiet n c p)
 
 module _ (p : List ℕ) (c : Core) where
   carried-ends : (x : Plan) (room : ℕ) → Planned c x → Ended p c (carried p c x room)
   unfolding carried done applied replied landed
   carried-ends x room (obeys e) =
-      pick-if (Ended p c) (leb (length (replyOf (c .modes .protect) p x)) room) (λ t. ends (ap number e)) (λ t. keeps 6 refl (omega arith))
+      pick-if (Ended p c) (leb (length (replyOf (c .modes .protect) p x)) room) (λ t. ends (ap number e)) (λ t. keeps 6 refl (omega arith, λ e. omega (arith, e)))
   carried-ends x room (refuses a e) = rw (leb·zero room) (clears (number a) e)
 
-  module _ (u : Setup) (room : ℕ) where
-    obeyed-ends : (d : Decoded) → decodedOk (c .pending) (c .gathered) d ≡ true → Ended p c (obeyed p c u d room)
-    unfolding obeyed programmed decodedOk
+  module _ (tabs : List Bool) (room : ℕ) where
+    obeyed-ends : (d : Decoded) → decodedOk (c .pending) (c .gathered) d ≡ true → Ended p c (obeyed p c tabs d room)
+    unfolding obeyed decodedOk
     obeyed-ends (Decoded.Wait q) e = ends refl
     obeyed-ends (Decoded.Gather b) e = ends refl
-    obeyed-ends (Decoded.Program n) e = pick-if (Ended p c) (overfull (u .keys) n (c .gathered)) (λ t. clears 5 refl) (λ t. ends refl)
+    obeyed-ends (Decoded.Program n) e = ends refl
     obeyed-ends (Decoded.Reject a) e = clears (number a) e
-    obeyed-ends (Decoded.Do d) e = carried-ends _ room (planned c (guardedAt (c .modes .protect) p) (u .tabs) d)
+    obeyed-ends (Decoded.Do d) e = carried-ends _ room (planned c (guardedAt (c .modes .protect) p) tabs d)
 
-    pub inner-ends : (b : ℕ) → pendingOk (c .pending) (c .gathered) ≡ true → Ended p c (innerRule p c u b room)
+    pub inner-ends : (b : ℕ) → pendingOk (c .pending) (c .gathered) ≡ true → Ended p c (innerRule p c tabs b room)
     unfolding innerRule
     inner-ends b h =
         pick-if (Ended p c) (ltb b 128)
         (λ t. obeyed-ends (decodeRule (c .pending) (c .gathered .len) b) (decoded-ok (c .pending) (c .gathered) b (ltb-true b 128 t) h))
-        (λ t. keeps 1 refl (omega arith))
+        (λ t. keeps 1 refl (omega arith, λ e. omega (arith, e)))
 
 -- ---- the step
 
@@ -71,12 +70,17 @@ module _ (p : List ℕ) (s : State) where
 
   ended-most : {e : Effect} → Ended p (s .core) e → e .answer ≤ 7
   ended-most (ends a) = omega (arith, a)
-  ended-most (clears m a) = omega (arith, among-parts 2 4 m a)
-  ended-most (keeps m a l) = omega arith
+  ended-most (clears m a) = omega (arith, among-parts 2 3 m a)
+  ended-most (keeps m a l) = omega (arith, l .0)
+
+  ended-five : {e : Effect} → Ended p (s .core) e → e .answer ≡ 5 → ⊥
+  ended-five (ends a) h = omega (arith, a, h)
+  ended-five (clears m a) h = omega (arith, among-parts 2 3 m a, h)
+  ended-five (keeps m a l) h = l .1 h
 
   module _ (b room : ℕ) where
-    good-ends : good p s ≡ true → Ended p (s .core) (innerRule p (s .core) (s .setup) b room)
-    good-ends g = inner-ends p (s .core) (s .setup) room b (possible-parts s (good-parts p s g .1) .core .pending)
+    good-ends : good p s ≡ true → Ended p (s .core) (innerRule p (s .core) (s .setup .tabs) b room)
+    good-ends g = inner-ends p (s .core) (s .setup .tabs) room b (possible-parts s (good-parts p s g .1) .core .pending)
 
     -- an answer other than 0 leaves the page, replies nothing, and leaves of the state what the table says
     pub step-left : (stepRule p s b room .answer ≡ 0 → ⊥) → Left p s (stepRule p s b room)
@@ -89,6 +93,11 @@ module _ (p : List ℕ) (s : State) where
     pub step-most : stepRule p s b room .answer ≤ 7
     unfolding stepRule
     step-most = pick-if (λ (o : Outcome). o .answer ≤ 7) (good p s) (λ g. ended-most (good-ends g)) (λ g. omega arith)
+
+    -- none is 5
+    pub step-unused : stepRule p s b room .answer ≡ 5 → ⊥
+    unfolding stepRule
+    step-unused = pick-if (λ (o : Outcome). o .answer ≡ 5 → ⊥) (good p s) (λ g. ended-five (good-ends g)) (λ g e. omega (arith, e))
 
     -- nothing but answer 0 changes a page
     pub page-changed : (stepRule p s b room .page ≡ p → ⊥) → stepRule p s b room .answer ≡ 0

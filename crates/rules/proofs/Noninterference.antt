@@ -27,7 +27,7 @@ use Rattle.rules.specs.Possible.{good}
 use Rattle.rules.specs.Decode.{decodeRule}
 use Rattle.rules.specs.Plan.{planRule}
 use Rattle.rules.specs.Carry.{Effect, effect, planWidth, replyOf, landed, pageAfter, done, carried}
-use Rattle.rules.specs.Step.{overfull, programmed, obeyed, innerRule, Outcome, outcomeOf, stepRule}
+use Rattle.rules.specs.Step.{obeyed, innerRule, Outcome, outcomeOf, stepRule}
 use Rattle.rules.specs.Calls.{Ran, ended, joined, repeated, runRule, pressRule, Call, Step, Run, Press, Called, ofStep, ofRun, ofPress, callRule, Played, after, play}
 use Rattle.rules.specs.Noninterference.{afterEscape, anyOf, excludedBytes, completes, runCompletes, callCompletes, anyCompleted, AlikePages, KeptPages, Demand3}
 use Rattle.rules.proofs.Related.{Related, related-alike, related-cell, related-length, related-guards, related-write, related-reply, related-reply-length}
@@ -111,15 +111,12 @@ module _ {p q x y : List ℕ} (h : Related p q x y) (s : State) (on : protects s
   unfolding carried done
   carried-answer k room e = rw e
 
-  obeyed-agrees : (d : Decoded) (room : ℕ) → both (givesExcluded d) (eqb ((obeyed x (s .core) (s .setup) d room) .answer) 0) ≡ false
-      → AgreeFrom s p q (obeyed x (s .core) (s .setup) d room) (obeyed y (s .core) (s .setup) d room)
-  unfolding obeyed programmed
+  obeyed-agrees : (d : Decoded) (room : ℕ) → both (givesExcluded d) (eqb ((obeyed x (s .core) (s .setup .tabs) d room) .answer) 0) ≡ false
+      → AgreeFrom s p q (obeyed x (s .core) (s .setup .tabs) d room) (obeyed y (s .core) (s .setup .tabs) d room)
+  unfolding obeyed
   obeyed-agrees (Decoded.Wait r) room e = untouched _ _ _ on
   obeyed-agrees (Decoded.Gather b) room e = untouched _ _ _ on
-  obeyed-agrees (Decoded.Program n) room e =
-      pick-agrees (AgreeFrom s p q) (overfull (s .setup .keys) n (s .core .gathered))
-      (λ t. untouched 5 (idle (s .core)) SetupChange.Nothing on)
-      (λ t. untouched 0 (idle (s .core)) (SetupChange.Key n) on)
+  obeyed-agrees (Decoded.Program n) room e = untouched _ _ _ on
   obeyed-agrees (Decoded.Reject a) room e = untouched _ _ _ on
   obeyed-agrees (Decoded.Do d) room e =
       let k = planRule (guardedAt (protects s) x) (s .setup .tabs) (s .core) d in
@@ -127,8 +124,8 @@ module _ {p q x y : List ℕ} (h : Related p q x y) (s : State) (on : protects s
       (carried-agrees k room (λ fits. unrevealing (guardedAt (protects s) x) (s .setup .tabs) (s .core) on d
       (ap (λ (n : ℕ). both (isExcluded d) (eqb n 0)) (sym (carried-answer k room fits)) ∙ e)))
 
-  inner-agrees : (b room : ℕ) → completes s b ((innerRule x (s .core) (s .setup) b room) .answer) ≡ false
-      → AgreeFrom s p q (innerRule x (s .core) (s .setup) b room) (innerRule y (s .core) (s .setup) b room)
+  inner-agrees : (b room : ℕ) → completes s b ((innerRule x (s .core) (s .setup .tabs) b room) .answer) ≡ false
+      → AgreeFrom s p q (innerRule x (s .core) (s .setup .tabs) b room) (innerRule y (s .core) (s .setup .tabs) b room)
   unfolding innerRule completes
   inner-agrees b room e =
       pick-agrees (AgreeFrom s p q) (ltb b 128)

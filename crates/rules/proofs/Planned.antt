@@ -1,4 +1,4 @@
--- A plan is done, or it refuses with 2 to 5 and asks for nothing but the end of the sequence.
+-- A plan is done, or it refuses with 2 to 4 and asks for nothing but the end of the sequence.
 --     planned
 -- Assumes nothing.
 use mathlib.Core.Path.{_≡_, refl}
@@ -33,7 +33,7 @@ use Rattle.rules.specs.Plan.{refusing, unlessGuarded, reversePlan, downP
 
 pub data Planned (c : Core) : Plan → Type 0 where
   obeys : {x : Plan} → x .answer ≡ Answer.Done → Planned c x
-  refuses : (a : Answer) → among 2 4 (number a) ≡ true → Planned c (refusing (idle c) a)
+  refuses : (a : Answer) → among 2 3 (number a) ≡ true → Planned c (refusing (idle c) a)
 
 planned-pick : {c : Core} (t : Bool) {x y : Plan} → Planned c x → Planned c y → Planned c (pick t x y)
 planned-pick true x y = x

@@ -42,9 +42,9 @@ run-done p s room = refl
 
 -- ---- what a run gives
 
--- the count of refused bytes takes the answers 1 to 5
+-- the count of refused bytes takes the answers 1 to 4
 refusal-is : (n : ℕ) → refusal n ≡ pick (isRefusal n) 1 0
-refusal-is n = let e : ltb n 6 ≡ leb n 5 = leb·suc-suc n 5 in rw e
+refusal-is n = let e : ltb n 5 ≡ leb n 4 = leb·suc-suc n 4 in rw e
 
 -- no byte, a byte that answers 6, and any other byte before a run that is so
 run-none : (p : List ℕ) (s : State) (room : ℕ) → Repeats p s [] room [] (ended p s 0 [])

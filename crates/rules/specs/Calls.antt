@@ -18,7 +18,7 @@ powerOnRule p =
     pick (eqb (length p) narrowCells) (record { answer = 0; state = powerOn; page = blank; reply = [] })
     (record { answer = 7; state = powerOn; page = p; reply = [] })
 
--- a run: its answer, bytes taken, how many of these answered 1 to 5, the reply, the bytes not taken
+-- a run: its answer, bytes taken, how many of these answered 1 to 4, the reply, the bytes not taken
 pub record Ran : Type 0 where
   pub answer : ℕ
   pub taken : ℕ
@@ -31,9 +31,9 @@ pub record Ran : Type 0 where
 abbrev pub ended : List ℕ → State → ℕ → List ℕ → Ran
 ended p s n rest = record { answer = n; taken = 0; refused = 0; reply = []; rest = rest; state = s; page = p }
 
--- 1 for an answer from 1 to 5
+-- 1 for an answer from 1 to 4
 abbrev pub refusal : ℕ → ℕ
-refusal n = pick (among 1 5 n) 1 0
+refusal n = pick (among 1 4 n) 1 0
 
 -- a step that took its byte, and then the rest of the run
 unfoldable pub joined : Outcome → Ran → Ran
@@ -88,7 +88,7 @@ pub data Call : Type 0 where
   Run : List ℕ → ℕ → Call
   Press : ℕ → ℕ → Call
 
--- what a call gives back, with the state after it. Counts: of a run bytes taken, reply bytes and bytes that answered 1 to 5; else reply bytes
+-- what a call gives back, with the state after it. Counts: of a run bytes taken, reply bytes and bytes that answered 1 to 4; else reply bytes
 pub record Given : Type 0 where
   pub answer : ℕ
   pub counts : List ℕ

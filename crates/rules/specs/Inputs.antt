@@ -84,7 +84,7 @@ fullKeys = record {
 unfoldable pub typed : List ℕ → List ℕ → State → Played
 typed [] p s = record { given = []; state = s; page = p }
 typed (b ∷ bytes) p s =
-    let o = ofStep (outcomeOf s (innerRule p (s .core) (s .setup) b 3192)) in
+    let o = ofStep (outcomeOf s (innerRule p (s .core) (s .setup .tabs) b 3192)) in
     after (o .given) (typed bytes (o .page) (o .given .state))
 
 -- every byte answers 0; every byte but the last, which answers n

@@ -11,9 +11,9 @@ use Rattle.rules.specs.Step.{Outcome}
 abbrev pub cleared : State → State
 cleared s = record { core = idle (s .core); setup = s .setup }
 
--- the column "leaves" for the answers other than 0: 2 to 5 clear the sequence, all others change nothing
+-- the column "leaves" for the answers other than 0: 2 to 4 clear the sequence, all others change nothing
 abbrev pub leaves : ℕ → State → State
-leaves n s = pick (among 2 4 n) (cleared s) s
+leaves n s = pick (among 2 3 n) (cleared s) s
 
 -- a step o on a page p and a state s left what its answer says, and replied nothing
 pub record Left (p : List ℕ) (s : State) (o : Outcome) : Type 0 where

@@ -21,14 +21,13 @@ use Rattle.rules.specs.declared.Pending.the-variants as Pending
 use Rattle.rules.specs.Cell.{pick}
 use Rattle.rules.specs.Row.{columns, height, Placed}
 
--- document 01, "Numbers that come back"
+-- document 01, "Numbers that come back"; 5 is unused (A4)
 abbrev pub number : Answer → ℕ
 number Answer.Done = 0
 number Answer.HighByte = 1
 number Answer.Unknown = 2
 number Answer.BadArgument = 3
 number Answer.Barred = 4
-number Answer.KeysFull = 5
 number Answer.NoRoom = 6
 number Answer.BadCall = 7
 number Answer.Locked = 8
@@ -132,8 +131,3 @@ changed SetupChange.ClearTabs k u = record { tabs = replicate 132 false; attribu
 changed (SetupChange.Attribute n a) k u = record { tabs = u .tabs; attributes = set (u .attributes) n a; features = u .features; keys = u .keys }
 changed (SetupChange.Feature n f) k u = record { tabs = u .tabs; attributes = u .attributes; features = set (u .features) n f; keys = u .keys }
 changed (SetupChange.Key n) k u = record { tabs = u .tabs; attributes = u .attributes; features = u .features; keys = set (u .keys) n (keyOf (keyText k)) }
-
--- the key bytes in all
-unfoldable pub keyBytes : List Key → ℕ
-keyBytes [] = 0
-keyBytes (k ∷ ks) = k .len + keyBytes ks

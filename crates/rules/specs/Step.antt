@@ -1,20 +1,18 @@
 -- The single step: check, decode, plan, carry out. The order of answers is that of the tests here: 7, 1, then 2 or 3 from decoding,
--- 3 or 4 from planning, 5, and 6.
+-- 3 or 4 from planning, and 6.
 use mathlib.Core.Bool.{Bool, true, false}
 use mathlib.Core.List.{List, [], _∷_, _++_}
 use Prim.Native.Nat.{ℕ}
 use lib.Dec.{ltb}
-use lib.ListN.{length, set}
 use Rattle.rules.specs.declared.Core.{Core}
 use Rattle.rules.specs.declared.Key.{Key}
-use Rattle.rules.specs.declared.Setup.{Setup}
 use Rattle.rules.specs.declared.State.{State}
 use Rattle.rules.specs.declared.Decoded.{Decoded}
 use Rattle.rules.specs.declared.Decoded.the-variants as Decoded
 use Rattle.rules.specs.declared.SetupChange.the-variants as SetupChange
 use Rattle.rules.specs.Cell.{pick}
 use Rattle.rules.specs.Search.{guardedAt}
-use Rattle.rules.specs.State.{number, keyText, keyOf, keyBytes, awaiting, idle, withGathered, changed}
+use Rattle.rules.specs.State.{number, keyText, keyOf, awaiting, idle, withGathered, changed}
 use Rattle.rules.specs.Possible.{good}
 use Rattle.rules.specs.Decode.{decodeRule}
 use Rattle.rules.specs.Plan.{planRule}
@@ -24,25 +22,17 @@ use Rattle.rules.specs.Carry.{Effect, effect, quiet, carried}
 abbrev pub grown : Key → ℕ → Key
 grown k b = keyOf (keyText k ++ b ∷ [])
 
--- the key bytes would total over 256
-unfoldable pub overfull : List Key → ℕ → Key → Bool
-overfull keys n k = ltb 256 (keyBytes (set keys n (keyOf (keyText k))))
-
--- the key's text is complete: the key takes it, or 5
-unfoldable pub programmed : List ℕ → Core → List Key → ℕ → Effect
-programmed p c keys n =
-    pick (overfull keys n (c .gathered)) (quiet 5 (idle c) p) (effect 0 (idle c) (SetupChange.Key n) p [])
-
-unfoldable pub obeyed : List ℕ → Core → Setup → Decoded → ℕ → Effect
-obeyed p c u (Decoded.Wait q) room = quiet 0 (awaiting c q) p
-obeyed p c u (Decoded.Gather b) room = quiet 0 (withGathered c (grown (c .gathered) b)) p
-obeyed p c u (Decoded.Program n) room = programmed p c (u .keys) n
-obeyed p c u (Decoded.Reject a) room = quiet (number a) (idle c) p
-obeyed p c u (Decoded.Do d) room = carried p c (planRule (guardedAt (c .modes .protect) p) (u .tabs) c d) room
+-- what a byte comes to over the core and the tab stops; a change of the set-up is data
+unfoldable pub obeyed : List ℕ → Core → List Bool → Decoded → ℕ → Effect
+obeyed p c tabs (Decoded.Wait q) room = quiet 0 (awaiting c q) p
+obeyed p c tabs (Decoded.Gather b) room = quiet 0 (withGathered c (grown (c .gathered) b)) p
+obeyed p c tabs (Decoded.Program n) room = effect 0 (idle c) (SetupChange.Key n) p []
+obeyed p c tabs (Decoded.Reject a) room = quiet (number a) (idle c) p
+obeyed p c tabs (Decoded.Do d) room = carried p c (planRule (guardedAt (c .modes .protect) p) tabs c d) room
 
 -- a byte on a good page and state; 80h and above answers 1
-unfoldable pub innerRule : List ℕ → Core → Setup → ℕ → ℕ → Effect
-innerRule p c u b room = pick (ltb b 128) (obeyed p c u (decodeRule (c .pending) (c .gathered .len) b) room) (quiet 1 c p)
+unfoldable pub innerRule : List ℕ → Core → List Bool → ℕ → ℕ → Effect
+innerRule p c tabs b room = pick (ltb b 128) (obeyed p c tabs (decodeRule (c .pending) (c .gathered .len) b) room) (quiet 1 c p)
 
 -- what a step gives and leaves
 pub record Outcome : Type 0 where
@@ -63,4 +53,4 @@ outcomeOf s e = record {
 -- a page not of the state's own length, or a state not possible, answers 7
 unfoldable pub stepRule : List ℕ → State → ℕ → ℕ → Outcome
 stepRule p s b room =
-    pick (good p s) (outcomeOf s (innerRule p (s .core) (s .setup) b room)) (record { answer = 7; state = s; page = p; reply = [] })
+    pick (good p s) (outcomeOf s (innerRule p (s .core) (s .setup .tabs) b room)) (record { answer = 7; state = s; page = p; reply = [] })

@@ -18,11 +18,11 @@ steps (b ∷ bs) p s room =
     let l = o ∷ steps bs (o .page) (o .state) (room - length (o .reply)) in
     pick (eqb (o .answer) 6) [] l
 
--- an answer from 1 to 5
+-- an answer from 1 to 4
 abbrev pub isRefusal : ℕ → Bool
-isRefusal n = both (leb 1 n) (leb n 5)
+isRefusal n = both (leb 1 n) (leb n 4)
 
--- how many steps answered 1 to 5
+-- how many steps answered 1 to 4
 unfoldable pub refusals : List Outcome → ℕ
 refusals [] = 0
 refusals (o ∷ l) = pick (isRefusal (o .answer)) 1 0 + refusals l

@@ -81,14 +81,13 @@ pub struct State {
     pub setup: Setup,
 }
 
-// What a call answers: 0 to 8 in this order.
+// What a call answers: 0 to 4 and 6 to 8 in this order.
 pub enum Answer {
     Done,
     HighByte,
     Unknown,
     BadArgument,
     Barred,
-    KeysFull,
     NoRoom,
     BadCall,
     Locked,

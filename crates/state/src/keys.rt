@@ -4,9 +4,9 @@ ghost use mathlib.Core.Bool.{true};
 ghost use mathlib.Core.List.{[], _++_};
 ghost use Prim.Native.Nat.{_<_, _≤_};
 ghost use lib.ListN.{getD, set, take, replicate};
-ghost use Rattle.rules.specs.State.{keyText, keyOf, noKey, keyPlace, keyBytes};
+ghost use Rattle.rules.specs.State.{keyText, keyOf, noKey, keyPlace};
 ghost use Rattle.rules.specs.Possible.{isKey};
-ghost use Rattle.rules.specs.Step.{grown, overfull};
+ghost use Rattle.rules.specs.Step.{grown};
 use crate::logic::among;
 use crate::logic::or;
 use rules::Key;
@@ -97,26 +97,4 @@ pub fn grown(k: Key, b: u8) -> Key
     t.bytes[i] = b;
     t.len = k.len + 1;
     t
-}
-
-// The key bytes in all.
-pub fn key_bytes(keys: [Key; 32]) -> u16
-    ensures { λ r. ⌜ r ≡ keyBytes keys ⌝ }
-{
-    let mut sum: u16 = 0;
-    let mut i = 0;
-    while i < 32 {
-        let k = keys[i];
-        sum += k.len as u16;
-        i += 1;
-    }
-    sum
-}
-
-// The key bytes would total over 256.
-pub fn overfull(keys: [Key; 32], n: u8, k: Key) -> bool
-    ensures { λ r. ⌜ r ≡ overfull keys n k ⌝ }
-{
-    let t = set_key(keys, n, clean_key(k));
-    256 < key_bytes(t)
 }

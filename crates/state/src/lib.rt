@@ -19,7 +19,7 @@ use rules::Screen;
 use rules::Setup;
 use rules::State;
 
-// The number of document 01.
+// The number of document 01; 5 is unused.
 pub fn answer_number(a: Answer) -> u8
     ensures { λ r. ⌜ r ≡ number a ⌝ }
 {
@@ -29,7 +29,6 @@ pub fn answer_number(a: Answer) -> u8
         Answer::Unknown => 2,
         Answer::BadArgument => 3,
         Answer::Barred => 4,
-        Answer::KeysFull => 5,
         Answer::NoRoom => 6,
         Answer::BadCall => 7,
         Answer::Locked => 8,

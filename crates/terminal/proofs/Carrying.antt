@@ -26,11 +26,11 @@ use Rattle.rules.specs.Decode.{decodeRule}
 use Rattle.rules.specs.Plan.{planRule}
 use Rattle.rules.specs.Carry.{Effect, effect, quiet, carried}
 use Rattle.rules.specs.Room.{over}
+use Rattle.rules.specs.Step.{obeyed, innerRule}
 use Rattle.rules.proofs.Marks.{length-guards}
 use Rattle.rules.proofs.Good.{plan-kept}
 use Rattle.carry.specs.Carried.{Carried}
 use Rattle.carry.proofs.Carrying.{carried-is}
-use Rattle.terminal.specs.Inner.{obeyedAlone, innerAlone}
 
 pub over-none : (w : List ℕ) → w ≡ over [] w
 unfolding over
@@ -51,13 +51,13 @@ quiet-carried a c x p w = record {
 module _ (p : List ℕ) (c : Core) (tabs : List Bool) (b room : ℕ) where
   -- a byte below 80h
   pub below : b < 128 → {d d′ : Decoded} → d ≡ decodeRule (c .pending) (c .gathered .len) b → d ≡ d′
-      → innerAlone p c tabs b room ≡ obeyedAlone p c tabs d′ room
-  unfolding innerAlone
-  below h i j = rw (lt-ltb b 128 h) (ap (λ (x : Decoded). obeyedAlone p c tabs x room) (sym i ∙ j))
+      → innerRule p c tabs b room ≡ obeyed p c tabs d′ room
+  unfolding innerRule
+  below h i j = rw (lt-ltb b 128 h) (ap (λ (x : Decoded). obeyed p c tabs x room) (sym i ∙ j))
 
   -- any other
-  pub above : 128 ≤ b → innerAlone p c tabs b room ≡ quiet 1 c p
-  unfolding innerAlone
+  pub above : 128 ≤ b → innerRule p c tabs b room ≡ quiet 1 c p
+  unfolding innerRule
   above h = rw (le-ltb b 128 h)
 
 -- a byte whose effect is o; e is the core that the code made of the one before

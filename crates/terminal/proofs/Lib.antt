@@ -1,5 +1,4 @@
 pub mod Gathered
-pub mod Judged
 pub mod Carrying
 pub mod Loop
 pub mod TextSteps

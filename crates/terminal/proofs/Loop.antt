@@ -1,6 +1,6 @@
 -- The loop over host bytes: what holds at its head, and what a turn does.
 --     step-made     the step of the rules, by the inner step
---     nothing-made     a change of nothing, as the keys judge it
+--     nothing-made     a change of nothing
 --     tail-lent, tail-none, tail-back     the rest of the room, as it is lent and when it is back
 --     begin, stop, go, finish     the loop's start, a byte that answers 6, any other byte, the end of the input
 --     ready     what the loop hands to the inner step meets what that asks
@@ -31,7 +31,7 @@ use Rattle.rules.specs.Cell.{among}
 use Rattle.rules.specs.State.{number, pageLength, changed}
 use Rattle.rules.specs.Possible.{screenOk, pendingOk, good}
 use Rattle.rules.specs.Carry.{Effect}
-use Rattle.rules.specs.Step.{Outcome, outcomeOf, stepRule}
+use Rattle.rules.specs.Step.{Outcome, innerRule, stepRule}
 use Rattle.rules.specs.Room.{over}
 use Rattle.rules.specs.Calls.{Ran, ended, refusal, repeated}
 use Rattle.rules.specs.Steps.{preceded}
@@ -42,48 +42,35 @@ use Rattle.rules.proofs.Run.{run-stop, run-go, run-done, preceded-none, precede
 use Rattle.carry.specs.Carried.{Carried}
 use Rattle.terminal.specs.declared.bytes.Ended.{Ended}
 use Rattle.terminal.specs.Promise.{Completed}
-use Rattle.terminal.specs.Inner.{innerAlone, overfills, keysAnswer, keysSetup, judged}
 use Rattle.terminal.specs.Loop.{isNothing, stateOf, lastAnswer, Looped}
-use Rattle.terminal.proofs.Judged.{inner-judged, six-keys}
 use Rattle.terminal.proofs.Carrying.{over-none}
 
 -- ---- the step of the rules, by the effect of the inner step
 
 pub record Made (c : Core) (u : Setup) (e : Effect) (o : Outcome) : Type 0 where
-  pub answer : o .answer ≡ keysAnswer (u .keys) (c .gathered) (e .change) (e .answer)
+  pub answer : o .answer ≡ e .answer
   pub core : o .state .core ≡ e .core
-  pub setup : o .state .setup ≡ keysSetup (e .change) (c .gathered) u
+  pub setup : o .state .setup ≡ changed (e .change) (c .gathered) u
   pub page : o .page ≡ e .page
   pub reply : o .reply ≡ e .reply
 
-judged-made : (c : Core) (u : Setup) (e : Effect) → Made c u e (outcomeOf (stateOf c u) (judged (u .keys) (c .gathered) e))
-unfolding judged changed
-judged-made c u e = by (overfills (u .keys) (c .gathered) (e .change)) refl
-  where
-    by : (t : Bool) → overfills (u .keys) (c .gathered) (e .change) ≡ t → Made c u e (outcomeOf (stateOf c u) (judged (u .keys) (c .gathered) e))
-    by true t = rw t (record { answer = rw t; core = refl; setup = rw t; page = refl; reply = refl })
-    by false t = rw t (record { answer = rw t; core = refl; setup = rw t; page = refl; reply = refl })
-
 pub step-made : (p : List ℕ) (c : Core) (u : Setup) (b room : ℕ) → good p (stateOf c u) ≡ true
-    → Made c u (innerAlone p c (u .tabs) b room) (stepRule p (stateOf c u) b room)
+    → Made c u (innerRule p c (u .tabs) b room) (stepRule p (stateOf c u) b room)
 unfolding stepRule
-step-made p c u b room g =
-    let h = good-parts p (stateOf c u) g in
-    rw (g, inner-judged p c (h .0) (possible-parts (stateOf c u) (h .1) .core) u room b) (judged-made c u (innerAlone p c (u .tabs) b room))
+step-made p c u b room g = rw g (record { answer = refl; core = refl; setup = refl; page = refl; reply = refl })
 
--- a change of nothing is made, and leaves the set-up
-pub nothing-made : (x : SetupChange) (k : Key) (u : Setup) (n : ℕ) → isNothing x ≡ true
-    → (n ≡ keysAnswer (u .keys) k x n) × (u ≡ keysSetup x k u)
-unfolding overfills changed
-nothing-made SetupChange.Nothing k u n e = (refl, refl)
-nothing-made (SetupChange.Tab i b) k u n e = absurd (false≢true e)
-nothing-made SetupChange.ClearTabs k u n e = absurd (false≢true e)
-nothing-made (SetupChange.Attribute i a) k u n e = absurd (false≢true e)
-nothing-made (SetupChange.Feature i f) k u n e = absurd (false≢true e)
-nothing-made (SetupChange.Key i) k u n e = absurd (false≢true e)
+-- a change of nothing leaves the set-up
+pub nothing-made : (x : SetupChange) (k : Key) (u : Setup) → isNothing x ≡ true → u ≡ changed x k u
+unfolding changed
+nothing-made SetupChange.Nothing k u e = refl
+nothing-made (SetupChange.Tab i b) k u e = absurd (false≢true e)
+nothing-made SetupChange.ClearTabs k u e = absurd (false≢true e)
+nothing-made (SetupChange.Attribute i a) k u e = absurd (false≢true e)
+nothing-made (SetupChange.Feature i f) k u e = absurd (false≢true e)
+nothing-made (SetupChange.Key i) k u e = absurd (false≢true e)
 
 refusal-one : (n : ℕ) → refusal n ≤ 1
-refusal-one n = pick-if (λ (k : ℕ). k ≤ 1) (among 1 5 n) (λ e. omega arith) (λ e. omega arith)
+refusal-one n = pick-if (λ (k : ℕ). k ≤ 1) (among 1 4 n) (λ e. omega arith) (λ e. omega arith)
 
 -- the last answer after a byte that does not answer 6
 module _ (b : ℕ) (bs p : List ℕ) (s : State) (room a : ℕ) where
@@ -216,12 +203,12 @@ module _ {p₀ : List ℕ} {s₀ : State} {input w₀ p w : List ℕ} {c : Core}
 
   -- the next byte, on what is left of the room
   module _ (h : i < length input) {r : CoreResult} {p′ part : List ℕ}
-      (lent : Carried (innerAlone p c (u .tabs) (getD input i 0) (length (lentTail n w))) r p′ (lentTail n w) part) where
+      (lent : Carried (innerRule p c (u .tabs) (getD input i 0) (length (lentTail n w))) r p′ (lentTail n w) part) where
     abbrev w′ : List ℕ
     w′ = backTail n w part
 
-    S : Carried (innerAlone p c (u .tabs) (getD input i 0) (length (drop n w))) r p′ (drop n w) part
-    S = subst (λ (l : List ℕ). Carried (innerAlone p c (u .tabs) (getD input i 0) (length l)) r p′ l part) (tail-lent n w) lent
+    S : Carried (innerRule p c (u .tabs) (getD input i 0) (length (drop n w))) r p′ (drop n w) part
+    S = subst (λ (l : List ℕ). Carried (innerRule p c (u .tabs) (getD input i 0) (length l)) r p′ l part) (tail-lent n w) lent
 
     back : w′ ≡ take n w ++ part
     back = tail-back n w part
@@ -230,7 +217,7 @@ module _ {p₀ : List ℕ} {s₀ : State} {input w₀ p w : List ℕ} {c : Core}
     b = getD input i 0
 
     abbrev e : Effect
-    e = innerAlone p c (u .tabs) b (length (drop n w))
+    e = innerRule p c (u .tabs) b (length (drop n w))
 
     abbrev o : Outcome
     o = stepRule p s b (length w₀ - n)
@@ -250,11 +237,7 @@ module _ {p₀ : List ℕ} {s₀ : State} {input w₀ p w : List ℕ} {c : Core}
         → Looped p₀ s₀ input w₀ z p′ w′
     unfolding lastAnswer
     stop t result =
-        let k = good-parts p s (R .fine) in
-        let six : e .answer ≡ 6 = sym (S .answer) ∙ eqb-true _ _ t in
-        let no : overfills (u .keys) (c .gathered) (e .change) ≡ false
-        = six-keys p c (k .0) (possible-parts s (k .1) .core) (u .keys) (c .gathered) (u .tabs) (length (drop n w)) b six in
-        let a6 : o .answer ≡ 6 = made .answer ∙ rw no six in
+        let a6 : o .answer ≡ 6 = made .answer ∙ sym (S .answer) ∙ eqb-true _ _ t in
         let l = step-left p s b (length w₀ - n) (λ z. absurd (omega (arith, z, a6))) in
         let page : p′ ≡ p = S .page ∙ sym (made .page) ∙ l .page in
         let none : part ≡ drop n w =
@@ -275,17 +258,14 @@ module _ {p₀ : List ℕ} {s₀ : State} {input w₀ p w : List ℕ} {c : Core}
         back ∙ ap (λ (x : List ℕ). take n w ++ x) (S .room ∙ ap (λ (x : List ℕ). over x (drop n w)) (sym (made .reply)))
         ∙ sym (append-assoc (take n w) (o .reply) (drop (length (o .reply)) (drop n w)))
 
-    -- any other answer: the loop goes on. x is the answer and v the set-up, once the keys have judged the change
-    module _ (x : Answer) {v : Setup} {g : ℕ} (t : eqb (number (r .answer)) 6 ≡ false)
-        (ex : number x ≡ keysAnswer (u .keys) (c .gathered) (r .change) (number (r .answer))) (ev : v ≡ keysSetup (r .change) (c .gathered) u)
-        (eg : g ≡ refusal (number x)) where
-      answered : o .answer ≡ number x
-      answered = made .answer ∙ rw (sym (S .change), sym (S .answer)) (sym ex)
+    -- any other answer: the loop goes on. v is the set-up after the change
+    module _ {v : Setup} {g : ℕ} (t : eqb (number (r .answer)) 6 ≡ false) (ev : v ≡ changed (r .change) (c .gathered) u)
+        (eg : g ≡ refusal (number (r .answer))) where
+      answered : o .answer ≡ number (r .answer)
+      answered = made .answer ∙ sym (S .answer)
 
       not-six : eqb (o .answer) 6 ≡ false
-      not-six =
-          rw (made .answer)
-          (pick-if (λ (m : ℕ). eqb m 6 ≡ false) (overfills (u .keys) (c .gathered) (e .change)) (λ z. refl) (λ z. rw (sym (S .answer)) t))
+      not-six = rw answered t
 
       reached : o .state ≡ stateOf (r .core) v
       reached = ap₂ stateOf (made .core ∙ sym (S .core (rw (sym (S .answer)) t))) (made .setup ∙ rw (sym (S .change)) (sym ev))
@@ -302,11 +282,11 @@ module _ {p₀ : List ℕ} {s₀ : State} {input w₀ p w : List ℕ} {c : Core}
       count : refusal (o .answer) ≡ g
       count = ap refusal answered ∙ sym eg
 
-      pub go : Running p₀ s₀ input w₀ p′ w′ (r .core) v x (i + 1) (n + r .replied) (f + g)
+      pub go : Running p₀ s₀ input w₀ p′ w′ (r .core) v (r .answer) (i + 1) (n + r .replied) (f + g)
       go = record {
         within = omega (arith, h);
         used = omega (arith, S .fits, left, R .used);
-        few = omega (arith, R .few, refusal-one (number x), eg);
+        few = omega (arith, R .few, refusal-one (number (r .answer)), eg);
         fine = subst₂ (λ (q : List ℕ) (z : State). good q z ≡ true) turned reached (step-good p s b (length w₀ - n) (R .fine));
         long = ap length (sym turned) ∙ step-keeps p s b (length w₀ - n) .size ∙ R .long;
         size = ap length put ∙ length-append (take n w ++ o .reply) _

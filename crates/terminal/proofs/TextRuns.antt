@@ -28,11 +28,11 @@ use Rattle.rules.specs.Cell.{pick, written}
 use Rattle.rules.specs.Search.{guardedAt}
 use Rattle.rules.specs.State.{number, segmentStart, segmentEnd, segmentTop, segmentBottom, cursorOf, withCursor, withScreen, awaiting, idle}
 use Rattle.rules.specs.Decode.{decodeRule, idleRule, escapeRule, lookup}
+use Rattle.rules.specs.Step.{innerRule}
 use Rattle.rules.specs.Carry.{effect}
 use Rattle.rules.proofs.Rows.{columns-width}
 use Rattle.rules.proofs.Screens.{screen-inside}
 use Rattle.carry.proofs.Carrying.{carried-is}
-use Rattle.terminal.specs.Inner.{innerAlone}
 use Rattle.terminal.specs.Loop.{stateOf, lastAnswer}
 use Rattle.terminal.specs.Text.{Stored, Addressed, Typed, none, stored, placed, TextRun, still, typed, textCore}
 use Rattle.terminal.proofs.Carrying.{quiet-carried}
@@ -76,13 +76,13 @@ same-room n w = tail-back n w (lentTail n w) ∙ ap (λ (l : List ℕ). take n w
 
 module _ {p₀ : List ℕ} {s₀ : State} {input w₀ : List ℕ} {u : Setup} {a : Answer} {n f : ℕ} {w : List ℕ} where
   turn : {p : List ℕ} {c : Core} {i : ℕ} (j : ℕ) → Running p₀ s₀ input w₀ p w c u a i n f → j ≡ i + 1 → j < length input
-      → {p′ : List ℕ} {c′ : Core} → ((room : ℕ) → innerAlone p c (u .tabs) (getD input i 0) room ≡ effect 0 c′ SetupChange.Nothing p′ [])
+      → {p′ : List ℕ} {c′ : Core} → ((room : ℕ) → innerRule p c (u .tabs) (getD input i 0) room ≡ effect 0 c′ SetupChange.Nothing p′ [])
       → Running p₀ s₀ input w₀ p′ w c′ u a j n f
   turn {p} {c} {i} j R e h {p′} {c′} E =
       let q = lentTail n w in
-      let m = nothing-made SetupChange.Nothing (c .gathered) u 0 refl in
+      let m = nothing-made SetupChange.Nothing (c .gathered) u refl in
       let k = carried-is (E (length q)) (quiet-carried Answer.Done c′ SetupChange.Nothing p′ q) in
-      let G = go R (omega arith) k Answer.Done refl (m .0) (m .1) refl in
+      let G = go R (omega arith) k refl m refl in
       let H : Running p₀ s₀ input w₀ p′ w c′ u Answer.Done j n f = rw (same-room n w, add-zero n, add-zero f, sym e) at G in
       record {
         within = H .within;

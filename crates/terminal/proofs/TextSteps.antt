@@ -29,13 +29,13 @@ use Rattle.rules.specs.Possible.{screenOk}
 use Rattle.rules.specs.Decode.{decodeRule, idleRule}
 use Rattle.rules.specs.Plan.{writing, unlessGuarded, storing, advancing, storePlan, addressPlan, movePlan, planRule}
 use Rattle.rules.specs.Carry.{effect, applied, replied, landed, done, carried}
+use Rattle.rules.specs.Step.{obeyed, innerRule}
 use Rattle.rules.proofs.Tests.{both-true}
 use Rattle.rules.proofs.Marks.{hit, around-here, length-guards, length-others, guard-at, open-at}
 use Rattle.rules.proofs.Rows.{by-width, columns-width}
 use Rattle.rules.proofs.Lengths.{length-applied}
 use Rattle.rules.proofs.Screens.{screen-inside}
 use Rattle.page.proofs.Changes.{one-filled}
-use Rattle.terminal.specs.Inner.{obeyedAlone, innerAlone}
 use Rattle.terminal.specs.Text.{Stored, textCore}
 use Rattle.terminal.proofs.Carrying.{below}
 
@@ -103,8 +103,8 @@ module _ (p : List ℕ) (c : Core) (size : length p ≡ pageLength (c .screen)) 
         guard-at on (set p at v) (at + 1) (omega (arith, inside, length-set p at v))
         ∙ ap (guarded on) (getD-set-other p at (at + 1) v 0 (λ e. omega arith)) ∙ sym (guard-at on p (at + 1) inside) ∙ s .next
 
-    pub stores : innerAlone p c tabs b room ≡ effect 0 (textCore c (at + 1)) SetupChange.Nothing (set p at v) []
-    unfolding obeyedAlone
+    pub stores : innerRule p c tabs b room ≡ effect 0 (textCore c (at + 1)) SetupChange.Nothing (set p at v) []
+    unfolding obeyed
     stores =
         below p c tabs b room (omega (arith, s .high)) refl decoded ∙ ap (λ (x : Plan). carried p c x room) planned
         ∙ carried-writing (Write.Fill at (at + 1) v) (at + 1) (s .inside) (rw page next)
@@ -113,14 +113,14 @@ module _ (p : List ℕ) (c : Core) (size : length p ≡ pageLength (c .screen)) 
   -- ---- ESC =
 
   pub waits : (b : ℕ) (q : Pending) → b < 128 → decodeRule (c .pending) (c .gathered .len) b ≡ Decoded.Wait q
-      → innerAlone p c tabs b room ≡ effect 0 (awaiting c q) SetupChange.Nothing p []
-  unfolding obeyedAlone
+      → innerRule p c tabs b room ≡ effect 0 (awaiting c q) SetupChange.Nothing p []
+  unfolding obeyed
   waits b q h e = below p c tabs b room h refl e
 
   pub places : (r k i : ℕ) → c .pending ≡ Pending.AddressRow r → 0x20 ≤ r → 0x20 ≤ k → k < 0x20 + 80
       → i ≡ segmentStart (c .screen) + (r - 0x20) * w + (k - 0x20) → i < segmentEnd (c .screen) → getD (guardedAt on p) i false ≡ false
-      → innerAlone p c tabs k room ≡ effect 0 (textCore c i) SetupChange.Nothing p []
-  unfolding obeyedAlone decodeRule planRule movePlan addressPlan applied
+      → innerRule p c tabs k room ≡ effect 0 (textCore c i) SetupChange.Nothing p []
+  unfolding obeyed decodeRule planRule movePlan addressPlan applied
   places r k i pending low left right e h g =
       let x = c .screen in
       let z = (segmentTop x + (r - 0x20)) * w + (k - 0x20) in

@@ -6,17 +6,14 @@ ghost use lib.Dec.{eqb};
 ghost use Rattle.rules.specs.State.{number};
 ghost use Rattle.rules.specs.Possible.{good};
 ghost use Rattle.rules.specs.Calls.{refusal};
-ghost use Rattle.terminal.specs.Inner.{overfills, keysAnswer, keysSetup};
 ghost use Rattle.terminal.specs.Loop.{isNothing, stateOf, Looped};
 use crate::inner::inner;
 use crate::text::moved;
 use crate::text::text;
 use rules::Answer;
 use rules::Core;
-use rules::Key;
 use rules::Setup;
 use rules::SetupChange;
-use state::keys::overfull;
 use state::setup::changed;
 
 // How a loop ended: its answer, the answer of the last byte that it looked at, its counts, and the state.
@@ -30,12 +27,6 @@ pub struct Ended {
     pub setup: Setup,
 }
 
-// A change of the set-up that the keys have judged.
-struct Judged {
-    answer: Answer,
-    setup: Setup,
-}
-
 fn is_no_room(a: Answer) -> bool
     ensures { λ r. ⌜ r ≡ eqb (number a) 6 ⌝ }
 {
@@ -45,14 +36,13 @@ fn is_no_room(a: Answer) -> bool
         Answer::Unknown => false,
         Answer::BadArgument => false,
         Answer::Barred => false,
-        Answer::KeysFull => false,
         Answer::NoRoom => true,
         Answer::BadCall => false,
         Answer::Locked => false,
     }
 }
 
-// 1 for an answer from 1 to 5.
+// 1 for an answer from 1 to 4.
 fn refusals(a: Answer) -> usize
     ensures { λ r. ⌜ r ≡ refusal (number a) ⌝ }
 {
@@ -62,7 +52,6 @@ fn refusals(a: Answer) -> usize
         Answer::Unknown => 1,
         Answer::BadArgument => 1,
         Answer::Barred => 1,
-        Answer::KeysFull => 1,
         Answer::NoRoom => 0,
         Answer::BadCall => 0,
         Answer::Locked => 0,
@@ -79,37 +68,6 @@ fn is_nothing(x: SetupChange) -> bool
         SetupChange::Attribute(_, _) => false,
         SetupChange::Feature(_, _) => false,
         SetupChange::Key(_) => false,
-    }
-}
-
-fn overfills(keys: [Key; 32], k: Key, x: SetupChange) -> bool
-    ensures { λ r. ⌜ r ≡ overfills keys k x ⌝ }
-{
-    match x {
-        SetupChange::Nothing => false,
-        SetupChange::Tab(_, _) => false,
-        SetupChange::ClearTabs => false,
-        SetupChange::Attribute(_, _) => false,
-        SetupChange::Feature(_, _) => false,
-        SetupChange::Key(n) => overfull(keys, n, k),
-    }
-}
-
-// A key's text that would bring the key bytes over 256 answers 5; any other change is made.
-fn judge(a: Answer, x: SetupChange, k: Key, u: Setup) -> Judged
-    ensures { λ r. ⌜ (number (r .answer) ≡ keysAnswer (u .keys) k x (number a)) × (r .setup ≡ keysSetup x k u) ⌝ }
-{
-    let keys = u.keys;
-    if overfills(keys, k, x) {
-        return Judged {
-            answer: Answer::KeysFull,
-            setup: u,
-        };
-    }
-    let v = changed(x, k, u);
-    Judged {
-        answer: a,
-        setup: v,
     }
 }
 
@@ -161,17 +119,14 @@ pub fn repeat(page: &mut [u16], core: Core, setup: Setup, input: &[u8], room: &m
         c = next;
         taken += 1;
         replied += t.replied;
+        last = a;
+        refused += refusals(a);
         let x = t.change;
         if is_nothing(x) {
-            last = a;
-            refused += refusals(a);
             continue;
         }
-        let v = judge(a, x, k, u);
-        let w = v.setup;
-        u = w;
-        last = v.answer;
-        refused += refusals(last);
+        let v = changed(x, k, u);
+        u = v;
     }
     finished(Answer::Done, last, taken, replied, refused, c, u)
 }

@@ -9,8 +9,8 @@ ghost use Rattle.rules.specs.Search.{guardedAt};
 ghost use Rattle.rules.specs.Possible.{screenOk, pendingOk};
 ghost use Rattle.rules.specs.Plan.{planRule};
 ghost use Rattle.rules.specs.Carry.{effect, carried};
+ghost use Rattle.rules.specs.Step.{innerRule};
 ghost use Rattle.carry.specs.Carried.{Carried};
-ghost use Rattle.terminal.specs.Inner.{innerAlone};
 use carry::carry_out;
 use plan::plan_for;
 use rules::Answer;
@@ -48,7 +48,7 @@ fn obey(page: &mut [u16], tabs: &[bool; 132], core: Core, d: Command, room: &mut
 
 pub fn inner(page: &mut [u16], tabs: &[bool; 132], core: Core, b: u8, room: &mut [u8]) -> CoreResult
     requires { ⌜ (length (now page) ≡ pageLength (core .screen)) × ((screenOk (core .screen) ≡ true) × (pendingOk (core .pending) (core .gathered) ≡ true)) ⌝ }
-    ensures { λ r. ⌜ Carried (innerAlone (now (page .entry)) core (now (tabs .entry)) b (length (now (room .entry)))) r (now (page .exit)) (now (room .entry)) (now (room .exit)) ⌝ }
+    ensures { λ r. ⌜ Carried (innerRule (now (page .entry)) core (now (tabs .entry)) b (length (now (room .entry)))) r (now (page .exit)) (now (room .entry)) (now (room .exit)) ⌝ }
 {
     if 128 <= b {
         return quiet(Answer::HighByte, core, SetupChange::Nothing);

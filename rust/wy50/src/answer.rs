@@ -14,8 +14,7 @@ pub enum Answer {
     BadArgument = 3,
     /// A guarded cell or protect mode bars it; the sequence is cleared.
     Barred = 4,
-    /// The key bytes would total over 256; the sequence is cleared.
-    KeysFull = 5,
+    // 5 is unused.
     /// The reply is longer than the room; nothing changed, the byte may come again.
     NoRoom = 6,
     /// The state is not possible; nothing changed.
@@ -30,7 +29,7 @@ impl Answer {
         self as u8
     }
 
-    // The library gives 0 to 8 and no other number.
+    // The library gives 0 to 4 and 6 to 8 and no other number.
     pub(crate) fn of(number: u8) -> Answer {
         match number {
             0 => Answer::Done,
@@ -38,7 +37,6 @@ impl Answer {
             2 => Answer::Unknown,
             3 => Answer::BadArgument,
             4 => Answer::Barred,
-            5 => Answer::KeysFull,
             6 => Answer::NoRoom,
             8 => Answer::Locked,
             _ => Answer::BadCall,
@@ -54,7 +52,6 @@ impl fmt::Display for Answer {
             Answer::Unknown => "no such byte after ESC",
             Answer::BadArgument => "an argument outside its range",
             Answer::Barred => "barred by protection",
-            Answer::KeysFull => "the keys are full",
             Answer::NoRoom => "the reply does not fit",
             Answer::BadCall => "the state is not possible",
             Answer::Locked => "the keyboard is locked",

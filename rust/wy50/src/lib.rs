@@ -40,7 +40,7 @@ pub struct Fed<'a> {
     pub taken: usize,
     /// How many bytes were put at the front of the reply.
     pub replied: usize,
-    /// How many of the bytes taken were refused, with an answer from 1 to 5.
+    /// How many of the bytes taken were refused, with an answer from 1 to 4.
     pub refused: usize,
     /// The bytes not taken: feed them again once the reply is sent.
     pub rest: &'a [u8],

@@ -131,8 +131,7 @@ fn high(n: u64, clean: bool) {
 fn total(r: Refusals) -> u64 {
     let a = wrapping_add_u64(r.high, r.unknown);
     let b = wrapping_add_u64(r.argument, r.barred);
-    let c = wrapping_add_u64(r.keys, r.other);
-    wrapping_add_u64(wrapping_add_u64(a, b), c)
+    wrapping_add_u64(wrapping_add_u64(a, b), r.other)
 }
 
 // A number, or the word for none.
@@ -165,11 +164,6 @@ pub fn refused(r: Refusals, bytes: u64, clean: bool) {
         r.barred,
         b"byte",
         b" barred by a guarded cell or by protect mode (answer 4)",
-    );
-    kind(
-        r.keys,
-        b"key text",
-        b" too long for the key store (answer 5)",
     );
     kind(
         r.other,

@@ -31,8 +31,6 @@ refusals-spec =
     (λ c. search needs)
     -- enum-told-8
     (λ c. search needs)
-    -- enum-told-9
-    (λ c. search needs)
     -- returns
     (λ c. arm (c .enum-told .given .1))
     -- returns-2
@@ -48,6 +46,4 @@ refusals-spec =
     -- returns-7
     (λ c. arm (c .enum-told7 .given .1))
     -- returns-8
-    (λ c. arm (c .enum-told8 .given .1))
-    -- returns-9
-    (λ c. arm (c .enum-told9 .given .1)))
+    (λ c. arm (c .enum-told8 .given .1)))

@@ -98,16 +98,16 @@ repeat-spec =
     let i = called (c .before .before .before) in
     let m = moved i in
     omega (arith, more-replied (run m .running) _ (i .inner .ensures .fits), start m .good))
-    -- is-nothing-requires
-    (λ c κs. search needs)
     -- refusals-requires
     (λ c κs. search needs)
     -- add-refused
     (λ c.
-    let i = called (c .before .before .before .before .before .before) in
+    let i = called (c .before .before .before .before) in
     let r = run (moved i) in
     let f = more-refused (r .running) (number (i .inner .result .answer)) (r .left) in
     omega (arith, f, c .refusals .ensures, start (moved i) .good))
+    -- is-nothing-requires
+    (λ c κs. search needs)
     -- loop-less
     (λ c. let r = run (moved (called (c .before .before .before .before .before .before))) in omega (arith, r .from, r .left))
     -- loop-again
@@ -115,30 +115,19 @@ repeat-spec =
     let a = c .before .before .before .before .before .before in
     let i = called a in
     let r = run (moved i) in
-    let n = nothing-made _ _ _ _ (sym (c .before .before .is-nothing .ensures) ∙ c .before .if2 .taken) in
-    go (r .running) (r .left) (i .inner .ensures) _ (sym (a .is-no-room .ensures) ∙ c .before .before .before .before .before .if1 .left)
-    (n .0) (n .1) (c .refusals .ensures))
-    -- judge-requires
+    go (r .running) (r .left) (i .inner .ensures) (sym (a .is-no-room .ensures) ∙ c .before .before .before .before .before .if1 .left)
+    (nothing-made _ _ _ (sym (c .before .is-nothing .ensures) ∙ c .if2 .taken)) (c .before .before .refusals .ensures))
+    -- changed-requires
     (λ c κs. search needs)
-    -- refusals-requires-2
-    (λ c κs. search needs)
-    -- add-refused-2
-    (λ c.
-    let i = called (c .before .before .before .before .before .before .before .before) in
-    let r = run (moved i) in
-    let f = more-refused (r .running) (number (c .before .before .judge .result .answer)) (r .left) in
-    omega (arith, f, c .refusals2 .ensures, start (moved i) .good))
     -- loop-less-2
-    (λ c. let r = run (moved (called (c .before .before .before .before .before .before .before .before))) in omega (arith, r .from, r .left))
+    (λ c. let r = run (moved (called (c .before .before .before .before .before .before .before))) in omega (arith, r .from, r .left))
     -- loop-again-2
     (λ c.
-    let a = c .before .before .before .before .before .before .before .before in
+    let a = c .before .before .before .before .before .before .before in
     let i = called a in
     let r = run (moved i) in
-    let j = c .before .before .judge .ensures in
-    go (r .running) (r .left) (i .inner .ensures) _
-    (sym (a .is-no-room .ensures) ∙ c .before .before .before .before .before .before .before .if1 .left)
-    (j .0) (j .1) (c .refusals2 .ensures))
+    go (r .running) (r .left) (i .inner .ensures) (sym (a .is-no-room .ensures) ∙ c .before .before .before .before .before .before .if1 .left) (c .changed .ensures)
+    (c .before .before .before .refusals .ensures))
     -- finished-requires-2
     (λ c κs. search needs)
     -- same-length-3

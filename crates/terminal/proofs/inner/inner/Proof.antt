@@ -4,8 +4,8 @@ use denote.Ref.{now}
 use lib.ListN.{length}
 use Rattle.rules.specs.declared.Decoded.{Decoded}
 use Rattle.rules.specs.State.{withGathered}
+use Rattle.rules.specs.Step.{obeyed, innerRule}
 use Rattle.carry.proofs.Carrying.{carried-is}
-use Rattle.terminal.specs.Inner.{innerAlone, obeyedAlone}
 use Rattle.terminal.proofs.Carrying.{below, above, quietly}
 use Rattle.terminal.proofs.Gathered.{gathered-short}
 use borrow.Author.Needs.{needs}
@@ -18,11 +18,11 @@ start k = k .before .before .before .before .before
 -- the effect of a byte below 80h, by what it decodes to
 came : (k : tie.After-decode) {d : Decoded} → k .decode .result ≡ d
     → let x = start k .args in let p = now (x .page) in let tabs = now (x .tabs) in let room = length (now (x .room)) in
-    innerAlone p (x .core) tabs (x .b) room ≡ obeyedAlone p (x .core) tabs d room
+    innerRule p (x .core) tabs (x .b) room ≡ obeyed p (x .core) tabs d room
 came k e = below _ _ _ _ _ (k .before .before .if1 .left) (k .decode .ensures) e
 
 pub inner-spec : {M : Type 1} → statement M
-unfolding obeyedAlone
+unfolding obeyed
 inner-spec =
     tie.close
     (tie.spec
