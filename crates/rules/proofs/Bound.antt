@@ -25,7 +25,8 @@ use Rattle.rules.specs.declared.Reply.the-variants as Reply
 use Rattle.rules.specs.Cell.{pick, both, guarded}
 use Rattle.rules.specs.Row.{Width, columns}
 use Rattle.rules.specs.State.{number, widthOf, pageLength, keyPlace}
-use Rattle.rules.specs.Possible.{isKey, allBelow, keyOk, good}
+use Rattle.rules.specs.Possible.{allBelow, keyOk, good}
+use Rattle.rules.specs.Arguments.{isKey}
 use Rattle.rules.specs.Decode.{decodeRule}
 use Rattle.rules.specs.Good.{GoodReply}
 use Rattle.rules.specs.Carry.{separator, openCell, textFrom, textOf, replied, replyOf, Effect, done, carried}

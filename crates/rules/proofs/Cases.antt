@@ -4,7 +4,8 @@ use Rattle.rules.specs.Row.{columns, rowEnd}
 use Rattle.rules.specs.Search.{marksBy, others, startsFrom, firstIn, lastIn, around, aroundBack}
 use Rattle.rules.specs.Change.{within, filled, shiftLeft, shiftRight, editShifted, rowsShifted, columnFilled}
 use Rattle.rules.specs.State.{segmentTop, segmentBottom, cursorOf, withCursor, withMode, changed}
-use Rattle.rules.specs.Possible.{powerOn, blank, unsplitOk, splitOk, screenOk, allBelow, keyOk, keysOk, isAttribute, attributesOk, featurePlace, featuresOk, isKey, pendingOk, noStops, possible, good}
+use Rattle.rules.specs.Possible.{powerOn, blank, unsplitOk, splitOk, screenOk, allBelow, keyOk, keysOk, attributesOk, featuresOk, pendingOk, noStops, coreOk, setupOk, possible, good}
+use Rattle.rules.specs.Arguments.{isAttribute, featurePlace, isKey}
 use Rattle.rules.specs.Decode.{lookup, idleRule, escapeRule, judged, attributeContents, featureRule, fieldRule, splitRule, digitRule, decimalRowRule, decimalColumnRule, keyValueRule, keyTextRule, keyOverRule, decodeRule}
 use Rattle.rules.specs.Plan.{unlessGuarded, scrolls, nextCell, atTop, upCell, reversePlan, downPlan, tabCell, backTabCell, addressPlan, movePlan, activate, isSegment, windowPlan, storing, advancing, storePlan, rowEditPlan, editPlan, clearPlan, settingPlan, sendPlan, excludedPlan, planRule}
 use Rattle.rules.specs.Carry.{applied, separator, openCell, textFrom, replied, landed, done, carried}
@@ -31,7 +32,7 @@ unfolding completes runCompletes callCompletes anyCompleted completesFrom stepCo
     attributed featured stopped possibleStates impossibleStates allPossible nonePossible over powerOnRule columns rowEnd marksBy others
     startsFrom firstIn lastIn around aroundBack within filled shiftLeft shiftRight editShifted rowsShifted columnFilled segmentTop
     segmentBottom cursorOf withCursor withMode changed powerOn blank unsplitOk splitOk screenOk allBelow keyOk keysOk isAttribute
-    attributesOk featurePlace featuresOk isKey pendingOk noStops possible good lookup idleRule escapeRule judged attributeContents
+    attributesOk featurePlace featuresOk isKey pendingOk noStops coreOk setupOk possible good lookup idleRule escapeRule judged attributeContents
     featureRule fieldRule splitRule digitRule decimalRowRule decimalColumnRule keyValueRule keyTextRule keyOverRule decodeRule unlessGuarded
     scrolls nextCell atTop upCell reversePlan downPlan tabCell backTabCell addressPlan movePlan activate isSegment windowPlan storing
     advancing storePlan rowEditPlan editPlan clearPlan settingPlan sendPlan excludedPlan planRule applied separator openCell textFrom

@@ -18,7 +18,8 @@ use Rattle.rules.specs.declared.Decoded.{Decoded}
 use Rattle.rules.specs.declared.Decoded.the-variants as Decoded
 use Rattle.rules.specs.Cell.{both, either, among}
 use Rattle.rules.specs.State.{number, keyPlace, noKey}
-use Rattle.rules.specs.Possible.{allBelow, keyOk, isAttribute, featurePlace, isKey, pendingOk}
+use Rattle.rules.specs.Possible.{allBelow, keyOk, pendingOk}
+use Rattle.rules.specs.Arguments.{isAttribute, featurePlace, isKey}
 use Rattle.rules.specs.Decode.{lookup, controls, escapes, idleRule, escapeRule, judged, featureRule, fieldRule, splitRule, digitRule, decimalRowRule, decimalColumnRule, keyValueRule, keyTextRule, keyOverRule, decodeRule}
 use Rattle.rules.specs.Step.{grown}
 use Rattle.rules.proofs.Tests.{pick-if, both-parts, both-true, among-parts}

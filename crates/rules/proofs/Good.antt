@@ -43,7 +43,8 @@ use Rattle.rules.specs.declared.Land.{Land}
 use Rattle.rules.specs.Cell.{pick, both, among}
 use Rattle.rules.specs.Row.{columnOf, rowStart}
 use Rattle.rules.specs.State.{number, widthOf, pageLength, segmentTop, segmentBottom, segmentStart, segmentEnd, cursorOf, activated, withScreen, withModes, withProtect, withMode, idle, Inside}
-use Rattle.rules.specs.Possible.{screenOk, keyOk, isAttribute, featurePlace}
+use Rattle.rules.specs.Possible.{screenOk, keyOk}
+use Rattle.rules.specs.Arguments.{isAttribute, featurePlace}
 use Rattle.rules.specs.Plan.{refusing, plain, writingTwo, settling, replying, changing, unlessGuarded, scrolls, atTop, reversePlan, downPlan, tabCell, backTabCell, addressPlan, movePlan, unsplitScreen, splitScreen, activate, isSegment, windowPlan, storing, advancing, storePlan, rowEditPlan, editPlan, clearPlan, settingPlan, sendPlan, clearAll, excludedPlan, planRule}
 use Rattle.rules.specs.Good.{GoodWrite, GoodReply, GoodLand, GoodPlan}
 use Rattle.rules.proofs.Tests.{pick-if, both-parts, both-true, among-parts}

@@ -29,7 +29,8 @@ use Rattle.rules.specs.declared.Land.the-variants as Land
 use Rattle.rules.specs.Row.{columns}
 use Rattle.rules.specs.Search.{guardedAt}
 use Rattle.rules.specs.State.{widthOf, pageLength, withCursor, idle, changed, keyOf, keyText}
-use Rattle.rules.specs.Possible.{powerOn, blank, unsplitOk, screenOk, allBelow, keyOk, keysOk, isAttribute, attributesOk, featurePlace, featuresOk, pendingOk, noStops, tabsOk, narrow, possible, good}
+use Rattle.rules.specs.Possible.{powerOn, blank, unsplitOk, screenOk, allBelow, keyOk, keysOk, attributesOk, featuresOk, pendingOk, noStops, tabsOk, narrow, coreOk, setupOk, possible, good}
+use Rattle.rules.specs.Arguments.{isAttribute, featurePlace}
 use Rattle.rules.specs.Decode.{decodeRule}
 use Rattle.rules.specs.Plan.{planRule}
 use Rattle.rules.specs.Good.{GoodLand}
@@ -68,27 +69,36 @@ not-wide : (b : Bool) → not b ≡ true → b ≡ false
 not-wide true h = sym h
 not-wide false h = refl
 
+pub setup-parts : (w : ℕ) (u : Setup) → setupOk w u ≡ true → PossibleSetup w u
+unfolding setupOk
+setup-parts w u h =
+    let r1 = both-parts (keysOk (u .keys)) _ h in
+    let r2 = both-parts (attributesOk (u .attributes)) _ (r1 .1) in
+    let r3 = both-parts (featuresOk 0 (u .features)) _ (r2 .1) in
+    record { tabs = r3 .1; keys = r1 .0; attributes = r2 .0; features = r3 .0 }
+
+pub setup-whole : (w : ℕ) (u : Setup) → PossibleSetup w u → setupOk w u ≡ true
+unfolding setupOk
+setup-whole w u h = both-true (h .keys) (both-true (h .attributes) (both-true (h .features) (h .tabs)))
+
 pub possible-parts : (s : State) → possible s ≡ true → PossibleState s
-unfolding possible
+unfolding possible coreOk
 possible-parts s h =
-    let r0 = both-parts (narrow (s .core .screen)) _ h in
-    let r1 = both-parts (screenOk (s .core .screen)) _ (r0 .1) in
-    let r2 = both-parts (keysOk (s .setup .keys)) _ (r1 .1) in
-    let r3 = both-parts (attributesOk (s .setup .attributes)) _ (r2 .1) in
-    let r4 = both-parts (featuresOk 0 (s .setup .features)) _ (r3 .1) in
-    let r5 = both-parts (tabsOk (widthOf (s .core .screen)) (s .setup .tabs)) _ (r4 .1) in
-    let r6 = both-parts (ltb (s .core .bells) 256) _ (r5 .1) in
+    let r = both-parts (coreOk (s .core)) _ h in
+    let r1 = both-parts (narrow (s .core .screen)) _ (r .0) in
+    let r2 = both-parts (screenOk (s .core .screen)) _ (r1 .1) in
+    let r3 = both-parts (ltb (s .core .bells) 256) _ (r2 .1) in
     record {
-      narrow = not-wide (s .core .screen .wide) (r0 .0);
-      core = record { screen = r1 .0; bells = ltb-true (s .core .bells) 256 (r6 .0); pending = r6 .1 };
-      setup = record { tabs = r5 .0; keys = r2 .0; attributes = r3 .0; features = r4 .0 };
+      narrow = not-wide (s .core .screen .wide) (r1 .0);
+      core = record { screen = r2 .0; bells = ltb-true (s .core .bells) 256 (r3 .0); pending = r3 .1 };
+      setup = setup-parts (widthOf (s .core .screen)) (s .setup) (r .1);
     }
 
 pub possible-whole : (s : State) → s .core .screen .wide ≡ false → PossibleCore (s .core) → PossibleSetup (widthOf (s .core .screen)) (s .setup) → possible s ≡ true
-unfolding possible
+unfolding possible coreOk
 possible-whole s n c u =
-    both-true (ap not n) (both-true (c .screen) (both-true (u .keys) (both-true (u .attributes)
-    (both-true (u .features) (both-true (u .tabs) (both-true (lt-ltb (s .core .bells) 256 (c .bells)) (c .pending)))))))
+    both-true (both-true (ap not n) (both-true (c .screen) (both-true (lt-ltb (s .core .bells) 256 (c .bells)) (c .pending))))
+    (setup-whole (widthOf (s .core .screen)) (s .setup) u)
 
 -- ---- the set-up after a change that fits it
 
@@ -307,7 +317,7 @@ play-good calls p s h = keeps-good (play-keeps calls p s) h
 -- ---- power-on
 
 pub powerOn-possible : possible powerOn ≡ true
-unfolding possible powerOn columns noStops screenOk unsplitOk keysOk keyOk allBelow attributesOk isAttribute featuresOk featurePlace pendingOk
+unfolding possible coreOk setupOk powerOn columns noStops screenOk unsplitOk keysOk keyOk allBelow attributesOk isAttribute featuresOk featurePlace pendingOk
 powerOn-possible = refl
 
 pub powerOn-good : (p : List ℕ) → length p ≡ 1920 → good (powerOnRule p .page) (powerOnRule p .state) ≡ true

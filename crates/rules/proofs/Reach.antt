@@ -21,7 +21,8 @@ use Rattle.rules.specs.declared.Decoded.the-variants as Decoded
 use Rattle.rules.specs.Row.{columns}
 use Rattle.rules.specs.Cell.{both, either, among}
 use Rattle.rules.specs.State.{keyText, keyOf, noKey, changed}
-use Rattle.rules.specs.Possible.{powerOn, blank, unsplitOk, screenOk, allBelow, keyOk, keysOk, isAttribute, attributesOk, featurePlace, featuresOk, isKey, pendingOk, noStops, possible, good}
+use Rattle.rules.specs.Possible.{powerOn, blank, unsplitOk, screenOk, allBelow, keyOk, keysOk, attributesOk, featuresOk, pendingOk, noStops, coreOk, setupOk, possible, good}
+use Rattle.rules.specs.Arguments.{isAttribute, featurePlace, isKey}
 use Rattle.rules.specs.Decode.{lookup, idleRule, escapeRule, splitRule, digitRule, decimalRowRule, decimalColumnRule, keyValueRule, keyTextRule, decodeRule}
 use Rattle.rules.specs.Carry.{digit}
 use Rattle.rules.specs.Step.{Outcome, grown, obeyed, innerRule, stepRule}
@@ -62,8 +63,8 @@ leads-append (wait h e x) y = wait h e (leads-append x y)
 leads-append (gather h e x) y = gather h e (leads-append x y)
 
 good-waiting : (q : Pending) (k : Key) → pendingOk q k ≡ true → good blank (waiting q k) ≡ true
-unfolding good possible blank powerOn columns noStops screenOk unsplitOk keysOk keyOk allBelow attributesOk isAttribute featuresOk featurePlace
-good-waiting q k e = e
+unfolding good possible coreOk setupOk blank powerOn columns noStops screenOk unsplitOk keysOk keyOk allBelow attributesOk isAttribute featuresOk featurePlace
+good-waiting q k e = rw e
 
 abbrev quietly : State → Outcome
 quietly s = record { answer = 0; state = s; page = blank; reply = [] }

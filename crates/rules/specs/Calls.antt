@@ -9,7 +9,8 @@ use Rattle.rules.specs.declared.Key.{Key}
 use Rattle.rules.specs.Cell.{pick, among}
 use Rattle.rules.specs.Row.{narrowCells}
 use Rattle.rules.specs.State.{keyText, keyPlace, noKey}
-use Rattle.rules.specs.Possible.{powerOn, blank, isKey, good}
+use Rattle.rules.specs.Possible.{powerOn, blank, good}
+use Rattle.rules.specs.Arguments.{isKey}
 use Rattle.rules.specs.Step.{Outcome, stepRule}
 
 -- power-on: a narrow page, all cells 0. A wrong page length answers 7 and leaves the page

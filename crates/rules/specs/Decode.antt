@@ -5,7 +5,7 @@ use mathlib.Core.Bool.{Bool, true, false}
 use lib.Dec.{ltb, leb, eqb}
 use Rattle.rules.specs.Cell.{pick, both, either, among}
 use Rattle.rules.specs.State.{keyPlace}
-use Rattle.rules.specs.Possible.{isAttribute, featurePlace, isKey}
+use Rattle.rules.specs.Arguments.{isAttribute, featurePlace, isKey}
 use Rattle.rules.specs.declared.Answer.the-variants as Answer
 use Rattle.rules.specs.declared.Pending.{Pending}
 use Rattle.rules.specs.declared.Pending.the-variants as Pending

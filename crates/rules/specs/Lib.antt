@@ -3,6 +3,7 @@ pub mod Row
 pub mod Search
 pub mod Change
 pub mod State
+pub mod Arguments
 pub mod Possible
 pub mod Decode
 pub mod Plan

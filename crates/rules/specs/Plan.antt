@@ -40,7 +40,7 @@ use Rattle.rules.specs.Cell.{pick, both, either, among, written}
 use Rattle.rules.specs.Row.{columns, addressed, rowOf, columnOf, rowStart, rowEnd}
 use Rattle.rules.specs.Search.{previousOpen, nextField, previousField, nextTab, previousTab}
 use Rattle.rules.specs.State.{widthOf, segmentTop, segmentBottom, segmentStart, segmentEnd, cursorOf, activated, withScreen, withModes, withBells, withProtect, withMode, idle}
-use Rattle.rules.specs.Possible.{featurePlace}
+use Rattle.rules.specs.Arguments.{featurePlace}
 
 -- the forms of plans
 abbrev pub refusing : Core → Answer → Plan

@@ -4,6 +4,8 @@ use mathlib.Core.List.{List, [], _∷_}
 use mathlib.Core.Bool.{Bool, true, false, not}
 use lib.ListN.{length, getD, drop, replicate}
 use lib.Dec.{ltb, leb, eqb}
+use Rattle.rules.specs.declared.Core.{Core}
+use Rattle.rules.specs.declared.Setup.{Setup}
 use Rattle.rules.specs.declared.State.{State}
 use Rattle.rules.specs.declared.Screen.{Screen}
 use Rattle.rules.specs.declared.Key.{Key}
@@ -12,6 +14,7 @@ use Rattle.rules.specs.declared.Pending.the-variants as Pending
 use Rattle.rules.specs.Cell.{pick, both, either, among}
 use Rattle.rules.specs.Row.{height, narrowCells}
 use Rattle.rules.specs.State.{widthOf, pageLength, keyText, noKey}
+use Rattle.rules.specs.Arguments.{isAttribute, featurePlace, isKey}
 
 unfoldable pub powerOn : State
 powerOn = record {
@@ -60,29 +63,14 @@ unfoldable pub keysOk : List Key → Bool
 keysOk [] = true
 keysOk (k ∷ ks) = both (keyOk k) (keysOk ks)
 
--- attr of ESC G: 20h, 30h to 3Fh or 70h to 7Eh
-unfoldable pub isAttribute : ℕ → Bool
-isAttribute a = either (eqb a 0x20) (either (among 0x30 16 a) (among 0x70 15 a))
-
 unfoldable pub attributesOk : List ℕ → Bool
 attributesOk [] = true
 attributesOk (a ∷ l) = both (isAttribute a) (attributesOk l)
-
--- which feature a code of ESC ` sets: 0 and 1 whether the cursor is shown, 2 to 5 its style, 6 7 A the protected look, 8 and 9 whether the
--- screen is shown, 3Ch to 40h scrolling. Five for any other code
-unfoldable pub featurePlace : ℕ → ℕ
-featurePlace f =
-    pick (among 0x30 2 f) 0 (pick (among 0x32 4 f) 1 (pick (either (among 0x36 2 f) (eqb f 0x41)) 2
-    (pick (among 0x38 2 f) 3 (pick (among 0x3c 5 f) 4 5))))
 
 -- each feature from its own list; `n` is the place of the list's first
 unfoldable pub featuresOk : ℕ → List ℕ → Bool
 featuresOk n [] = true
 featuresOk n (f ∷ l) = both (eqb (featurePlace f) n) (featuresOk (suc n) l)
-
--- value of ESC z: 40h to 4Fh or 60h to 6Fh
-unfoldable pub isKey : ℕ → Bool
-isKey v = either (among 0x40 16 v) (among 0x60 16 v)
 
 -- no tab stop, and none beyond the w columns of the page
 unfoldable pub noStops : List Bool → Bool
@@ -120,12 +108,15 @@ pendingOk (Pending.KeyOver v) k = isKey v
 abbrev pub narrow : Screen → Bool
 narrow x = not (x .wide)
 
--- the term "possible"
+-- the term "possible": of the core, and of the set-up, w being the width of the page
+unfoldable pub coreOk : Core → Bool
+coreOk c = both (narrow (c .screen)) (both (screenOk (c .screen)) (both (ltb (c .bells) 256) (pendingOk (c .pending) (c .gathered))))
+
+unfoldable pub setupOk : ℕ → Setup → Bool
+setupOk w u = both (keysOk (u .keys)) (both (attributesOk (u .attributes)) (both (featuresOk 0 (u .features)) (tabsOk w (u .tabs))))
+
 unfoldable pub possible : State → Bool
-possible s =
-    both (narrow (s .core .screen)) (both (screenOk (s .core .screen)) (both (keysOk (s .setup .keys)) (both (attributesOk (s .setup .attributes))
-    (both (featuresOk 0 (s .setup .features)) (both (tabsOk (widthOf (s .core .screen)) (s .setup .tabs)) (both (ltb (s .core .bells) 256)
-    (pendingOk (s .core .pending) (s .core .gathered))))))))
+possible s = both (coreOk (s .core)) (setupOk (widthOf (s .core .screen)) (s .setup))
 
 -- a page of the state's own length, and a possible state
 unfoldable pub good : List ℕ → State → Bool

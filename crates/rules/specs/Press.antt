@@ -6,7 +6,8 @@ use Prim.Native.Nat.{ℕ, _<_, _≤_}
 use lib.ListN.{length}
 use Rattle.rules.specs.declared.State.{State}
 use Rattle.rules.specs.State.{keyText}
-use Rattle.rules.specs.Possible.{isKey, good}
+use Rattle.rules.specs.Possible.{good}
+use Rattle.rules.specs.Arguments.{isKey}
 use Rattle.rules.specs.Calls.{Called, keyAt}
 
 -- what a call gives that answers n, replies r and changes nothing

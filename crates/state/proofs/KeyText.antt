@@ -12,7 +12,7 @@ use lib.ListN.{length, getD, take, set, replicate, length-append, getD-replicate
 use lib.Seq.{length-take-le, take-all, take-at, take-suc, take-suc-set, take-set-lt, take-append-le, append-snoc, set-append-seam, getD-append-add}
 use Rattle.rules.specs.Cell.{among}
 use Rattle.rules.specs.State.{keyPlace, keyOf}
-use Rattle.rules.specs.Possible.{isKey}
+use Rattle.rules.specs.Arguments.{isKey}
 use Rattle.state.proofs.Tests.{either-cases, among-range}
 
 -- a key's value, and its place

@@ -11,7 +11,8 @@ use lib.Dec.{ltb, leb}
 use Rattle.rules.specs.Cell.{both}
 use Rattle.rules.specs.Decode.{lookup}
 use Rattle.rules.specs.declared.Decoded.{Decoded}
-use Rattle.rules.specs.Possible.{isKey, keyOk, pendingOk}
+use Rattle.rules.specs.Possible.{keyOk, pendingOk}
+use Rattle.rules.specs.Arguments.{isKey}
 use Rattle.rules.specs.declared.Key.{Key}
 use Rattle.rules.specs.declared.Pending.{Pending}
 use Rattle.rules.specs.declared.Pending.the-variants as Pending

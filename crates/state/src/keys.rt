@@ -5,7 +5,7 @@ ghost use mathlib.Core.List.{[], _++_};
 ghost use Prim.Native.Nat.{_<_, _≤_};
 ghost use lib.ListN.{getD, set, take, replicate};
 ghost use Rattle.rules.specs.State.{keyText, keyOf, noKey, keyPlace};
-ghost use Rattle.rules.specs.Possible.{isKey};
+ghost use Rattle.rules.specs.Arguments.{isKey};
 ghost use Rattle.rules.specs.Step.{grown};
 use crate::logic::among;
 use crate::logic::or;

@@ -4,16 +4,19 @@ ghost use Prim.Native.Nat.{_^_, _≤_};
 ghost use lib.Dec.{leb, ltb};
 ghost use lib.ListN.{take};
 ghost use Rattle.rules.specs.Cell.{both};
-ghost use Rattle.rules.specs.Possible.{unsplitOk, splitOk, screenOk, allBelow, keyOk, keysOk, isAttribute, attributesOk, featurePlace, featuresOk, pendingOk, tabsOk, possible};
+ghost use Rattle.rules.specs.Possible.{unsplitOk, splitOk, screenOk, allBelow, keyOk, keysOk, attributesOk, featuresOk, pendingOk, tabsOk, coreOk, setupOk, possible};
+ghost use Rattle.rules.specs.Arguments.{isAttribute, featurePlace};
 use crate::keys::is_key;
 use crate::logic::among;
 use crate::logic::and;
 use crate::logic::or;
 use crate::width::cells;
 use crate::width::columns;
+use rules::Core;
 use rules::Key;
 use rules::Pending;
 use rules::Screen;
+use rules::Setup;
 use rules::State;
 
 fn unsplit_ok(x: Screen) -> bool
@@ -204,24 +207,33 @@ fn tabs_ok(tabs: [bool; 132], width: u16) -> bool
     none
 }
 
+pub fn core_ok(core: Core) -> bool
+    ensures { λ r. ⌜ r ≡ coreOk core ⌝ }
+{
+    let screen = core.screen;
+    let pending = core.pending;
+    let gathered = core.gathered;
+    let sequence = and(bells_ok(core.bells), pending_ok(pending, gathered));
+    let narrow = !screen.wide;
+    and(narrow, and(screen_ok(screen), sequence))
+}
+
+pub fn setup_ok(setup: Setup, width: u16) -> bool
+    ensures { λ r. ⌜ r ≡ setupOk width setup ⌝ }
+{
+    let keys = setup.keys;
+    let attributes = setup.attributes;
+    let features = setup.features;
+    let tabs = setup.tabs;
+    let stops = tabs_ok(tabs, width);
+    let lists = and(attributes_ok(attributes), and(features_ok(features), stops));
+    and(keys_ok(keys), lists)
+}
+
 pub fn possible(s: State) -> bool
     ensures { λ r. ⌜ r ≡ possible s ⌝ }
 {
     let core = s.core;
     let setup = s.setup;
-    let screen = core.screen;
-    let keys = setup.keys;
-    let attributes = setup.attributes;
-    let features = setup.features;
-    let pending = core.pending;
-    let gathered = core.gathered;
-    let tabs = setup.tabs;
-    let stops = tabs_ok(tabs, columns(screen.wide));
-    let sequence = and(bells_ok(core.bells), pending_ok(pending, gathered));
-    let lists = and(
-        attributes_ok(attributes),
-        and(features_ok(features), and(stops, sequence)),
-    );
-    let narrow = !screen.wide;
-    and(narrow, and(screen_ok(screen), and(keys_ok(keys), lists)))
+    and(core_ok(core), setup_ok(setup, columns(core.screen.wide)))
 }

@@ -25,7 +25,8 @@ use Rattle.rules.specs.declared.PressResult.{PressResult}
 use Rattle.rules.specs.Cell.{pick}
 use Rattle.rules.specs.Change.{within, filled}
 use Rattle.rules.specs.State.{number, keyText, keyPlace}
-use Rattle.rules.specs.Possible.{powerOn, blank, allBelow, keyOk, isKey, good}
+use Rattle.rules.specs.Possible.{powerOn, blank, allBelow, keyOk, good}
+use Rattle.rules.specs.Arguments.{isKey}
 use Rattle.rules.specs.Step.{Outcome, stepRule}
 use Rattle.rules.specs.Calls.{powerOnRule, Ran, runRule, pressed, joined, repeated, keySends, keyAt, pressRule}
 use Rattle.rules.specs.Left.{leaves}

@@ -12,7 +12,7 @@ use Rattle.rules.specs.declared.Pending.{Pending}
 use Rattle.rules.specs.declared.Pending.the-variants as Pending
 use Rattle.rules.specs.declared.Command.{Command}
 use Rattle.rules.specs.Cell.{both, either, among}
-use Rattle.rules.specs.Possible.{isAttribute, featurePlace, isKey}
+use Rattle.rules.specs.Arguments.{isAttribute, featurePlace, isKey}
 use Rattle.rules.specs.Decode.{lookup, controls, escapes, judged, idleRule, escapeRule, featureRule, fieldRule, splitRule, digitRule}
 use Rattle.rules.specs.Decode.{decimalRowRule, decimalColumnRule, keyValueRule, keyTextRule, keyOverRule, decodeRule}
 use Rattle.rules.proofs.Tests.{pick-if, both-parts}

@@ -3,7 +3,8 @@ use mathlib.Core.Bool.{true}
 use mathlib.Core.Path.{_≡_, sym, _∙_}
 use denote.Ref.{now}
 use borrow.Author.Tests.{not-true, not-false}
-use Rattle.rules.specs.Possible.{isKey, good}
+use Rattle.rules.specs.Possible.{good}
+use Rattle.rules.specs.Arguments.{isKey}
 use Rattle.terminal.proofs.Calls.{press-bad, press-locked, press-unknown, press-sends, key-size}
 use borrow.Author.Needs.{needs}
 use Rattle.terminal.proofs.press.Statement.{statement}

@@ -1,6 +1,6 @@
 -- `state::keys::is_key` meets its contract.
 use mathlib.Core.Path.{_∙_}
-use Rattle.rules.specs.Possible.{isKey}
+use Rattle.rules.specs.Arguments.{isKey}
 use borrow.Author.Needs.{needs}
 use Rattle.state.proofs.keys.is_key.Statement.{statement}
 use Rattle.state.proofs.keys.is_key.Tie as tie

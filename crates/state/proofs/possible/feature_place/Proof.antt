@@ -1,5 +1,5 @@
 -- `state::possible::feature_place` meets its contract.
-use Rattle.rules.specs.Possible.{featurePlace}
+use Rattle.rules.specs.Arguments.{featurePlace}
 use borrow.Author.Needs.{needs}
 use Rattle.state.proofs.possible.feature_place.Statement.{statement}
 use Rattle.state.proofs.possible.feature_place.Tie as tie

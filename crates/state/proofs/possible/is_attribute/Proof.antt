@@ -1,6 +1,6 @@
 -- `state::possible::is_attribute` meets its contract.
 use mathlib.Core.Path.{_∙_}
-use Rattle.rules.specs.Possible.{isAttribute}
+use Rattle.rules.specs.Arguments.{isAttribute}
 use borrow.Author.Needs.{needs}
 use Rattle.state.proofs.possible.is_attribute.Statement.{statement}
 use Rattle.state.proofs.possible.is_attribute.Tie as tie

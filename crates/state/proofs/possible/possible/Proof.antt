@@ -10,57 +10,13 @@ unfolding possible
 possible-spec =
     tie.close
     (tie.spec
+    -- core-ok-requires
+    (λ c κs. search needs)
     -- columns-requires
     (λ c κs. search needs)
-    -- tabs-ok-requires
-    (λ c κs. search needs)
-    -- bells-ok-requires
-    (λ c κs. search needs)
-    -- pending-ok-requires
+    -- setup-ok-requires
     (λ c κs. search needs)
     -- and-requires
     (λ c κs. search needs)
-    -- attributes-ok-requires
-    (λ c κs. search needs)
-    -- features-ok-requires
-    (λ c κs. search needs)
-    -- and-requires-2
-    (λ c κs. search needs)
-    -- and-requires-3
-    (λ c κs. search needs)
-    -- and-requires-4
-    (λ c κs. search needs)
-    -- screen-ok-requires
-    (λ c κs. search needs)
-    -- keys-ok-requires
-    (λ c κs. search needs)
-    -- and-requires-5
-    (λ c κs. search needs)
-    -- and-requires-6
-    (λ c κs. search needs)
-    -- and-requires-7
-    (λ c κs. search needs)
     -- returns
-    (λ c.
-    let keys = c .before .before .before in
-    let lists = keys .before .before .before in
-    let features = lists .before .before .before in
-    let sequence = features .before .before in
-    let stops = sequence .before .before .before in
-    c .and7 .ensures
-    ∙ rw (
-      c .before .and6 .ensures,
-      c .before .before .and5 .ensures,
-      lists .and4 .ensures,
-      lists .before .and3 .ensures,
-      lists .before .before .and2 .ensures,
-      sequence .and .ensures,
-      keys .before .screen-ok .ensures,
-      keys .keys-ok .ensures,
-      features .before .attributes-ok .ensures,
-      features .features-ok .ensures,
-      stops .tabs-ok .ensures,
-      stops .before .columns .ensures,
-      sequence .before .before .bells-ok .ensures,
-      sequence .before .pending-ok .ensures,
-    )))
+    (λ c. c .and .ensures ∙ rw (c .before .before .before .core-ok .ensures, c .before .setup-ok .ensures, c .before .before .columns .ensures)))

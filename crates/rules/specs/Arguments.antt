@@ -1,0 +1,20 @@
+-- Which bytes the arguments of commands may be.
+use Prim.Native.Nat.{ℕ}
+use mathlib.Core.Bool.{Bool}
+use lib.Dec.{eqb}
+use Rattle.rules.specs.Cell.{pick, either, among}
+
+-- attr of ESC G: 20h, 30h to 3Fh or 70h to 7Eh
+unfoldable pub isAttribute : ℕ → Bool
+isAttribute a = either (eqb a 0x20) (either (among 0x30 16 a) (among 0x70 15 a))
+
+-- which feature a code of ESC ` sets: 0 and 1 whether the cursor is shown, 2 to 5 its style, 6 7 A the protected look, 8 and 9 whether the
+-- screen is shown, 3Ch to 40h scrolling. Five for any other code
+unfoldable pub featurePlace : ℕ → ℕ
+featurePlace f =
+    pick (among 0x30 2 f) 0 (pick (among 0x32 4 f) 1 (pick (either (among 0x36 2 f) (eqb f 0x41)) 2
+    (pick (among 0x38 2 f) 3 (pick (among 0x3c 5 f) 4 5))))
+
+-- value of ESC z: 40h to 4Fh or 60h to 6Fh
+unfoldable pub isKey : ℕ → Bool
+isKey v = either (among 0x40 16 v) (among 0x60 16 v)

@@ -1,0 +1,35 @@
+-- `state::possible::core_ok` meets its contract.
+use mathlib.Core.Path.{_∙_}
+use Rattle.rules.specs.Possible.{coreOk}
+use borrow.Author.Needs.{needs}
+use Rattle.state.proofs.possible.core_ok.Statement.{statement}
+use Rattle.state.proofs.possible.core_ok.Tie as tie
+
+pub core-ok-spec : {M : Type 1} → statement M
+unfolding coreOk
+core-ok-spec =
+    tie.close
+    (tie.spec
+    -- bells-ok-requires
+    (λ c κs. search needs)
+    -- pending-ok-requires
+    (λ c κs. search needs)
+    -- and-requires
+    (λ c κs. search needs)
+    -- screen-ok-requires
+    (λ c κs. search needs)
+    -- and-requires-2
+    (λ c κs. search needs)
+    -- and-requires-3
+    (λ c κs. search needs)
+    -- returns
+    (λ c.
+    let sequence = c .before .before .before .before in
+    c .and3 .ensures
+    ∙ rw (
+      c .before .and2 .ensures,
+      c .before .before .screen-ok .ensures,
+      sequence .and .ensures,
+      sequence .before .pending-ok .ensures,
+      sequence .before .before .bells-ok .ensures,
+    )))
