@@ -22,7 +22,6 @@ use rules::Plan;
 use sends::plan_excluded;
 use sends::plan_send;
 use sends::plan_setting;
-use state::core::idle;
 use state::core::next_bell;
 use state::core::with_bells;
 use state::core::with_mode;
@@ -39,18 +38,18 @@ pub fn plan_for(page: &[u16], tabs: &[bool; 132], core: Core, d: Command) -> Pla
     ensures { λ r. ⌜ r ≡ planRule (guardedAt (core .modes .protect) (now (page .entry))) (now (tabs .entry)) core d ⌝ }
 {
     match d {
-        Command::Nothing => plain(idle(core)),
+        Command::Nothing => plain(core),
         Command::Go(m) => plan_move(page, tabs, core, m),
         Command::Window(w) => plan_window(core, w),
         Command::Store(k) => plan_store(page, core, k),
         Command::Edit(e) => plan_edit(page, core, e),
         Command::Clear(x) => plan_clear(core, x),
-        Command::Turn(m, b) => plain(with_modes(idle(core), with_mode(core.modes, m, b))),
+        Command::Turn(m, b) => plain(with_modes(core, with_mode(core.modes, m, b))),
         Command::ProtectOn => settling(
-            with_modes(idle(core), with_protect(core.modes, true)),
+            with_modes(core, with_protect(core.modes, true)),
             cursor_of(core.screen),
         ),
-        Command::Bell => plain(with_bells(idle(core), next_bell(core.bells))),
+        Command::Bell => plain(with_bells(core, next_bell(core.bells))),
         Command::Set(s) => plan_setting(core, s),
         Command::Send(s) => plan_send(page, core, s),
         Command::Excluded(e) => plan_excluded(core, e),

@@ -19,7 +19,6 @@ use rules::Move;
 use rules::Plan;
 use rules::Screen;
 use rules::Write;
-use state::core::idle;
 use state::core::with_screen;
 use state::screen::cursor_column;
 use state::screen::cursor_of;
@@ -94,14 +93,13 @@ fn reverse_plan(core: Core) -> Plan
 {
     let x = core.screen;
     let at = cursor_of(x);
-    let next = idle(core);
     if at_top(x) {
         if core.modes.protect {
-            return settling(next, at);
+            return settling(core, at);
         }
-        return writing(next, scroll(x, true), Land::Settle(at));
+        return writing(core, scroll(x, true), Land::Settle(at));
     }
-    settling(next, at - width_of(x))
+    settling(core, at - width_of(x))
 }
 
 fn down_plan(core: Core, from: u16) -> Plan
@@ -110,15 +108,14 @@ fn down_plan(core: Core, from: u16) -> Plan
 {
     let x = core.screen;
     let m = core.modes;
-    let next = idle(core);
     let below = from + width_of(x);
     if below < segment_end(x) {
-        return settling(next, below);
+        return settling(core, below);
     }
     if scrolls(m) {
-        return writing(next, scroll(x, false), Land::Settle(from));
+        return writing(core, scroll(x, false), Land::Settle(from));
     }
-    settling(next, segment_start(x) + column_of(x.wide, from))
+    settling(core, segment_start(x) + column_of(x.wide, from))
 }
 
 // 08h: the previous open cell.
@@ -178,16 +175,15 @@ pub fn address_plan(core: Core, x: Screen, base: u16, most: u16, row: u16, colum
 {
     let top = segment_top(x);
     let rows = segment_bottom(x) - top;
-    let next = idle(core);
     if among(base, rows, row) {
         if among(base, most, column) {
             return settling(
-                with_screen(next, x),
+                with_screen(core, x),
                 cell_at(x.wide, top, base, row, column),
             );
         }
     }
-    refusing(next, Answer::BadArgument)
+    refusing(core, Answer::BadArgument)
 }
 
 pub fn plan_move(page: &[u16], tabs: &[bool; 132], core: Core, m: Move) -> Plan
@@ -196,18 +192,17 @@ pub fn plan_move(page: &[u16], tabs: &[bool; 132], core: Core, m: Move) -> Plan
 {
     let x = core.screen;
     let at = cursor_of(x);
-    let next = idle(core);
     match m {
-        Move::Back => settling(next, back_cell(page, core.modes.protect, x)),
-        Move::Right => settling(next, next_cell(x)),
-        Move::Return => settling(next, row_start(x)),
-        Move::Home => settling(next, segment_start(x)),
-        Move::Up => settling(next, up_cell(x)),
+        Move::Back => settling(core, back_cell(page, core.modes.protect, x)),
+        Move::Right => settling(core, next_cell(x)),
+        Move::Return => settling(core, row_start(x)),
+        Move::Home => settling(core, segment_start(x)),
+        Move::Up => settling(core, up_cell(x)),
         Move::Reverse => reverse_plan(core),
         Move::Down => down_plan(core, at),
         Move::NextLine => down_plan(core, row_start(x)),
-        Move::Tab => settling(next, tab_cell(page, tabs, core)),
-        Move::BackTab => settling(next, back_tab_cell(page, tabs, core)),
+        Move::Tab => settling(core, tab_cell(page, tabs, core)),
+        Move::BackTab => settling(core, back_tab_cell(page, tabs, core)),
         Move::Address(r, k) => address_plan(core, x, 0x20, ADDRESSED, r as u16, k as u16),
         Move::Decimal(r, k) => address_plan(core, x, 1, width_of(x), r as u16, k),
     }

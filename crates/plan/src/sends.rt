@@ -23,7 +23,6 @@ use rules::Send;
 use rules::Setting;
 use rules::SetupChange;
 use rules::Write;
-use state::core::idle;
 use state::core::with_modes;
 use state::core::with_protect;
 use state::possible::feature_place;
@@ -37,15 +36,14 @@ use state::screen::segment_top;
 pub fn plan_setting(core: Core, s: Setting) -> Plan
     ensures { λ r. ⌜ r ≡ settingPlan core s ⌝ }
 {
-    let next = idle(core);
     match s {
         Setting::Tab(b) => changing(
-            next,
+            core,
             SetupChange::Tab(screen::cursor_column(core.screen), b),
         ),
-        Setting::ClearTabs => changing(next, SetupChange::ClearTabs),
-        Setting::Attribute(n, a) => changing(next, SetupChange::Attribute(n, a)),
-        Setting::Feature(f) => changing(next, SetupChange::Feature(feature_place(f), f)),
+        Setting::ClearTabs => changing(core, SetupChange::ClearTabs),
+        Setting::Attribute(n, a) => changing(core, SetupChange::Attribute(n, a)),
+        Setting::Feature(f) => changing(core, SetupChange::Feature(feature_place(f), f)),
     }
 }
 
@@ -82,24 +80,23 @@ pub fn plan_send(page: &[u16], core: Core, s: Send) -> Plan
     let at = cursor_of(x);
     let row = cursor_row(x);
     let column = cursor_column(x);
-    let next = idle(core);
     match s {
-        Send::Acknowledge => replying(next, Reply::Acknowledge),
-        Send::Identity => replying(next, Reply::Identity),
-        Send::Cursor => replying(next, Reply::Address(0x20 + row, 0x20 + column)),
+        Send::Acknowledge => replying(core, Reply::Acknowledge),
+        Send::Identity => replying(core, Reply::Identity),
+        Send::Cursor => replying(core, Reply::Address(0x20 + row, 0x20 + column)),
         Send::SegmentCursor => replying(
-            next,
+            core,
             Reply::SegmentAddress(0x30 + x.active, 0x20 + row, 0x20 + column),
         ),
-        Send::DecimalCursor => replying(next, Reply::Decimal(row + 1, column + 1)),
+        Send::DecimalCursor => replying(core, Reply::Decimal(row + 1, column + 1)),
         Send::Cell => {
             if guarded_at(page, core.modes.protect, at) {
-                return refusing(next, Answer::Barred);
+                return refusing(core, Answer::Barred);
             }
-            replying(next, Reply::Cell(at))
+            replying(core, Reply::Cell(at))
         }
-        Send::OpenRow => replying(next, text(false, row_start(x), at + 1)),
-        Send::OpenSegment => replying(next, text(false, segment_start(x), at + 1)),
+        Send::OpenRow => replying(core, text(false, row_start(x), at + 1)),
+        Send::OpenSegment => replying(core, text(false, segment_start(x), at + 1)),
     }
 }
 
@@ -123,14 +120,13 @@ pub fn plan_excluded(core: Core, e: Excluded) -> Plan
 {
     let x = core.screen;
     let at = cursor_of(x);
-    let next = idle(core);
-    let off = with_modes(next, with_protect(next.modes, false));
+    let off = with_modes(core, with_protect(core.modes, false));
     match e {
         Excluded::ProtectOff => plain(off),
-        Excluded::ClearNulls => clear_all(next, 0),
-        Excluded::ClearSpaces => clear_all(next, 32),
+        Excluded::ClearNulls => clear_all(core, 0),
+        Excluded::ClearSpaces => clear_all(core, 32),
         Excluded::ClearProtected => clear_all(off, 160),
-        Excluded::SendRow => replying(next, text(true, row_start(x), at + 1)),
-        Excluded::SendSegment => replying(next, text(true, segment_start(x), at + 1)),
+        Excluded::SendRow => replying(core, text(true, row_start(x), at + 1)),
+        Excluded::SendSegment => replying(core, text(true, segment_start(x), at + 1)),
     }
 }

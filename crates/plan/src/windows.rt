@@ -14,7 +14,6 @@ use rules::Core;
 use rules::Plan;
 use rules::Screen;
 use rules::Window;
-use state::core::idle;
 use state::core::with_screen;
 use state::screen::activated;
 use state::screen::cursor_of;
@@ -51,7 +50,7 @@ fn activate(core: Core, n: u8) -> Plan
     ensures { λ r. ⌜ r ≡ activateOf core n ⌝ }
 {
     let x = activated(core.screen, n);
-    settling(with_screen(idle(core), x), cursor_of(x))
+    settling(with_screen(core, x), cursor_of(x))
 }
 
 fn is_segment(x: Screen, n: u8) -> bool
@@ -79,20 +78,19 @@ fn place(core: Core, n: u8, r: u8, k: u8) -> Plan
             k as u16,
         );
     }
-    refusing(idle(core), Answer::BadArgument)
+    refusing(core, Answer::BadArgument)
 }
 
 fn split(core: Core, r: u8) -> Plan
     ensures { λ p. ⌜ p ≡ windowPlan core (Window.Split r) ⌝ }
 {
-    let next = idle(core);
     if among(0x21, 23, r as u16) {
         return settling(
-            with_screen(next, split_screen(core.screen.wide, r - 0x1f)),
+            with_screen(core, split_screen(core.screen.wide, r - 0x1f)),
             0,
         );
     }
-    refusing(next, Answer::BadArgument)
+    refusing(core, Answer::BadArgument)
 }
 
 fn other(core: Core) -> Plan
@@ -101,7 +99,7 @@ fn other(core: Core) -> Plan
 {
     let x = core.screen;
     if x.split == 0 {
-        return plain(idle(core));
+        return plain(core);
     }
     activate(core, 1 - x.active)
 }
@@ -111,7 +109,7 @@ fn second(core: Core) -> Plan
 {
     let x = core.screen;
     if x.split == 0 {
-        return refusing(idle(core), Answer::BadArgument);
+        return refusing(core, Answer::BadArgument);
     }
     activate(core, 1)
 }
@@ -121,7 +119,7 @@ pub fn plan_window(core: Core, w: Window) -> Plan
     ensures { λ p. ⌜ p ≡ windowPlan core w ⌝ }
 {
     match w {
-        Window::Unsplit => settling(with_screen(idle(core), unsplit_screen(core.screen.wide)), 0),
+        Window::Unsplit => settling(with_screen(core, unsplit_screen(core.screen.wide)), 0),
         Window::Split(r) => split(core, r),
         Window::Other => other(core),
         Window::First => activate(core, 0),

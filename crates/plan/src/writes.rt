@@ -6,7 +6,7 @@ ghost use lib.ListN.{length, getD};
 ghost use Rattle.rules.specs.Row.{wideCells};
 ghost use Rattle.rules.specs.Search.{guardedAt};
 ghost use Rattle.rules.specs.Cell.{written};
-ghost use Rattle.rules.specs.State.{Inside, pageLength, cursorOf, idle as idleOf};
+ghost use Rattle.rules.specs.State.{Inside, pageLength, cursorOf};
 ghost use Rattle.rules.specs.Plan.{unlessGuarded, writing as writingOf, storing as storingOf, advancing as advancingOf, storePlan, rowEditPlan, editPlan, clearPlan};
 use super::forms::refusing;
 use super::forms::writing;
@@ -23,7 +23,6 @@ use rules::Edit;
 use rules::Land;
 use rules::Plan;
 use rules::Write;
-use state::core::idle;
 use state::screen::cursor_column;
 use state::screen::cursor_of;
 use state::screen::cursor_row;
@@ -69,14 +68,13 @@ fn advancing(core: Core, w: Write) -> Plan
     let m = core.modes;
     let at = cursor_of(x);
     let end = segment_end(x);
-    let next = idle(core);
     if at + 1 < end {
-        return writing(next, w, Land::Settle(at + 1));
+        return writing(core, w, Land::Settle(at + 1));
     }
     if scrolls(m) {
-        return writing_two(next, w, scroll(x, false), Land::Settle(end - width_of(x)));
+        return writing_two(core, w, scroll(x, false), Land::Settle(end - width_of(x)));
     }
-    writing(next, w, Land::Settle(segment_start(x)))
+    writing(core, w, Land::Settle(segment_start(x)))
 }
 
 pub fn plan_store(page: &[u16], core: Core, k: Contents) -> Plan
@@ -86,7 +84,7 @@ pub fn plan_store(page: &[u16], core: Core, k: Contents) -> Plan
     let x = core.screen;
     let at = cursor_of(x);
     if guarded_at(page, core.modes.protect, at) {
-        return refusing(idle(core), Answer::Barred);
+        return refusing(core, Answer::Barred);
     }
     let v = written_cell(k, core.modes.mark);
     advancing(core, storing(core.modes.insert, at, v))
@@ -95,20 +93,19 @@ pub fn plan_store(page: &[u16], core: Core, k: Contents) -> Plan
 // ESC Q and ESC W: the edit run moves by one cell and a space comes in.
 fn edit_cells(page: &[u16], core: Core, right: bool) -> Plan
     requires { ⌜ (length (now page) ≡ pageLength (core .screen)) × Inside (core .screen) ⌝ }
-    ensures { λ r. ⌜ r ≡ unlessGuarded (guardedAt (core .modes .protect) (now (page .entry))) core (writingOf (idleOf core) (Write.Edit right (cursorOf (core .screen)) 32) Land.Stay) ⌝ }
+    ensures { λ r. ⌜ r ≡ unlessGuarded (guardedAt (core .modes .protect) (now (page .entry))) core (writingOf core (Write.Edit right (cursorOf (core .screen)) 32) Land.Stay) ⌝ }
 {
     let x = core.screen;
     let at = cursor_of(x);
-    let next = idle(core);
     if guarded_at(page, core.modes.protect, at) {
-        return refusing(next, Answer::Barred);
+        return refusing(core, Answer::Barred);
     }
     let w = Write::Edit {
         right: right,
         at: at,
         value: 32,
     };
-    writing(next, w, Land::Stay)
+    writing(core, w, Land::Stay)
 }
 
 // ESC E and ESC R: the rows from the cursor's on move by one row.
@@ -117,16 +114,15 @@ fn edit_rows(core: Core, down: bool) -> Plan
     ensures { λ r. ⌜ r ≡ rowEditPlan core down ⌝ }
 {
     let x = core.screen;
-    let next = idle(core);
     if core.modes.protect {
-        return refusing(next, Answer::Barred);
+        return refusing(core, Answer::Barred);
     }
     let w = Write::Rows {
         down: down,
         top: cursor_row(x),
         bottom: segment_bottom(x),
     };
-    writing(next, w, Land::Settle(row_start(x)))
+    writing(core, w, Land::Settle(row_start(x)))
 }
 
 pub fn plan_edit(page: &[u16], core: Core, e: Edit) -> Plan
@@ -161,11 +157,10 @@ pub fn plan_clear(core: Core, x: Clear) -> Plan
     let start = segment_start(s);
     let end = segment_end(s);
     let row = row_start(s) + width_of(s);
-    let next = idle(core);
     match x {
-        Clear::Row(k) => writing(next, fill(k, at, row), Land::Stay),
-        Clear::Rest(k) => writing(next, fill(k, at, end), Land::Stay),
-        Clear::Segment(k) => writing(next, fill(k, start, end), Land::Settle(start)),
+        Clear::Row(k) => writing(core, fill(k, at, row), Land::Stay),
+        Clear::Rest(k) => writing(core, fill(k, at, end), Land::Stay),
+        Clear::Segment(k) => writing(core, fill(k, start, end), Land::Settle(start)),
         Clear::Column => {
             let w = Write::Column {
                 top: segment_top(s),
@@ -173,7 +168,7 @@ pub fn plan_clear(core: Core, x: Clear) -> Plan
                 column: cursor_column(s),
                 value: 160,
             };
-            writing(next, w, Land::Settle(at))
+            writing(core, w, Land::Settle(at))
         }
     }
 }

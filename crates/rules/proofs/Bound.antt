@@ -24,7 +24,7 @@ use Rattle.rules.specs.declared.Reply.{Reply}
 use Rattle.rules.specs.declared.Reply.the-variants as Reply
 use Rattle.rules.specs.Cell.{pick, both, guarded}
 use Rattle.rules.specs.Row.{Width, columns}
-use Rattle.rules.specs.State.{number, widthOf, pageLength, keyPlace}
+use Rattle.rules.specs.State.{number, widthOf, pageLength, keyPlace, idle}
 use Rattle.rules.specs.Possible.{allBelow, keyOk, good}
 use Rattle.rules.specs.Arguments.{isKey}
 use Rattle.rules.specs.Decode.{decodeRule}
@@ -122,7 +122,7 @@ silent : {x : Screen} {room : ℕ} {e : Effect} → length (e .reply) ≡ 0 → 
 silent z a = record { fits = omega arith; bound = omega arith; taken = λ r. a }
 
 module _ (p : List ℕ) (c : Core) (n : length p ≡ pageLength (c .screen)) (h : PossibleCore c) where
-  carried-bounded : {t : Bool} (x : Plan) (room : ℕ) → PlanKept t c x → Bounded (c .screen) room (carried p c x room)
+  carried-bounded : {t : Bool} (x : Plan) (room : ℕ) → PlanKept t (idle c) x → Bounded (c .screen) room (carried p c x room)
   unfolding carried done
   carried-bounded x room k =
       let most : length (replyOf (c .modes .protect) p x) ≤ mostReply (c .screen) =

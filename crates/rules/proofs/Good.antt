@@ -1,5 +1,5 @@
 -- Every plan stays inside the page: `good-plan`, what carrying it out needs.
--- And it keeps a possible state possible: `plan-kept`, which says also that the sequence under way is over, that the set-up's change fits,
+-- And it keeps a possible state possible: `plan-kept`, which says also that the sequence stays as it was, that the set-up's change fits,
 -- and that no plan answers 6.
 -- Assumes nothing.
 use mathlib.Core.Path.{_≡_, refl}
@@ -17,7 +17,6 @@ use Rattle.rules.specs.declared.Key.{Key}
 use Rattle.rules.specs.declared.Plan.{Plan}
 use Rattle.rules.specs.declared.Answer.{Answer}
 use Rattle.rules.specs.declared.Answer.the-variants as Answer
-use Rattle.rules.specs.declared.Pending.the-variants as Pending
 use Rattle.rules.specs.declared.Contents.{Contents}
 use Rattle.rules.specs.declared.Move.{Move}
 use Rattle.rules.specs.declared.Move.the-variants as Move
@@ -42,7 +41,7 @@ use Rattle.rules.specs.declared.Reply.{Reply}
 use Rattle.rules.specs.declared.Land.{Land}
 use Rattle.rules.specs.Cell.{pick, both, among}
 use Rattle.rules.specs.Row.{columnOf, rowStart}
-use Rattle.rules.specs.State.{number, widthOf, pageLength, segmentTop, segmentBottom, segmentStart, segmentEnd, cursorOf, activated, withScreen, withModes, withProtect, withMode, idle, Inside}
+use Rattle.rules.specs.State.{number, widthOf, pageLength, segmentTop, segmentBottom, segmentStart, segmentEnd, cursorOf, activated, withScreen, withModes, withProtect, withMode, Inside}
 use Rattle.rules.specs.Possible.{screenOk, keyOk}
 use Rattle.rules.specs.Arguments.{isAttribute, featurePlace}
 use Rattle.rules.specs.Plan.{refusing, plain, writingTwo, settling, replying, changing, unlessGuarded, scrolls, atTop, reversePlan, downPlan, tabCell, backTabCell, addressPlan, movePlan, unsplitScreen, splitScreen, activate, isSegment, windowPlan, storing, advancing, storePlan, rowEditPlan, editPlan, clearPlan, settingPlan, sendPlan, clearAll, excludedPlan, planRule}
@@ -86,14 +85,14 @@ commandOk (Command.Excluded x) = true
 record Next (c n : Core) : Type 0 where
   screen : screenOk (n .screen) ≡ true
   wide : n .screen .wide ≡ c .screen .wide
-  idle : n .pending ≡ Pending.Idle
+  pending : n .pending ≡ c .pending
   bells : c .bells < 256 → n .bells < 256
 
 -- what holds of every plan; t says whether its command is good
 pub record PlanKept (t : Bool) (c : Core) (x : Plan) : Type 0 where
   pub good : GoodPlan x
   pub wide : x .next .screen .wide ≡ c .screen .wide
-  pub idle : x .next .pending ≡ Pending.Idle
+  pub pending : x .next .pending ≡ c .pending
   pub bells : c .bells < 256 → x .next .bells < 256
   pub change : t ≡ true → (k : Key) → changeOk (widthOf (c .screen)) k (x .change) ≡ true
   pub answer : eqb (number (x .answer)) 6 ≡ false
@@ -107,7 +106,7 @@ module _ {t : Bool} {c n : Core} (h : Next c n) where
       record {
         good = record { one = tt; two = tt; text = tt; screen = h .screen; place = tt };
         wide = h .wide;
-        idle = h .idle;
+        pending = h .pending;
         bells = h .bells;
         change = λ u k. refl;
         answer = e;
@@ -119,7 +118,7 @@ module _ {t : Bool} {c n : Core} (h : Next c n) where
       record {
         good = record { one = a; two = b; text = tt; screen = h .screen; place = d };
         wide = h .wide;
-        idle = h .idle;
+        pending = h .pending;
         bells = h .bells;
         change = λ u k. refl;
         answer = refl;
@@ -131,7 +130,7 @@ module _ {t : Bool} {c n : Core} (h : Next c n) where
       record {
         good = record { one = tt; two = tt; text = a; screen = h .screen; place = tt };
         wide = h .wide;
-        idle = h .idle;
+        pending = h .pending;
         bells = h .bells;
         change = λ u k. refl;
         answer = refl;
@@ -142,7 +141,7 @@ module _ {t : Bool} {c n : Core} (h : Next c n) where
       record {
         good = record { one = tt; two = tt; text = tt; screen = h .screen; place = tt };
         wide = h .wide;
-        idle = h .idle;
+        pending = h .pending;
         bells = h .bells;
         change = f;
         answer = refl;
@@ -151,33 +150,33 @@ module _ {t : Bool} {c n : Core} (h : Next c n) where
 -- ---- the commands
 
 module _ (c : Core) (ok : screenOk (c .screen) ≡ true) (i : Inside (c .screen)) where
-  here : Next c (idle c)
-  here = record { screen = ok; wide = refl; idle = refl; bells = λ h. h }
+  here : Next c c
+  here = record { screen = ok; wide = refl; pending = refl; bells = λ h. h }
 
-  on-screen : (x : Screen) → screenOk x ≡ true → x .wide ≡ c .screen .wide → Next c (withScreen (idle c) x)
-  on-screen x h w = record { screen = h; wide = w; idle = refl; bells = λ h. h }
+  on-screen : (x : Screen) → screenOk x ≡ true → x .wide ≡ c .screen .wide → Next c (withScreen c x)
+  on-screen x h w = record { screen = h; wide = w; pending = refl; bells = λ h. h }
 
-  in-modes : (m : Modes) → Next c (withModes (idle c) m)
-  in-modes m = record { screen = ok; wide = refl; idle = refl; bells = λ h. h }
+  in-modes : (m : Modes) → Next c (withModes c m)
+  in-modes m = record { screen = ok; wide = refl; pending = refl; bells = λ h. h }
 
   module _ {t : Bool} where
     kept-pick : (s : Bool) {x y : Plan} → (s ≡ true → PlanKept t c x) → (s ≡ false → PlanKept t c y) → PlanKept t c (pick s x y)
     kept-pick s f g = pick-if (PlanKept t c) s f g
 
-    kept-done : PlanKept t c (plain (idle c))
+    kept-done : PlanKept t c (plain c)
     kept-done = kept-refusing here Answer.Done refl
 
-    kept-bad : PlanKept t c (refusing (idle c) Answer.BadArgument)
+    kept-bad : PlanKept t c (refusing c Answer.BadArgument)
     kept-bad = kept-refusing here Answer.BadArgument refl
 
-    kept-barred : PlanKept t c (refusing (idle c) Answer.Barred)
+    kept-barred : PlanKept t c (refusing c Answer.Barred)
     kept-barred = kept-refusing here Answer.Barred refl
 
     kept-unless : (g : List Bool) {x : Plan} → PlanKept t c x → PlanKept t c (unlessGuarded g c x)
     unfolding unlessGuarded
     kept-unless g h = kept-pick (getD g (cursorOf (c .screen)) false) (λ e. kept-barred) (λ e. h)
 
-    kept-settling : {n : ℕ} → In (c .screen) n → PlanKept t c (settling (idle c) n)
+    kept-settling : {n : ℕ} → In (c .screen) n → PlanKept t c (settling c n)
     kept-settling h = kept-writing here tt tt h
 
     kept-reverse : PlanKept t c (reversePlan c)
@@ -304,7 +303,7 @@ module _ (c : Core) (ok : screenOk (c .screen) ≡ true) (i : Inside (c .screen)
     kept-send g Send.OpenRow = kept-replying here (omega arith)
     kept-send g Send.OpenSegment = kept-replying here (omega arith)
 
-    kept-clear-all : (m : Modes) (v : ℕ) → PlanKept t c (clearAll (withModes (idle c) m) v)
+    kept-clear-all : (m : Modes) (v : ℕ) → PlanKept t c (clearAll (withModes c m) v)
     kept-clear-all m v = kept-writing (in-modes m) (omega arith) tt (omega arith)
 
     kept-excluded : (x : Excluded) → PlanKept t c (excludedPlan c x)
@@ -333,7 +332,7 @@ module _ (c : Core) (ok : screenOk (c .screen) ≡ true) (i : Inside (c .screen)
   kept-command g n tabs (Command.Clear x) = kept-clear x
   kept-command g n tabs (Command.Turn m b) = kept-refusing (in-modes (withMode (c .modes) m b)) Answer.Done refl
   kept-command g n tabs Command.ProtectOn = kept-writing (in-modes (withProtect (c .modes) true)) tt tt (omega arith)
-  kept-command g n tabs Command.Bell = kept-refusing record { screen = ok; wide = refl; idle = refl; bells = λ h. omega arith } Answer.Done refl
+  kept-command g n tabs Command.Bell = kept-refusing record { screen = ok; wide = refl; pending = refl; bells = λ h. omega arith } Answer.Done refl
   kept-command g n tabs (Command.Set x) = kept-setting x
   kept-command g n tabs (Command.Send x) = kept-send g x
   kept-command g n tabs (Command.Excluded x) = kept-excluded x

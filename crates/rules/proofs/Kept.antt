@@ -181,14 +181,14 @@ idle-kept c h = record { screen = h .screen; bells = h .bells; pending = refl }
 
 module _ (p : List ℕ) (c : Core) (n : length p ≡ pageLength (c .screen)) (h : PossibleCore c) where
   -- the plan of a command, from the page's own guarded cells
-  pub planned-kept : (tabs : List Bool) (d : Command) → PlanKept (commandOk d) c (planRule (guardedAt (c .modes .protect) p) tabs c d)
-  planned-kept tabs d = plan-kept c (h .screen) (guardedAt (c .modes .protect) p) (length-guards (c .modes .protect) p ∙ n) tabs d
+  pub planned-kept : (tabs : List Bool) (d : Command) → PlanKept (commandOk d) (idle c) (planRule (guardedAt (c .modes .protect) p) tabs (idle c) d)
+  planned-kept tabs d = plan-kept (idle c) (h .screen) (guardedAt (c .modes .protect) p) (length-guards (c .modes .protect) p ∙ n) tabs d
 
-  next-kept : {t : Bool} {x : Plan} → PlanKept t c x → PossibleCore (x .next)
+  next-kept : {t : Bool} {x : Plan} → PlanKept t (idle c) x → PossibleCore (x .next)
   unfolding pendingOk
-  next-kept {t} {x} k = record { screen = k .good .screen; bells = k .bells (h .bells); pending = rw (k .idle) }
+  next-kept {t} {x} k = record { screen = k .good .screen; bells = k .bells (h .bells); pending = rw (k .pending) }
 
-  pub carried-kept : {t : Bool} (x : Plan) (room : ℕ) → PlanKept t c x → t ≡ true → EffectKept c (carried p c x room)
+  pub carried-kept : {t : Bool} (x : Plan) (room : ℕ) → PlanKept t (idle c) x → t ≡ true → EffectKept c (carried p c x room)
   unfolding carried done changeOk
   carried-kept x room k good =
       pick-if (EffectKept c) (leb (length (replyOf (c .modes .protect) p x)) room)

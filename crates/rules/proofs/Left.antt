@@ -37,7 +37,7 @@ pub data Ended (p : List ℕ) (c : Core) : Effect → Type 0 where
   keeps : (n : ℕ) → among 2 3 n ≡ false → (n ≤ 6) × (n ≡ 5 → ⊥) → Ended p c (quiet n c p)
 
 module _ (p : List ℕ) (c : Core) where
-  carried-ends : (x : Plan) (room : ℕ) → Planned c x → Ended p c (carried p c x room)
+  carried-ends : (x : Plan) (room : ℕ) → Planned (idle c) x → Ended p c (carried p c x room)
   unfolding carried done applied replied landed
   carried-ends x room (obeys e) =
       pick-if (Ended p c) (leb (length (replyOf (c .modes .protect) p x)) room) (λ t. ends (ap number e)) (λ t. keeps 6 refl (omega arith, λ e. omega (arith, e)))
@@ -50,7 +50,7 @@ module _ (p : List ℕ) (c : Core) where
     obeyed-ends (Decoded.Gather b) e = ends refl
     obeyed-ends (Decoded.Program n) e = ends refl
     obeyed-ends (Decoded.Reject a) e = clears (number a) e
-    obeyed-ends (Decoded.Do d) e = carried-ends _ room (planned c (guardedAt (c .modes .protect) p) tabs d)
+    obeyed-ends (Decoded.Do d) e = carried-ends _ room (planned (idle c) (guardedAt (c .modes .protect) p) tabs d)
 
     pub inner-ends : (b : ℕ) → pendingOk (c .pending) (c .gathered) ≡ true → Ended p c (innerRule p c tabs b room)
     unfolding innerRule

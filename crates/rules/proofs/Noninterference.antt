@@ -119,9 +119,9 @@ module _ {p q x y : List ℕ} (h : Related p q x y) (s : State) (on : protects s
   obeyed-agrees (Decoded.Program n) room e = untouched _ _ _ on
   obeyed-agrees (Decoded.Reject a) room e = untouched _ _ _ on
   obeyed-agrees (Decoded.Do d) room e =
-      let k = planRule (guardedAt (protects s) x) (s .setup .tabs) (s .core) d in
+      let k = planRule (guardedAt (protects s) x) (s .setup .tabs) (idle (s .core)) d in
       rw (← (guards-agree (protects s) on h))
-      (carried-agrees k room (λ fits. unrevealing (guardedAt (protects s) x) (s .setup .tabs) (s .core) on d
+      (carried-agrees k room (λ fits. unrevealing (guardedAt (protects s) x) (s .setup .tabs) (idle (s .core)) on d
       (ap (λ (n : ℕ). both (isExcluded d) (eqb n 0)) (sym (carried-answer k room fits)) ∙ e)))
 
   inner-agrees : (b room : ℕ) → completes s b ((innerRule x (s .core) (s .setup .tabs) b room) .answer) ≡ false

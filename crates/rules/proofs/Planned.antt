@@ -1,4 +1,4 @@
--- A plan is done, or it refuses with 2 to 4 and asks for nothing but the end of the sequence.
+-- A plan is done, or it refuses with 2 to 4 and asks for nothing.
 --     planned
 -- Assumes nothing.
 use mathlib.Core.Path.{_≡_, refl}
@@ -28,12 +28,12 @@ use Rattle.rules.specs.declared.Excluded.the-variants as Excluded
 use Rattle.rules.specs.declared.Command.{Command}
 use Rattle.rules.specs.declared.Command.the-variants as Command
 use Rattle.rules.specs.Cell.{pick, among}
-use Rattle.rules.specs.State.{number, idle}
+use Rattle.rules.specs.State.{number}
 use Rattle.rules.specs.Plan.{refusing, unlessGuarded, reversePlan, downPlan, addressPlan, movePlan, activate, windowPlan, advancing, storePlan, rowEditPlan, editPlan, clearPlan, settingPlan, sendPlan, excludedPlan, planRule}
 
 pub data Planned (c : Core) : Plan → Type 0 where
   obeys : {x : Plan} → x .answer ≡ Answer.Done → Planned c x
-  refuses : (a : Answer) → among 2 3 (number a) ≡ true → Planned c (refusing (idle c) a)
+  refuses : (a : Answer) → among 2 3 (number a) ≡ true → Planned c (refusing c a)
 
 planned-pick : {c : Core} (t : Bool) {x y : Plan} → Planned c x → Planned c y → Planned c (pick t x y)
 planned-pick true x y = x

@@ -39,7 +39,7 @@ use Rattle.rules.specs.declared.Land.the-variants as Land
 use Rattle.rules.specs.Cell.{pick, both, either, among, written}
 use Rattle.rules.specs.Row.{columns, addressed, rowOf, columnOf, rowStart, rowEnd}
 use Rattle.rules.specs.Search.{previousOpen, nextField, previousField, nextTab, previousTab}
-use Rattle.rules.specs.State.{widthOf, segmentTop, segmentBottom, segmentStart, segmentEnd, cursorOf, activated, withScreen, withModes, withBells, withProtect, withMode, idle}
+use Rattle.rules.specs.State.{widthOf, segmentTop, segmentBottom, segmentStart, segmentEnd, cursorOf, activated, withScreen, withModes, withBells, withProtect, withMode}
 use Rattle.rules.specs.Arguments.{featurePlace}
 
 -- the forms of plans
@@ -66,7 +66,7 @@ changing c x = record { answer = Answer.Done; first = Write.Nothing; second = Wr
 
 -- a guarded cursor cell answers 4
 unfoldable pub unlessGuarded : List Bool → Core → Plan → Plan
-unlessGuarded g c x = pick (getD g (cursorOf (c .screen)) false) (refusing (idle c) Answer.Barred) x
+unlessGuarded g c x = pick (getD g (cursorOf (c .screen)) false) (refusing c Answer.Barred) x
 
 -- the rows of the active segment move: up for a scroll up, down for a scroll down
 abbrev pub scroll : Screen → Bool → Write
@@ -95,15 +95,15 @@ unfoldable pub reversePlan : Core → Plan
 reversePlan c =
     let x = c .screen in
     pick (atTop x)
-    (pick (c .modes .protect) (settling (idle c) (cursorOf x)) (writing (idle c) (scroll x true) (Land.Settle (cursorOf x))))
-    (settling (idle c) (cursorOf x - widthOf x))
+    (pick (c .modes .protect) (settling c (cursorOf x)) (writing c (scroll x true) (Land.Settle (cursorOf x))))
+    (settling c (cursorOf x - widthOf x))
 
 -- 0Ah, from the cursor, and 1Fh, from column 1 of its row: down in column; at the bottom scroll up, or wrap to the top
 unfoldable pub downPlan : Core → ℕ → Plan
 downPlan c i =
     let x = c .screen in
-    pick (ltb (i + widthOf x) (segmentEnd x)) (settling (idle c) (i + widthOf x))
-    (pick (scrolls (c .modes)) (writing (idle c) (scroll x false) (Land.Settle i)) (settling (idle c) (segmentStart x + columnOf (widthOf x) i)))
+    pick (ltb (i + widthOf x) (segmentEnd x)) (settling c (i + widthOf x))
+    (pick (scrolls (c .modes)) (writing c (scroll x false) (Land.Settle i)) (settling c (segmentStart x + columnOf (widthOf x) i)))
 
 -- 09h: the next tab stop, or with protect on the next field start; ESC I: mirror image
 unfoldable pub tabCell : List Bool → List Bool → Core → ℕ
@@ -122,20 +122,20 @@ backTabCell g tabs c =
 unfoldable pub addressPlan : Core → Screen → ℕ → ℕ → ℕ → ℕ → Plan
 addressPlan c x base most row column =
     pick (both (among base (segmentBottom x - segmentTop x) row) (among base most column))
-    (settling (withScreen (idle c) x) ((segmentTop x + (row - base)) * widthOf x + (column - base)))
-    (refusing (idle c) Answer.BadArgument)
+    (settling (withScreen c x) ((segmentTop x + (row - base)) * widthOf x + (column - base)))
+    (refusing c Answer.BadArgument)
 
 unfoldable pub movePlan : List Bool → List Bool → Core → Move → Plan
-movePlan g tabs c Move.Back = settling (idle c) (previousOpen g (segmentStart (c .screen)) (cursorOf (c .screen)))
-movePlan g tabs c Move.Right = settling (idle c) (nextCell (c .screen))
-movePlan g tabs c Move.Return = settling (idle c) (rowStart (widthOf (c .screen)) (cursorOf (c .screen)))
-movePlan g tabs c Move.Home = settling (idle c) (segmentStart (c .screen))
-movePlan g tabs c Move.Up = settling (idle c) (upCell (c .screen))
+movePlan g tabs c Move.Back = settling c (previousOpen g (segmentStart (c .screen)) (cursorOf (c .screen)))
+movePlan g tabs c Move.Right = settling c (nextCell (c .screen))
+movePlan g tabs c Move.Return = settling c (rowStart (widthOf (c .screen)) (cursorOf (c .screen)))
+movePlan g tabs c Move.Home = settling c (segmentStart (c .screen))
+movePlan g tabs c Move.Up = settling c (upCell (c .screen))
 movePlan g tabs c Move.Reverse = reversePlan c
 movePlan g tabs c Move.Down = downPlan c (cursorOf (c .screen))
 movePlan g tabs c Move.NextLine = downPlan c (rowStart (widthOf (c .screen)) (cursorOf (c .screen)))
-movePlan g tabs c Move.Tab = settling (idle c) (tabCell g tabs c)
-movePlan g tabs c Move.BackTab = settling (idle c) (backTabCell g tabs c)
+movePlan g tabs c Move.Tab = settling c (tabCell g tabs c)
+movePlan g tabs c Move.BackTab = settling c (backTabCell g tabs c)
 movePlan g tabs c (Move.Address r k) = addressPlan c (c .screen) 0x20 addressed r k
 movePlan g tabs c (Move.Decimal r k) = addressPlan c (c .screen) 1 (widthOf (c .screen)) r k
 
@@ -148,21 +148,21 @@ splitScreen wide s = record { wide = wide; active = 0; split = s; cursor0 = 0; c
 
 -- segment n becomes active, and its cursor settles
 unfoldable pub activate : Core → ℕ → Plan
-activate c n = settling (withScreen (idle c) (activated (c .screen) n)) (cursorOf (activated (c .screen) n))
+activate c n = settling (withScreen c (activated (c .screen) n)) (cursorOf (activated (c .screen) n))
 
 -- there is such a segment, by its code 30h or 31h
 unfoldable pub isSegment : Screen → ℕ → Bool
 isSegment x n = either (eqb n 0x30) (both (eqb n 0x31) (not (eqb (x .split) 0)))
 
 unfoldable pub windowPlan : Core → Window → Plan
-windowPlan c Window.Unsplit = settling (withScreen (idle c) (unsplitScreen (c .screen .wide))) 0
+windowPlan c Window.Unsplit = settling (withScreen c (unsplitScreen (c .screen .wide))) 0
 windowPlan c (Window.Split r) =
-    pick (among 0x21 23 r) (settling (withScreen (idle c) (splitScreen (c .screen .wide) (r - 0x1f))) 0) (refusing (idle c) Answer.BadArgument)
-windowPlan c Window.Other = pick (eqb (c .screen .split) 0) (plain (idle c)) (activate c (1 - c .screen .active))
+    pick (among 0x21 23 r) (settling (withScreen c (splitScreen (c .screen .wide) (r - 0x1f))) 0) (refusing c Answer.BadArgument)
+windowPlan c Window.Other = pick (eqb (c .screen .split) 0) (plain c) (activate c (1 - c .screen .active))
 windowPlan c Window.First = activate c 0
-windowPlan c Window.Second = pick (eqb (c .screen .split) 0) (refusing (idle c) Answer.BadArgument) (activate c 1)
+windowPlan c Window.Second = pick (eqb (c .screen .split) 0) (refusing c Answer.BadArgument) (activate c 1)
 windowPlan c (Window.Place n r k) =
-    pick (isSegment (c .screen) n) (addressPlan c (activated (c .screen) (n - 0x30)) 0x20 addressed r k) (refusing (idle c) Answer.BadArgument)
+    pick (isSegment (c .screen) n) (addressPlan c (activated (c .screen) (n - 0x30)) 0x20 addressed r k) (refusing c Answer.BadArgument)
 
 -- ---- writing and clearing
 
@@ -174,9 +174,9 @@ storing insert at v = pick insert (Write.Edit true at v) (Write.Fill at (at + 1)
 unfoldable pub advancing : Core → Write → Plan
 advancing c w =
     let x = c .screen in
-    pick (ltb (cursorOf x + 1) (segmentEnd x)) (writing (idle c) w (Land.Settle (cursorOf x + 1)))
-    (pick (scrolls (c .modes)) (writingTwo (idle c) w (scroll x false) (Land.Settle (segmentEnd x - widthOf x)))
-    (writing (idle c) w (Land.Settle (segmentStart x))))
+    pick (ltb (cursorOf x + 1) (segmentEnd x)) (writing c w (Land.Settle (cursorOf x + 1)))
+    (pick (scrolls (c .modes)) (writingTwo c w (scroll x false) (Land.Settle (segmentEnd x - widthOf x)))
+    (writing c w (Land.Settle (segmentStart x))))
 
 unfoldable pub storePlan : List Bool → Core → Contents → Plan
 storePlan g c k = unlessGuarded g c (advancing c (storing (c .modes .insert) (cursorOf (c .screen)) (written k (c .modes .mark))))
@@ -185,34 +185,34 @@ storePlan g c k = unlessGuarded g c (advancing c (storing (c .modes .insert) (cu
 unfoldable pub rowEditPlan : Core → Bool → Plan
 rowEditPlan c down =
     let x = c .screen in
-    pick (c .modes .protect) (refusing (idle c) Answer.Barred)
-    (writing (idle c) (Write.Rows down (rowOf (widthOf x) (cursorOf x)) (segmentBottom x)) (Land.Settle (rowStart (widthOf x) (cursorOf x))))
+    pick (c .modes .protect) (refusing c Answer.Barred)
+    (writing c (Write.Rows down (rowOf (widthOf x) (cursorOf x)) (segmentBottom x)) (Land.Settle (rowStart (widthOf x) (cursorOf x))))
 
 unfoldable pub editPlan : List Bool → Core → Edit → Plan
-editPlan g c Edit.InsertCell = unlessGuarded g c (writing (idle c) (Write.Edit true (cursorOf (c .screen)) 32) Land.Stay)
-editPlan g c Edit.DeleteCell = unlessGuarded g c (writing (idle c) (Write.Edit false (cursorOf (c .screen)) 32) Land.Stay)
+editPlan g c Edit.InsertCell = unlessGuarded g c (writing c (Write.Edit true (cursorOf (c .screen)) 32) Land.Stay)
+editPlan g c Edit.DeleteCell = unlessGuarded g c (writing c (Write.Edit false (cursorOf (c .screen)) 32) Land.Stay)
 editPlan g c Edit.InsertRow = rowEditPlan c true
 editPlan g c Edit.DeleteRow = rowEditPlan c false
 
 -- what clearing writes is unprotected, but for ESC V: protected spaces in the cursor's column
 unfoldable pub clearPlan : Core → Clear → Plan
 clearPlan c (Clear.Row k) =
-    writing (idle c) (Write.Fill (cursorOf (c .screen)) (rowEnd (widthOf (c .screen)) (cursorOf (c .screen))) (written k false)) Land.Stay
-clearPlan c (Clear.Rest k) = writing (idle c) (Write.Fill (cursorOf (c .screen)) (segmentEnd (c .screen)) (written k false)) Land.Stay
+    writing c (Write.Fill (cursorOf (c .screen)) (rowEnd (widthOf (c .screen)) (cursorOf (c .screen))) (written k false)) Land.Stay
+clearPlan c (Clear.Rest k) = writing c (Write.Fill (cursorOf (c .screen)) (segmentEnd (c .screen)) (written k false)) Land.Stay
 clearPlan c (Clear.Segment k) =
-    writing (idle c) (Write.Fill (segmentStart (c .screen)) (segmentEnd (c .screen)) (written k false)) (Land.Settle (segmentStart (c .screen)))
+    writing c (Write.Fill (segmentStart (c .screen)) (segmentEnd (c .screen)) (written k false)) (Land.Settle (segmentStart (c .screen)))
 clearPlan c Clear.Column =
-    writing (idle c)
+    writing c
     (Write.Column (segmentTop (c .screen)) (segmentBottom (c .screen)) (columnOf (widthOf (c .screen)) (cursorOf (c .screen))) 160)
     (Land.Settle (cursorOf (c .screen)))
 
 -- ---- modes and replies
 
 unfoldable pub settingPlan : Core → Setting → Plan
-settingPlan c (Setting.Tab b) = changing (idle c) (SetupChange.Tab (columnOf (widthOf (c .screen)) (cursorOf (c .screen))) b)
-settingPlan c Setting.ClearTabs = changing (idle c) SetupChange.ClearTabs
-settingPlan c (Setting.Attribute n a) = changing (idle c) (SetupChange.Attribute n a)
-settingPlan c (Setting.Feature f) = changing (idle c) (SetupChange.Feature (featurePlace f) f)
+settingPlan c (Setting.Tab b) = changing c (SetupChange.Tab (columnOf (widthOf (c .screen)) (cursorOf (c .screen))) b)
+settingPlan c Setting.ClearTabs = changing c SetupChange.ClearTabs
+settingPlan c (Setting.Attribute n a) = changing c (SetupChange.Attribute n a)
+settingPlan c (Setting.Feature f) = changing c (SetupChange.Feature (featurePlace f) f)
 
 -- the cursor's row from the segment's top, and its column, from 0
 abbrev pub cursorRow : Screen → ℕ
@@ -222,15 +222,15 @@ abbrev pub cursorColumn : Screen → ℕ
 cursorColumn x = columnOf (widthOf x) (cursorOf x)
 
 unfoldable pub sendPlan : List Bool → Core → Send → Plan
-sendPlan g c Send.Acknowledge = replying (idle c) Reply.Acknowledge
-sendPlan g c Send.Identity = replying (idle c) Reply.Identity
-sendPlan g c Send.Cursor = replying (idle c) (Reply.Address (0x20 + cursorRow (c .screen)) (0x20 + cursorColumn (c .screen)))
+sendPlan g c Send.Acknowledge = replying c Reply.Acknowledge
+sendPlan g c Send.Identity = replying c Reply.Identity
+sendPlan g c Send.Cursor = replying c (Reply.Address (0x20 + cursorRow (c .screen)) (0x20 + cursorColumn (c .screen)))
 sendPlan g c Send.SegmentCursor =
-    replying (idle c) (Reply.SegmentAddress (0x30 + c .screen .active) (0x20 + cursorRow (c .screen)) (0x20 + cursorColumn (c .screen)))
-sendPlan g c Send.DecimalCursor = replying (idle c) (Reply.Decimal (cursorRow (c .screen) + 1) (cursorColumn (c .screen) + 1))
-sendPlan g c Send.Cell = unlessGuarded g c (replying (idle c) (Reply.Cell (cursorOf (c .screen))))
-sendPlan g c Send.OpenRow = replying (idle c) (Reply.Text false (rowStart (widthOf (c .screen)) (cursorOf (c .screen))) (cursorOf (c .screen) + 1))
-sendPlan g c Send.OpenSegment = replying (idle c) (Reply.Text false (segmentStart (c .screen)) (cursorOf (c .screen) + 1))
+    replying c (Reply.SegmentAddress (0x30 + c .screen .active) (0x20 + cursorRow (c .screen)) (0x20 + cursorColumn (c .screen)))
+sendPlan g c Send.DecimalCursor = replying c (Reply.Decimal (cursorRow (c .screen) + 1) (cursorColumn (c .screen) + 1))
+sendPlan g c Send.Cell = unlessGuarded g c (replying c (Reply.Cell (cursorOf (c .screen))))
+sendPlan g c Send.OpenRow = replying c (Reply.Text false (rowStart (widthOf (c .screen)) (cursorOf (c .screen))) (cursorOf (c .screen) + 1))
+sendPlan g c Send.OpenSegment = replying c (Reply.Text false (segmentStart (c .screen)) (cursorOf (c .screen) + 1))
 
 -- ---- the six that demand 3 leaves out: ESC ', the clear-all commands ESC * + , and the sends with guarded cells ESC 6 7
 
@@ -242,24 +242,24 @@ abbrev pub protectOff : Core → Core
 protectOff c = withModes c (withProtect (c .modes) false)
 
 unfoldable pub excludedPlan : Core → Excluded → Plan
-excludedPlan c Excluded.ProtectOff = plain (protectOff (idle c))
-excludedPlan c Excluded.ClearNulls = clearAll (idle c) 0
-excludedPlan c Excluded.ClearSpaces = clearAll (idle c) 32
-excludedPlan c Excluded.ClearProtected = clearAll (protectOff (idle c)) 160
-excludedPlan c Excluded.SendRow = replying (idle c) (Reply.Text true (rowStart (widthOf (c .screen)) (cursorOf (c .screen))) (cursorOf (c .screen) + 1))
-excludedPlan c Excluded.SendSegment = replying (idle c) (Reply.Text true (segmentStart (c .screen)) (cursorOf (c .screen) + 1))
+excludedPlan c Excluded.ProtectOff = plain (protectOff c)
+excludedPlan c Excluded.ClearNulls = clearAll c 0
+excludedPlan c Excluded.ClearSpaces = clearAll c 32
+excludedPlan c Excluded.ClearProtected = clearAll (protectOff c) 160
+excludedPlan c Excluded.SendRow = replying c (Reply.Text true (rowStart (widthOf (c .screen)) (cursorOf (c .screen))) (cursorOf (c .screen) + 1))
+excludedPlan c Excluded.SendSegment = replying c (Reply.Text true (segmentStart (c .screen)) (cursorOf (c .screen) + 1))
 
--- the plan of each command
+-- the plan of each command, from a core whose sequence is cleared
 unfoldable pub planRule : List Bool → List Bool → Core → Command → Plan
-planRule g tabs c Command.Nothing = plain (idle c)
+planRule g tabs c Command.Nothing = plain c
 planRule g tabs c (Command.Go m) = movePlan g tabs c m
 planRule g tabs c (Command.Window x) = windowPlan c x
 planRule g tabs c (Command.Store k) = storePlan g c k
 planRule g tabs c (Command.Edit x) = editPlan g c x
 planRule g tabs c (Command.Clear x) = clearPlan c x
-planRule g tabs c (Command.Turn m b) = plain (withModes (idle c) (withMode (c .modes) m b))
-planRule g tabs c Command.ProtectOn = settling (withModes (idle c) (withProtect (c .modes) true)) (cursorOf (c .screen))
-planRule g tabs c Command.Bell = plain (withBells (idle c) ((c .bells + 1) % 256))
+planRule g tabs c (Command.Turn m b) = plain (withModes c (withMode (c .modes) m b))
+planRule g tabs c Command.ProtectOn = settling (withModes c (withProtect (c .modes) true)) (cursorOf (c .screen))
+planRule g tabs c Command.Bell = plain (withBells c ((c .bells + 1) % 256))
 planRule g tabs c (Command.Set x) = settingPlan c x
 planRule g tabs c (Command.Send x) = sendPlan g c x
 planRule g tabs c (Command.Excluded x) = excludedPlan c x

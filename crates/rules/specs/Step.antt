@@ -28,7 +28,7 @@ obeyed p c tabs (Decoded.Wait q) room = quiet 0 (awaiting c q) p
 obeyed p c tabs (Decoded.Gather b) room = quiet 0 (withGathered c (grown (c .gathered) b)) p
 obeyed p c tabs (Decoded.Program n) room = effect 0 (idle c) (SetupChange.Key n) p []
 obeyed p c tabs (Decoded.Reject a) room = quiet (number a) (idle c) p
-obeyed p c tabs (Decoded.Do d) room = carried p c (planRule (guardedAt (c .modes .protect) p) tabs c d) room
+obeyed p c tabs (Decoded.Do d) room = carried p c (planRule (guardedAt (c .modes .protect) p) tabs (idle c) d) room
 
 -- a byte on a good page and state; 80h and above answers 1
 unfoldable pub innerRule : List ℕ → Core → List Bool → ℕ → ℕ → Effect

@@ -19,7 +19,7 @@ use Rattle.rules.specs.declared.Plan.{Plan}
 use Rattle.rules.specs.declared.SetupChange.{SetupChange}
 use Rattle.rules.specs.Row.{columns}
 use Rattle.rules.specs.Search.{guardedAt}
-use Rattle.rules.specs.State.{number, pageLength}
+use Rattle.rules.specs.State.{number, pageLength, idle}
 use Rattle.rules.specs.Possible.{screenOk}
 use Rattle.rules.specs.Good.{GoodPlan}
 use Rattle.rules.specs.Decode.{decodeRule}
@@ -67,13 +67,18 @@ quietly {a = a} {x = x} {p = p} {w = w} h e q = carried-is (h ∙ ap (λ (y : Co
 
 -- ---- a command
 
-module _ (p : List ℕ) (c : Core) (tabs : List Bool) (d : Command) {x : Plan} (e : x ≡ planRule (guardedAt (c .modes .protect) p) tabs c d) where
+-- n is the core with its sequence cleared, and x the plan that the code made from it
+module _ (p : List ℕ) (c : Core) (tabs : List Bool) (d : Command) {n : Core} {x : Plan} (i : n ≡ idle c)
+    (h : x ≡ planRule (guardedAt (n .modes .protect) p) tabs n d) where
+  e : x ≡ planRule (guardedAt (c .modes .protect) p) tabs (idle c) d
+  e = h ∙ ap (λ (y : Core). planRule (guardedAt (y .modes .protect) p) tabs y d) i
+
   pub plan-good : length p ≡ pageLength (c .screen) → screenOk (c .screen) ≡ true → (length p ≡ pageLength (x .next .screen)) × GoodPlan x
   plan-good size ok =
       let on = c .modes .protect in
-      let k = plan-kept c ok (guardedAt on p) (length-guards on p ∙ size) tabs d in
+      let k = plan-kept (idle c) ok (guardedAt on p) (length-guards on p ∙ size) tabs d in
       (size ∙ sym (ap (λ (b : Bool). 24 * columns b) (ap (λ (y : Plan). y .next .screen .wide) e ∙ k .wide)), subst GoodPlan (sym e) (k .good))
 
   pub plan-carried : {r : CoreResult} {p′ w w′ : List ℕ} → Carried (carried p c x (length w)) r p′ w w′
-      → Carried (carried p c (planRule (guardedAt (c .modes .protect) p) tabs c d) (length w)) r p′ w w′
+      → Carried (carried p c (planRule (guardedAt (c .modes .protect) p) tabs (idle c) d) (length w)) r p′ w w′
   plan-carried {w = w} k = carried-is (sym (ap (λ (y : Plan). carried p c y (length w)) e)) k

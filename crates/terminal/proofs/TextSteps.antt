@@ -83,10 +83,10 @@ module _ (p : List ℕ) (c : Core) (size : length p ≡ pageLength (c .screen)) 
     unfolding decodeRule idleRule
     decoded = ap (λ (q : Pending). decodeRule q (c .gathered .len) b) quiet ∙ rw (le-ltb b 0x20 (s .low), lt-ltb b 0x7f (omega (arith, s .high)))
 
-    planned : planRule (guardedAt on p) tabs c (Command.Store (Contents.Text b)) ≡ writing (idle c) (Write.Fill at (at + 1) v) (Land.Settle (at + 1))
+    planned : planRule (guardedAt on p) tabs (idle c) (Command.Store (Contents.Text b)) ≡ writing (idle c) (Write.Fill at (at + 1) v) (Land.Settle (at + 1))
     unfolding planRule storePlan unlessGuarded storing advancing
     planned =
-        ap (λ (t : Bool). unlessGuarded (guardedAt on p) c (advancing c (storing t at v))) over
+        ap (λ (t : Bool). unlessGuarded (guardedAt on p) (idle c) (advancing (idle c) (storing t at v))) over
         ∙ rw (s .here, lt-ltb (at + 1) (segmentEnd (c .screen)) (s .inside))
 
     inside : at + 1 < length p

@@ -4,7 +4,7 @@ ghost use mathlib.Core.Bool.{true};
 ghost use mathlib.Core.List.{List, []};
 ghost use Prim.Native.Nat.{ℕ};
 ghost use lib.ListN.{length};
-ghost use Rattle.rules.specs.State.{number, pageLength};
+ghost use Rattle.rules.specs.State.{number, pageLength, idle as idleOf};
 ghost use Rattle.rules.specs.Search.{guardedAt};
 ghost use Rattle.rules.specs.Possible.{screenOk, pendingOk};
 ghost use Rattle.rules.specs.Plan.{planRule};
@@ -37,12 +37,13 @@ fn quiet(answer: Answer, core: Core, change: SetupChange) -> CoreResult
     }
 }
 
-// A command: planned, and carried out.
+// A command: planned from the core with its sequence cleared, and carried out.
 fn obey(page: &mut [u16], tabs: &[bool; 132], core: Core, d: Command, room: &mut [u8]) -> CoreResult
     requires { ⌜ (length (now page) ≡ pageLength (core .screen)) × (screenOk (core .screen) ≡ true) ⌝ }
-    ensures { λ r. ⌜ Carried (carried (now (page .entry)) core (planRule (guardedAt (core .modes .protect) (now (page .entry))) (now (tabs .entry)) core d) (length (now (room .entry)))) r (now (page .exit)) (now (room .entry)) (now (room .exit)) ⌝ }
+    ensures { λ r. ⌜ Carried (carried (now (page .entry)) core (planRule (guardedAt (core .modes .protect) (now (page .entry))) (now (tabs .entry)) (idleOf core) d) (length (now (room .entry)))) r (now (page .exit)) (now (room .entry)) (now (room .exit)) ⌝ }
 {
-    let plan = plan_for(page, tabs, core, d);
+    let next = idle(core);
+    let plan = plan_for(page, tabs, next, d);
     carry_out(page, core, plan, room)
 }
 

@@ -13,8 +13,6 @@ plan-for-spec =
     (tie.spec
     -- enum-told
     (λ c. search needs)
-    -- idle-requires
-    (λ c κs. search needs)
     -- plain-requires
     (λ c κs. search needs)
     -- enum-known-d
@@ -39,8 +37,6 @@ plan-for-spec =
     (λ c κs. screen-inside _ (c .before .before .before .before .pre .1))
     -- enum-known-d-6
     (λ c. search needs)
-    -- idle-requires-2
-    (λ c κs. search needs)
     -- with-mode-requires
     (λ c κs. search needs)
     -- with-modes-requires
@@ -49,8 +45,6 @@ plan-for-spec =
     (λ c κs. search needs)
     -- enum-told-2
     (λ c. search needs)
-    -- idle-requires-3
-    (λ c κs. search needs)
     -- with-protect-requires
     (λ c κs. search needs)
     -- with-modes-requires-2
@@ -61,8 +55,6 @@ plan-for-spec =
     (λ c κs. search needs)
     -- enum-told-3
     (λ c. search needs)
-    -- idle-requires-4
-    (λ c κs. search needs)
     -- next-bell-requires
     (λ c κs. search needs)
     -- with-bells-requires
@@ -82,7 +74,7 @@ plan-for-spec =
     -- plan-excluded-requires
     (λ c κs. screen-inside _ (c .before .before .before .before .pre .1))
     -- returns
-    (λ c. c .plain .ensures ∙ rw (c .before .idle .ensures, c .before .before .enum-told .given .1))
+    (λ c. c .plain .ensures ∙ rw (c .before .enum-told .given .1))
     -- returns-2
     (λ c. c .plan-move .ensures ∙ rw (c .before .before .d .given .1))
     -- returns-3
@@ -99,8 +91,7 @@ plan-for-spec =
     ∙ rw (
       c .before .with-modes .ensures,
       c .before .before .with-mode .ensures,
-      c .before .before .before .idle2 .ensures,
-      c .before .before .before .before .before .d6 .given .1,
+      c .before .before .before .before .d6 .given .1,
     ))
     -- returns-8
     (λ c.
@@ -108,18 +99,16 @@ plan-for-spec =
     ∙ rw (
       c .before .before .with-modes2 .ensures,
       c .before .before .before .with-protect .ensures,
-      c .before .before .before .before .idle3 .ensures,
       c .before .cursor-of .ensures,
-      c .before .before .before .before .before .enum-told2 .given .1,
+      c .before .before .before .before .enum-told2 .given .1,
     ))
     -- returns-9
     (λ c.
     c .plain3 .ensures
     ∙ rw (
       c .before .with-bells .ensures,
-      c .before .before .before .idle4 .ensures,
       c .before .before .next-bell .ensures,
-      c .before .before .before .before .enum-told3 .given .1,
+      c .before .before .before .enum-told3 .given .1,
     ))
     -- returns-10
     (λ c. c .plan-setting .ensures ∙ rw (c .before .before .d7 .given .1))

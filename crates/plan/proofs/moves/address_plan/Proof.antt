@@ -22,20 +22,18 @@ address-plan-spec =
     (λ c κs. search needs)
     -- sub-rows
     (λ c. search needs)
-    -- idle-requires
-    (λ c κs. search needs)
     -- among-requires
     (λ c κs. search needs)
     -- among-requires-2
-    (λ c κs. omega (arith, c .before .before .before .before .before .pre, width-range (columns-width (c .before .before .before .before .before .args .x .wide))))
+    (λ c κs. omega (arith, c .before .before .before .before .pre, width-range (columns-width (c .before .before .before .before .args .x .wide))))
     -- with-screen-requires
     (λ c κs. search needs)
     -- cell-at-requires
     (λ c κs.
-    let x = c .before .before .before .before .before .before .before .before .args in
+    let x = c .before .before .before .before .before .before .before .args in
     let row = among-parts (x .base) _ (x .row) (sym (c .before .before .before .before .among .ensures) ∙ c .before .before .before .if1 .taken) in
     let column = among-parts (x .base) _ (x .column) (sym (c .before .before .among2 .ensures) ∙ c .before .if2 .taken) in
-    omega (arith, row, column, c .before .before .before .before .before .before .before .segment-top .ensures, c .before .before .before .before .before .before .segment-bottom .ensures, c .before .before .before .before .before .before .before .before .pre))
+    omega (arith, row, column, c .before .before .before .before .before .before .segment-top .ensures, c .before .before .before .before .before .segment-bottom .ensures, c .before .before .before .before .before .before .before .pre))
     -- settling-requires
     (λ c κs. search needs)
     -- returns
@@ -43,10 +41,9 @@ address-plan-spec =
     c .settling .ensures
     ∙ rw (
       c .before .before .with-screen .ensures,
-      c .before .before .before .before .before .before .before .idle .ensures,
       c .before .cell-at .ensures,
-      ← c .before .before .before .before .before .before .before .before .before .segment-top .ensures,
-      ← c .before .before .before .before .before .before .before .before .segment-bottom .ensures,
+      ← c .before .before .before .before .before .before .before .before .segment-top .ensures,
+      ← c .before .before .before .before .before .before .before .segment-bottom .ensures,
       ← c .before .before .before .before .before .before .among .ensures,
       c .before .before .before .before .before .if1 .taken,
       ← c .before .before .before .before .among2 .ensures,
@@ -56,7 +53,7 @@ address-plan-spec =
     (λ c κs. search needs)
     -- returns-2
     (λ c.
-    let x = c .before .before .before .before .before .before .args in
+    let x = c .before .before .before .before .before .args in
     let outside : both (c .before .before .among .result) (among (x .base) (x .most) (x .column)) ≡ false =
     ⊎-elim (λ w. rw (w .0 .taken, ← w .1 .ensures, w .2 .left)) (λ w. rw (w .left)) (c .before .if1 .came) in
-    c .refusing .ensures ∙ rw (c .before .before .before .idle .ensures, ← c .before .before .before .before .before .segment-top .ensures, ← c .before .before .before .before .segment-bottom .ensures, ← c .before .before .among .ensures, outside)))
+    c .refusing .ensures ∙ rw (← c .before .before .before .before .segment-top .ensures, ← c .before .before .before .segment-bottom .ensures, ← c .before .before .among .ensures, outside)))

@@ -13,8 +13,6 @@ unfolding downPlan
 down-plan-spec =
     tie.close
     (tie.spec
-    -- idle-requires
-    (λ c κs. search needs)
     -- width-of-requires
     (λ c κs. search needs)
     -- add-below
@@ -24,7 +22,7 @@ down-plan-spec =
     -- settling-requires
     (λ c κs. search needs)
     -- returns
-    (λ c. c .settling .ensures ∙ rw (c .before .before .before .before .idle .ensures, ← c .before .before .segment-end .ensures, ← c .before .before .before .width-of .ensures, lt-ltb _ _ (c .before .if1 .taken)))
+    (λ c. c .settling .ensures ∙ rw (← c .before .before .segment-end .ensures, ← c .before .before .before .width-of .ensures, lt-ltb _ _ (c .before .if1 .taken)))
     -- scrolls-requires
     (λ c κs. search needs)
     -- scroll-requires
@@ -32,14 +30,14 @@ down-plan-spec =
     -- writing-requires
     (λ c κs. search needs)
     -- returns-2
-    (λ c. c .writing .ensures ∙ rw (c .before .before .before .before .before .before .before .idle .ensures, c .before .scroll .ensures, ← c .before .before .before .before .before .segment-end .ensures, ← c .before .before .before .before .before .before .width-of .ensures, le-ltb _ _ (c .before .before .before .before .if1 .left), ← c .before .before .before .scrolls .ensures, c .before .before .if2 .taken))
+    (λ c. c .writing .ensures ∙ rw (c .before .scroll .ensures, ← c .before .before .before .before .before .segment-end .ensures, ← c .before .before .before .before .before .before .width-of .ensures, le-ltb _ _ (c .before .before .before .before .if1 .left), ← c .before .before .before .scrolls .ensures, c .before .before .if2 .taken))
     -- segment-start-requires
     (λ c κs. search needs)
     -- column-of-requires
     (λ c κs. search needs)
     -- add-settling
-    (λ c. omega (arith, c .before .before .before .before .before .before .before .before .before .before .pre .0, c .before .segment-start .ensures, c .column-of .ensures, column-below (columns-width (c .before .before .before .before .before .before .before .before .before .before .args .core .screen .wide)) (c .before .before .before .before .before .before .before .before .before .before .args .from)))
+    (λ c. omega (arith, c .before .before .before .before .before .before .before .before .before .pre .0, c .before .segment-start .ensures, c .column-of .ensures, column-below (columns-width (c .before .before .before .before .before .before .before .before .before .args .core .screen .wide)) (c .before .before .before .before .before .before .before .before .before .args .from)))
     -- settling-requires-2
     (λ c κs. search needs)
     -- returns-3
-    (λ c. c .settling2 .ensures ∙ rw (c .before .before .before .before .before .before .before .before .idle .ensures, c .before .before .segment-start .ensures, c .before .column-of .ensures, ← c .before .before .before .before .before .before .segment-end .ensures, le-ltb _ _ (rw (c .before .before .before .before .before .before .before .width-of .ensures) at (c .before .before .before .before .before .if1 .left)), ← c .before .before .before .before .scrolls .ensures, c .before .before .before .if2 .left)))
+    (λ c. c .settling2 .ensures ∙ rw (c .before .before .segment-start .ensures, c .before .column-of .ensures, ← c .before .before .before .before .before .before .segment-end .ensures, le-ltb _ _ (rw (c .before .before .before .before .before .before .before .width-of .ensures) at (c .before .before .before .before .before .if1 .left)), ← c .before .before .before .before .scrolls .ensures, c .before .before .before .if2 .left)))

@@ -13,8 +13,6 @@ plan-move-spec =
     (tie.spec
     -- cursor-of-requires
     (λ c κs. search needs)
-    -- idle-requires
-    (λ c κs. search needs)
     -- enum-told
     (λ c. search needs)
     -- back-cell-requires
@@ -52,13 +50,13 @@ plan-move-spec =
     -- enum-told-7
     (λ c. search needs)
     -- down-plan-requires
-    (λ c κs. (c .before .before .before .before .before .before .pre .1, omega (arith, c .before .before .before .before .before .before .pre .1, c .before .before .before .cursor-of .ensures)))
+    (λ c κs. (c .before .before .before .before .before .pre .1, omega (arith, c .before .before .before .before .before .pre .1, c .before .before .cursor-of .ensures)))
     -- enum-told-8
     (λ c. search needs)
     -- row-start-requires-2
     (λ c κs. search needs)
     -- down-plan-requires-2
-    (λ c κs. (c .before .before .before .before .before .before .before .pre .1, omega (arith, c .before .before .before .before .before .before .before .pre .1, c .row-start2 .ensures)))
+    (λ c κs. (c .before .before .before .before .before .before .pre .1, omega (arith, c .before .before .before .before .before .before .pre .1, c .row-start2 .ensures)))
     -- enum-told-9
     (λ c. search needs)
     -- tab-cell-requires
@@ -78,7 +76,7 @@ plan-move-spec =
     -- cast-address-plan-2
     (λ c. search needs)
     -- address-plan-requires
-    (λ c κs. omega (arith, c .before .before .before .before .before .before .before .pre .1))
+    (λ c κs. omega (arith, c .before .before .before .before .before .before .pre .1))
     -- enum-known-m-2
     (λ c. search needs)
     -- width-of-requires
@@ -86,27 +84,27 @@ plan-move-spec =
     -- cast-address-plan-3
     (λ c. search needs)
     -- address-plan-requires-2
-    (λ c κs. omega (arith, c .before .before .before .before .before .before .before .before .pre .1, c .width-of .ensures))
+    (λ c κs. omega (arith, c .before .before .before .before .before .before .before .pre .1, c .width-of .ensures))
     -- returns
-    (λ c. c .settling .ensures ∙ rw (c .before .before .before .before .idle .ensures, c .before .back-cell .ensures, c .before .before .enum-told .given .1))
+    (λ c. c .settling .ensures ∙ rw (c .before .back-cell .ensures, c .before .before .enum-told .given .1))
     -- returns-2
-    (λ c. c .settling2 .ensures ∙ rw (c .before .before .before .before .idle .ensures, c .before .next-cell .ensures, c .before .before .enum-told2 .given .1))
+    (λ c. c .settling2 .ensures ∙ rw (c .before .next-cell .ensures, c .before .before .enum-told2 .given .1))
     -- returns-3
-    (λ c. c .settling3 .ensures ∙ rw (c .before .before .before .before .idle .ensures, c .before .row-start .ensures, c .before .before .enum-told3 .given .1))
+    (λ c. c .settling3 .ensures ∙ rw (c .before .row-start .ensures, c .before .before .enum-told3 .given .1))
     -- returns-4
-    (λ c. c .settling4 .ensures ∙ rw (c .before .before .before .before .idle .ensures, c .before .segment-start .ensures, c .before .before .enum-told4 .given .1))
+    (λ c. c .settling4 .ensures ∙ rw (c .before .segment-start .ensures, c .before .before .enum-told4 .given .1))
     -- returns-5
-    (λ c. c .settling5 .ensures ∙ rw (c .before .before .before .before .idle .ensures, c .before .up-cell .ensures, c .before .before .enum-told5 .given .1))
+    (λ c. c .settling5 .ensures ∙ rw (c .before .up-cell .ensures, c .before .before .enum-told5 .given .1))
     -- returns-6
     (λ c. c .reverse-plan .ensures ∙ rw (c .before .enum-told6 .given .1))
     -- returns-7
-    (λ c. c .down-plan .ensures ∙ rw (c .before .before .before .before .cursor-of .ensures, c .before .enum-told7 .given .1))
+    (λ c. c .down-plan .ensures ∙ rw (c .before .before .before .cursor-of .ensures, c .before .enum-told7 .given .1))
     -- returns-8
     (λ c. c .down-plan2 .ensures ∙ rw (c .before .row-start2 .ensures, c .before .before .enum-told8 .given .1))
     -- returns-9
-    (λ c. c .settling6 .ensures ∙ rw (c .before .before .before .before .idle .ensures, c .before .tab-cell .ensures, c .before .before .enum-told9 .given .1))
+    (λ c. c .settling6 .ensures ∙ rw (c .before .tab-cell .ensures, c .before .before .enum-told9 .given .1))
     -- returns-10
-    (λ c. c .settling7 .ensures ∙ rw (c .before .before .before .before .idle .ensures, c .before .back-tab-cell .ensures, c .before .before .enum-told10 .given .1))
+    (λ c. c .settling7 .ensures ∙ rw (c .before .back-tab-cell .ensures, c .before .before .enum-told10 .given .1))
     -- returns-11
     (λ c. c .address-plan .ensures ∙ rw (c .before .before .m .given .1))
     -- returns-12

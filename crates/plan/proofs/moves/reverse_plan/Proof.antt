@@ -14,25 +14,23 @@ reverse-plan-spec =
     (tie.spec
     -- cursor-of-requires
     (λ c κs. search needs)
-    -- idle-requires
-    (λ c κs. search needs)
     -- at-top-requires
     (λ c κs. search needs)
     -- settling-requires
     (λ c κs. search needs)
     -- returns
-    (λ c. c .settling .ensures ∙ rw (c .before .before .before .before .idle .ensures, c .before .before .before .before .before .cursor-of .ensures, ← c .before .before .before .at-top .ensures, c .before .before .if1 .taken, c .before .if2 .taken))
+    (λ c. c .settling .ensures ∙ rw (c .before .before .before .before .cursor-of .ensures, ← c .before .before .before .at-top .ensures, c .before .before .if1 .taken, c .before .if2 .taken))
     -- scroll-requires
     (λ c κs. search needs)
     -- writing-requires
     (λ c κs. search needs)
     -- returns-2
-    (λ c. c .writing .ensures ∙ rw (c .before .before .before .before .before .idle .ensures, c .before .scroll .ensures, c .before .before .before .before .before .before .cursor-of .ensures, ← c .before .before .before .before .at-top .ensures, c .before .before .before .if1 .taken, c .before .before .if2 .left))
+    (λ c. c .writing .ensures ∙ rw (c .before .scroll .ensures, c .before .before .before .before .before .cursor-of .ensures, ← c .before .before .before .before .at-top .ensures, c .before .before .before .if1 .taken, c .before .before .if2 .left))
     -- width-of-requires
     (λ c κs. search needs)
     -- sub-settling
-    (λ c. omega (arith, below-top (c .before .before .before .before .before .before .args .core .screen) (c .before .before .at-top .ensures) (c .before .if1 .left), c .before .before .before .before .cursor-of .ensures, c .width-of .ensures))
+    (λ c. omega (arith, below-top (c .before .before .before .before .before .args .core .screen) (c .before .before .at-top .ensures) (c .before .if1 .left), c .before .before .before .cursor-of .ensures, c .width-of .ensures))
     -- settling-requires-2
     (λ c κs. search needs)
     -- returns-3
-    (λ c. c .settling2 .ensures ∙ rw (c .before .before .before .before .idle .ensures, c .before .before .before .before .before .cursor-of .ensures, c .before .width-of .ensures, ← c .before .before .before .at-top .ensures, c .before .before .if1 .left)))
+    (λ c. c .settling2 .ensures ∙ rw (c .before .before .before .before .cursor-of .ensures, c .before .width-of .ensures, ← c .before .before .before .at-top .ensures, c .before .before .if1 .left)))

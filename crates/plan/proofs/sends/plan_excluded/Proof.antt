@@ -12,8 +12,6 @@ plan-excluded-spec =
     (tie.spec
     -- cursor-of-requires
     (λ c κs. search needs)
-    -- idle-requires
-    (λ c κs. search needs)
     -- with-protect-requires
     (λ c κs. search needs)
     -- with-modes-requires
@@ -55,14 +53,14 @@ plan-excluded-spec =
     -- replying-requires-2
     (λ c κs. search needs)
     -- returns
-    (λ c. c .plain .ensures ∙ rw (c .before .before .before .with-modes .ensures, c .before .before .before .before .with-protect .ensures, c .before .before .before .before .before .idle .ensures, c .before .enum-told .given .1))
+    (λ c. c .plain .ensures ∙ rw (c .before .before .before .with-modes .ensures, c .before .before .before .before .with-protect .ensures, c .before .enum-told .given .1))
     -- returns-2
-    (λ c. c .clear-all .ensures ∙ rw (c .before .before .before .before .before .idle .ensures, c .before .enum-told2 .given .1))
+    (λ c. c .clear-all .ensures ∙ rw (c .before .enum-told2 .given .1))
     -- returns-3
-    (λ c. c .clear-all2 .ensures ∙ rw (c .before .before .before .before .before .idle .ensures, c .before .enum-told3 .given .1))
+    (λ c. c .clear-all2 .ensures ∙ rw (c .before .enum-told3 .given .1))
     -- returns-4
-    (λ c. c .clear-all3 .ensures ∙ rw (c .before .before .before .with-modes .ensures, c .before .before .before .before .with-protect .ensures, c .before .before .before .before .before .idle .ensures, c .before .enum-told4 .given .1))
+    (λ c. c .clear-all3 .ensures ∙ rw (c .before .before .before .with-modes .ensures, c .before .before .before .before .with-protect .ensures, c .before .enum-told4 .given .1))
     -- returns-5
-    (λ c. c .replying .ensures ∙ rw (c .before .before .before .before .before .before .before .idle .ensures, c .before .text .ensures, c .before .before .row-start .ensures, c .before .before .before .before .before .before .before .before .cursor-of .ensures, c .before .before .before .enum-told5 .given .1))
+    (λ c. c .replying .ensures ∙ rw (c .before .text .ensures, c .before .before .row-start .ensures, c .before .before .before .before .before .before .before .cursor-of .ensures, c .before .before .before .enum-told5 .given .1))
     -- returns-6
-    (λ c. c .replying2 .ensures ∙ rw (c .before .before .before .before .before .before .before .idle .ensures, c .before .text2 .ensures, c .before .before .before .before .before .before .before .before .cursor-of .ensures, c .before .before .segment-start .ensures, c .before .before .before .enum-told6 .given .1)))
+    (λ c. c .replying2 .ensures ∙ rw (c .before .text2 .ensures, c .before .before .before .before .before .before .before .cursor-of .ensures, c .before .before .segment-start .ensures, c .before .before .before .enum-told6 .given .1)))

@@ -10,8 +10,6 @@ unfolding settingPlan
 plan-setting-spec =
     tie.close
     (tie.spec
-    -- idle-requires
-    (λ c κs. search needs)
     -- enum-known-s
     (λ c. search needs)
     -- cursor-column-requires
@@ -33,10 +31,10 @@ plan-setting-spec =
     -- changing-requires-4
     (λ c κs. search needs)
     -- returns
-    (λ c. c .changing .ensures ∙ rw (c .before .before .before .before .before .idle .ensures, c .before .cursor-column .ensures, c .before .before .before .s .given .1))
+    (λ c. c .changing .ensures ∙ rw (c .before .cursor-column .ensures, c .before .before .before .s .given .1))
     -- returns-2
-    (λ c. c .changing2 .ensures ∙ rw (c .before .before .before .idle .ensures, c .before .enum-told .given .1))
+    (λ c. c .changing2 .ensures ∙ rw (c .before .enum-told .given .1))
     -- returns-3
-    (λ c. c .changing3 .ensures ∙ rw (c .before .before .before .before .idle .ensures, c .before .before .s2 .given .1))
+    (λ c. c .changing3 .ensures ∙ rw (c .before .before .s2 .given .1))
     -- returns-4
-    (λ c. c .changing4 .ensures ∙ rw (c .before .before .before .before .before .idle .ensures, c .before .feature-place .ensures, c .before .before .before .s3 .given .1)))
+    (λ c. c .changing4 .ensures ∙ rw (c .before .feature-place .ensures, c .before .before .before .s3 .given .1)))

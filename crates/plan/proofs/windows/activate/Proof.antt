@@ -12,8 +12,6 @@ activate-spec =
     (tie.spec
     -- activated-requires
     (λ c κs. search needs)
-    -- idle-requires
-    (λ c κs. search needs)
     -- with-screen-requires
     (λ c κs. search needs)
     -- cursor-of-requires
@@ -25,7 +23,6 @@ activate-spec =
     c .settling .ensures
     ∙ rw (
       c .before .before .with-screen .ensures,
-      c .before .before .before .idle .ensures,
       c .before .cursor-of .ensures,
-      c .before .before .before .before .activated .ensures,
+      c .before .before .before .activated .ensures,
     )))

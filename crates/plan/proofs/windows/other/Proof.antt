@@ -13,12 +13,10 @@ unfolding windowPlan
 other-spec =
     tie.close
     (tie.spec
-    -- idle-requires
-    (λ c κs. search needs)
     -- plain-requires
     (λ c κs. search needs)
     -- returns
-    (λ c. c .plain .ensures ∙ rw (c .before .idle .ensures, eq-eqb _ _ (c .before .before .if1 .taken)))
+    (λ c. c .plain .ensures ∙ rw (eq-eqb _ _ (c .before .if1 .taken)))
     -- sub-activate
     (λ c. let s = c .before .before .before .before in omega (arith, active-most (s .args .core .screen) (s .pre)))
     -- activate-requires

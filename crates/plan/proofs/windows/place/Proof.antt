@@ -30,9 +30,7 @@ place-spec =
     -- returns
     (λ c.
     c .address-plan .ensures ∙ rw (c .before .activated .ensures, ← c .before .before .before .is-segment .ensures, c .before .before .if1 .taken))
-    -- idle-requires
-    (λ c κs. search needs)
     -- refusing-requires
     (λ c κs. search needs)
     -- returns-2
-    (λ c. c .refusing .ensures ∙ rw (c .before .idle .ensures, ← c .before .before .before .is-segment .ensures, c .before .before .if1 .left)))
+    (λ c. c .refusing .ensures ∙ rw (← c .before .before .is-segment .ensures, c .before .if1 .left)))

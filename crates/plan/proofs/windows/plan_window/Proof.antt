@@ -12,8 +12,6 @@ plan-window-spec =
     (tie.spec
     -- enum-told
     (λ c. search needs)
-    -- idle-requires
-    (λ c κs. search needs)
     -- unsplit-screen-requires
     (λ c κs. search needs)
     -- with-screen-requires
@@ -45,9 +43,8 @@ plan-window-spec =
     c .settling .ensures
     ∙ rw (
       c .before .with-screen .ensures,
-      c .before .before .before .idle .ensures,
       c .before .before .unsplit-screen .ensures,
-      c .before .before .before .before .enum-told .given .1,
+      c .before .before .before .enum-told .given .1,
     ))
     -- returns-2
     (λ c. c .split .ensures ∙ rw (c .before .before .w .given .1))

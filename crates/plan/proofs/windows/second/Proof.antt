@@ -11,12 +11,10 @@ unfolding windowPlan
 second-spec =
     tie.close
     (tie.spec
-    -- idle-requires
-    (λ c κs. search needs)
     -- refusing-requires
     (λ c κs. search needs)
     -- returns
-    (λ c. c .refusing .ensures ∙ rw (c .before .idle .ensures, eq-eqb _ _ (c .before .before .if1 .taken)))
+    (λ c. c .refusing .ensures ∙ rw (eq-eqb _ _ (c .before .if1 .taken)))
     -- activate-requires
     (λ c κs. search needs)
     -- returns-2

@@ -9,16 +9,14 @@ use Rattle.plan.proofs.windows.split.Statement.{statement}
 use Rattle.plan.proofs.windows.split.Tie as tie
 
 -- in the branch taken the row is one to split at
-row-there : (c : tie.Then1) → (0x21 ≤ c .before .before .before .args .r) × (c .before .before .before .args .r < 0x21 + 23)
-row-there c = among-parts 0x21 23 (c .before .before .before .args .r) (sym (c .before .among .ensures) ∙ c .if1 .taken)
+row-there : (c : tie.Then1) → (0x21 ≤ c .before .before .args .r) × (c .before .before .args .r < 0x21 + 23)
+row-there c = among-parts 0x21 23 (c .before .before .args .r) (sym (c .before .among .ensures) ∙ c .if1 .taken)
 
 pub split-spec : {M : Type 1} → statement M
 unfolding windowPlan
 split-spec =
     tie.close
     (tie.spec
-    -- idle-requires
-    (λ c κs. search needs)
     -- among-requires
     (λ c κs. search needs)
     -- sub-split-screen
@@ -34,7 +32,6 @@ split-spec =
     c .settling .ensures
     ∙ rw (
       c .before .with-screen .ensures,
-      c .before .before .before .before .before .idle .ensures,
       c .before .before .split-screen .ensures,
       ← c .before .before .before .before .among .ensures,
       c .before .before .before .if1 .taken,
@@ -42,4 +39,4 @@ split-spec =
     -- refusing-requires
     (λ c κs. search needs)
     -- returns-2
-    (λ c. c .refusing .ensures ∙ rw (c .before .before .before .idle .ensures, ← c .before .before .among .ensures, c .before .if1 .left)))
+    (λ c. c .refusing .ensures ∙ rw (← c .before .before .among .ensures, c .before .if1 .left)))

@@ -15,23 +15,21 @@ advancing-spec =
     (λ c κs. search needs)
     -- segment-end-requires
     (λ c κs. search needs)
-    -- idle-requires
-    (λ c κs. search needs)
     -- add-if1
     (λ c. search needs)
-    -- add-t10
+    -- add-t9
     (λ c. search needs)
     -- writing-requires
     (λ c κs. search needs)
     -- returns
-    (λ c. c .writing .ensures ∙ rw (c .before .before .idle .ensures, ← c .before .before .before .before .cursor-of .ensures, ← c .before .before .before .segment-end .ensures, lt-ltb _ _ (c .before .if1 .taken)))
+    (λ c. c .writing .ensures ∙ rw (← c .before .before .before .cursor-of .ensures, ← c .before .before .segment-end .ensures, lt-ltb _ _ (c .before .if1 .taken)))
     -- scrolls-requires
     (λ c κs. search needs)
     -- scroll-requires
     (λ c κs. search needs)
     -- width-of-requires
     (λ c κs. search needs)
-    -- sub-t15
+    -- sub-t14
     (λ c. search needs)
     -- writing-two-requires
     (λ c κs. search needs)
@@ -39,10 +37,9 @@ advancing-spec =
     (λ c.
     c .writing-two .ensures
     ∙ rw (
-      c .before .before .before .before .before .before .idle .ensures,
       c .before .before .scroll .ensures,
-      ← c .before .before .before .before .before .before .before .before .cursor-of .ensures,
-      ← c .before .before .before .before .before .before .before .segment-end .ensures,
+      ← c .before .before .before .before .before .before .before .cursor-of .ensures,
+      ← c .before .before .before .before .before .before .segment-end .ensures,
       le-ltb _ _ (c .before .before .before .before .before .if1 .left),
       ← c .before .before .before .before .scrolls .ensures,
       c .before .before .before .if2 .taken,
@@ -56,10 +53,9 @@ advancing-spec =
     (λ c.
     c .writing2 .ensures
     ∙ rw (
-      c .before .before .before .before .before .idle .ensures,
       c .before .segment-start .ensures,
-      ← c .before .before .before .before .before .before .before .cursor-of .ensures,
-      ← c .before .before .before .before .before .before .segment-end .ensures,
+      ← c .before .before .before .before .before .before .cursor-of .ensures,
+      ← c .before .before .before .before .before .segment-end .ensures,
       le-ltb _ _ (c .before .before .before .before .if1 .left),
       ← c .before .before .before .scrolls .ensures,
       c .before .before .if2 .left,

@@ -12,8 +12,6 @@ edit-cells-spec =
     (tie.spec
     -- cursor-of-requires
     (λ c κs. search needs)
-    -- idle-requires
-    (λ c κs. search needs)
     -- guarded-at-requires
     (λ c κs. search needs)
     -- refusing-requires
@@ -22,8 +20,7 @@ edit-cells-spec =
     (λ c.
     c .refusing .ensures
     ∙ rw (
-      c .before .before .before .idle .ensures,
-      ← c .before .before .before .before .cursor-of .ensures,
+      ← c .before .before .before .cursor-of .ensures,
       ← c .before .before .guarded-at .ensures,
       c .before .if1 .taken,
     ))
@@ -33,8 +30,7 @@ edit-cells-spec =
     (λ c.
     c .writing .ensures
     ∙ rw (
-      c .before .before .before .idle .ensures,
-      ← c .before .before .before .before .cursor-of .ensures,
+      ← c .before .before .before .cursor-of .ensures,
       ← c .before .before .guarded-at .ensures,
       c .before .if1 .left,
     )))

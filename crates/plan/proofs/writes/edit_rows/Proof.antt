@@ -10,12 +10,10 @@ unfolding rowEditPlan
 edit-rows-spec =
     tie.close
     (tie.spec
-    -- idle-requires
-    (λ c κs. search needs)
     -- refusing-requires
     (λ c κs. search needs)
     -- returns
-    (λ c. c .refusing .ensures ∙ rw (c .before .before .idle .ensures, c .before .if1 .taken))
+    (λ c. c .refusing .ensures ∙ rw (c .before .if1 .taken))
     -- cursor-row-requires
     (λ c κs. search needs)
     -- segment-bottom-requires
@@ -25,4 +23,4 @@ edit-rows-spec =
     -- writing-requires
     (λ c κs. search needs)
     -- returns-2
-    (λ c. c .writing .ensures ∙ rw (c .before .before .before .before .before .idle .ensures, c .before .before .before .cursor-row .ensures, c .before .row-start .ensures, c .before .before .segment-bottom .ensures, c .before .before .before .before .if1 .left)))
+    (λ c. c .writing .ensures ∙ rw (c .before .before .before .cursor-row .ensures, c .before .row-start .ensures, c .before .before .segment-bottom .ensures, c .before .before .before .before .if1 .left)))

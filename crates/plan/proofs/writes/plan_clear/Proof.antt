@@ -23,8 +23,6 @@ plan-clear-spec =
     (λ c κs. search needs)
     -- add-row
     (λ c. omega (arith, c .before .row-start .ensures, c .width-of .ensures, c .before .before .before .before .before .before .pre))
-    -- idle-requires
-    (λ c κs. search needs)
     -- enum-known-x
     (λ c. search needs)
     -- fill-requires
@@ -54,10 +52,10 @@ plan-clear-spec =
     -- writing-requires-4
     (λ c κs. search needs)
     -- returns
-    (λ c. c .writing .ensures ∙ rw (c .before .before .before .x .given .1, c .before .before .before .before .before .idle .ensures, c .before .fill .ensures, c .before .before .before .before .before .before .before .row-start .ensures, c .before .before .before .before .before .before .width-of .ensures, c .before .before .before .before .before .before .before .before .before .before .cursor-of .ensures, c .before .before .before .before .before .before .before .before .before .before .before .before .pre .placed .last))
+    (λ c. c .writing .ensures ∙ rw (c .before .before .before .x .given .1, c .before .fill .ensures, c .before .before .before .before .before .before .row-start .ensures, c .before .before .before .before .before .width-of .ensures, c .before .before .before .before .before .before .before .before .before .cursor-of .ensures, c .before .before .before .before .before .before .before .before .before .before .before .pre .placed .last))
     -- returns-2
-    (λ c. c .writing2 .ensures ∙ rw (c .before .before .before .before .before .idle .ensures, c .before .fill2 .ensures, c .before .before .before .before .before .before .before .before .before .before .cursor-of .ensures, c .before .before .before .before .before .before .before .before .segment-end .ensures, c .before .before .before .x2 .given .1))
+    (λ c. c .writing2 .ensures ∙ rw (c .before .fill2 .ensures, c .before .before .before .before .before .before .before .before .before .cursor-of .ensures, c .before .before .before .before .before .before .before .segment-end .ensures, c .before .before .before .x2 .given .1))
     -- returns-3
-    (λ c. c .writing3 .ensures ∙ rw (c .before .before .before .before .before .idle .ensures, c .before .fill3 .ensures, c .before .before .before .before .before .before .before .before .before .segment-start .ensures, c .before .before .before .before .before .before .before .before .segment-end .ensures, c .before .before .before .x3 .given .1))
+    (λ c. c .writing3 .ensures ∙ rw (c .before .fill3 .ensures, c .before .before .before .before .before .before .before .before .segment-start .ensures, c .before .before .before .before .before .before .before .segment-end .ensures, c .before .before .before .x3 .given .1))
     -- returns-4
-    (λ c. c .writing4 .ensures ∙ rw (c .before .before .before .before .before .before .idle .ensures, c .before .before .before .segment-top .ensures, c .before .before .segment-bottom .ensures, c .before .cursor-column .ensures, c .before .before .before .before .before .before .before .before .before .before .before .cursor-of .ensures, c .before .before .before .before .enum-told .given .1)))
+    (λ c. c .writing4 .ensures ∙ rw (c .before .before .before .segment-top .ensures, c .before .before .segment-bottom .ensures, c .before .cursor-column .ensures, c .before .before .before .before .before .before .before .before .before .before .cursor-of .ensures, c .before .before .before .before .enum-told .given .1)))

@@ -14,18 +14,15 @@ plan-store-spec =
     (λ c κs. search needs)
     -- guarded-at-requires
     (λ c κs. search needs)
-    -- idle-requires
-    (λ c κs. search needs)
     -- refusing-requires
     (λ c κs. search needs)
     -- returns
     (λ c.
     c .refusing .ensures
     ∙ rw (
-      c .before .idle .ensures,
-      ← c .before .before .before .before .cursor-of .ensures,
-      ← c .before .before .before .guarded-at .ensures,
-      c .before .before .if1 .taken,
+      ← c .before .before .before .cursor-of .ensures,
+      ← c .before .before .guarded-at .ensures,
+      c .before .if1 .taken,
     ))
     -- written-cell-requires
     (λ c κs. search needs)

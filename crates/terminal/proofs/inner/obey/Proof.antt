@@ -9,14 +9,16 @@ pub obey-spec : {M : Type 1} → statement M
 obey-spec =
     tie.close
     (tie.spec
-    -- plan-for-requires
+    -- idle-requires
     (λ c κs. search needs)
+    -- plan-for-requires
+    (λ c κs. rw (c .before .idle .ensures) (c .before .before .before .before .pre))
     -- carry-out-requires
     (λ c κs.
-    let start = c .before .before .before .before .before .before in
+    let start = c .before .before .before .before .before .before .before in
     let x = start .args in
     let p = start .pre in
-    plan-good (now (x .page)) (x .core) (now (x .tabs)) (x .d) (c .before .before .plan-for .ensures) (p .0) (p .1))
+    plan-good (now (x .page)) (x .core) (now (x .tabs)) (x .d) (c .before .before .before .before .idle .ensures) (c .before .before .plan-for .ensures) (p .0) (p .1))
     -- same-length
     (λ c. search needs)
     -- same-length-2
@@ -24,4 +26,4 @@ obey-spec =
     -- returns
     (λ c.
     let o = c .before .before .before .before in
-    plan-carried _ _ _ _ (o .before .before .before .plan-for .ensures) (o .carry-out .ensures)))
+    plan-carried _ _ _ _ (o .before .before .before .before .before .idle .ensures) (o .before .before .before .plan-for .ensures) (o .carry-out .ensures)))
