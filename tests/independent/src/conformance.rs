@@ -636,11 +636,13 @@ impl Book {
     }
 
     fn full_key_store(&mut self) {
-        self.case("corner 25: all keys full are 256 bytes");
+        self.case("all keys full are 256 bytes, and each may be programmed again");
         for value in (0x40..=0x4F).chain(0x60..=0x6F) {
             self.run(&[b"\x1bz", &[value][..], b"abcdefgh\x7f"].concat());
         }
-        self.run(b"\x1bzAhgfedcba\x7f");
+        for value in (0x40..=0x4F).chain(0x60..=0x6F) {
+            self.run(&[b"\x1bz", &[value][..], b"hgfedcba\x7f"].concat());
+        }
         self.press(0x41);
         self.run(b"\x1bzA\x7f");
         self.press(0x41);

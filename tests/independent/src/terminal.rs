@@ -8,16 +8,13 @@ const SOH: u8 = 0x01;
 const CR: u8 = 0x0D;
 const US: u8 = 0x1F;
 
-const KEY_STORE: usize = 256;
-
-/// The numbers that come back, but for 0.
+/// The numbers that come back, but for 0. 5 is not used.
 #[derive(Clone, Copy, PartialEq, Eq, Debug)]
 pub enum Refusal {
     HighByte = 1,
     UnknownEscape = 2,
     BadArgument = 3,
     Barred = 4,
-    KeyStoreFull = 5,
     NoRoom = 6,
     Impossible = 7,
     Locked = 8,
@@ -410,12 +407,7 @@ impl Terminal {
 
     fn program_key(&mut self, value: u8, text: &[u8]) -> Outcome {
         let number = key_number(value).ok_or(Refusal::BadArgument)?;
-        let keys = &mut self.state.keys;
-        let stored: usize = keys.iter().map(|key| key.length as usize).sum();
-        if stored - keys[number].length as usize + text.len() > KEY_STORE {
-            return Err(Refusal::KeyStoreFull);
-        }
-        keys[number] = Key::holding(text);
+        self.state.keys[number] = Key::holding(text);
         DONE
     }
 }

@@ -95,6 +95,18 @@ fn bench_8_keys() {
 }
 
 #[test]
+fn full_keys_are_programmed_again() {
+    let mut terminal = Terminal::new();
+    for text in [b"abcdefgh", b"hgfedcba"] {
+        for value in (0x40..=0x4F).chain(0x60..=0x6F) {
+            let bytes = [b"\x1bz", &[value][..], text, b"\x7f"].concat();
+            assert_eq!(answers(&mut terminal, &bytes), [0; 12]);
+            assert_eq!(pressed(&terminal, value), text);
+        }
+    }
+}
+
+#[test]
 fn bench_9_high_byte_within_a_sequence() {
     let mut terminal = Terminal::new();
     assert_eq!(
