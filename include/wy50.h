@@ -136,7 +136,7 @@ typedef struct wy50_power_on_result {
 } wy50_power_on_result;
 
 typedef struct wy50_step_result {
-    uint8_t answer; /* 0 to 7 */
+    uint8_t answer; /* 0 to 4, 6 or 7 */
     size_t replied; /* reply bytes */
     wy50_state state;
 } wy50_step_result;
