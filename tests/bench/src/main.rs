@@ -10,22 +10,24 @@ mod state;
 mod terminal;
 mod workloads;
 
-use peers::{Page, READ};
+use peers::{after, feed, play, Floor, Independent, Libvterm, Page, Peer, Proved, ShiftFloor, READ};
 use std::{
     fmt::Write,
     hint::black_box,
     process::{Command, ExitCode},
     time::Instant,
 };
-use workloads::{Stream, Workload, WORKLOADS};
+use workloads::{Shifts, Stream, Workload, SHIFTS, WORKLOADS};
 use wy50::{Answer, State, Terminal, CELLS, LONGEST_REPLY};
 
 const ROUNDS: usize = 5;
 const SIZE: usize = 20_000_000;
 const GROWTH: [usize; 3] = [1_000_000, 10_000_000, 100_000_000];
 const CALLS: usize = 1_000_000;
+const SHIFT_COUNT: usize = 10_000;
+const SHIFT_ROUNDS: usize = 50; // each is short
 
-/// Nanoseconds a byte, where a peer has the workload.
+/// Nanoseconds a byte or a row shift, where a peer has the workload.
 struct Row {
     name: &'static str,
     proved: f64,
@@ -44,13 +46,16 @@ struct Single {
 
 fn main() -> ExitCode {
     let Some(path) = std::env::args().nth(1) else {
-        eprintln!("bench FILE: the tables go to FILE");
+        eprintln!("bench FILE: the tables go to FILE\nbench --scrolls: the scrolls alone, printed");
         return ExitCode::from(2);
     };
-    match report() {
+    let scrolls = path == "--scrolls";
+    match if scrolls { scrolls_report() } else { report() } {
         Ok(text) => {
             print!("{text}");
-            std::fs::write(path, text).expect("the file can be written");
+            if !scrolls {
+                std::fs::write(path, text).expect("the file can be written");
+            }
             ExitCode::SUCCESS
         }
         Err(difference) => {
@@ -62,14 +67,24 @@ fn main() -> ExitCode {
 
 fn report() -> Result<String, String> {
     let rows = WORKLOADS.iter().map(row).collect::<Result<Vec<_>, _>>()?;
+    let shifts = SHIFTS.iter().map(shift_row).collect::<Result<Vec<_>, _>>()?;
     let growth = WORKLOADS.each_ref().map(grown);
     let singles = [single("step", 400.0, step), single("press", 300.0, press)];
     let mut out = String::new();
     introduction(&mut out);
     peers_table(&mut out, &rows);
+    shifts_table(&mut out, &shifts);
     growth_table(&mut out, &growth);
     singles_table(&mut out, &singles);
-    targets(&mut out, &rows, &singles);
+    targets(&mut out, &rows, &shifts, &singles);
+    Ok(out)
+}
+
+fn scrolls_report() -> Result<String, String> {
+    let shifts = SHIFTS.iter().map(shift_row).collect::<Result<Vec<_>, _>>()?;
+    let mut out = String::new();
+    shifts_table(&mut out, &shifts);
+    targets(&mut out, &[], &shifts, &[]);
     Ok(out)
 }
 
@@ -80,25 +95,61 @@ fn row(workload: &Workload) -> Result<Row, String> {
     if let Some(difference) = peers::difference(&stream.wy50) {
         return Err(format!("{name}: {difference}"));
     }
-    let page = peers::independent(&stream.wy50);
-    if workload.plain && peers::floor(&stream.wy50) != page {
+    let page = play::<Independent>(&stream.wy50);
+    if workload.plain && play::<Floor>(&stream.wy50) != page {
         return Err(format!("{name}: the floor's page differs"));
     }
-    if workload.translated && shown(&peers::libvterm(&stream.ansi)) != shown(&page) {
+    if workload.translated && shown(&play::<Libvterm>(&stream.ansi)) != shown(&page) {
         return Err(format!("{name}: libvterm's page differs"));
     }
     let (mut proved, mut independent, mut libvterm, mut floor) = (f64::MAX, f64::MAX, f64::MAX, f64::MAX);
     for _ in 0..ROUNDS {
-        best(&mut proved, &stream.wy50, peers::proved, &page)?;
-        best(&mut independent, &stream.wy50, peers::independent, &page)?;
+        best(&mut proved, &stream.wy50, play::<Proved>, &page)?;
+        best(&mut independent, &stream.wy50, play::<Independent>, &page)?;
         if workload.translated {
-            libvterm = libvterm.min(timed(&stream.ansi, peers::libvterm).0);
+            libvterm = libvterm.min(timed(&stream.ansi, play::<Libvterm>).0);
         }
         if workload.plain {
-            floor = floor.min(timed(&stream.wy50, peers::floor).0);
+            floor = floor.min(timed(&stream.wy50, play::<Floor>).0);
         }
     }
     Ok(Row { name, proved, independent, libvterm: workload.translated.then_some(libvterm), floor: workload.plain.then_some(floor) })
+}
+
+/// Row shifts on every terminal, the terminals taking turns.
+fn shift_row(shifts: &Shifts) -> Result<Row, String> {
+    let (drawn, stream) = (shifts.drawn(), shifts.shifts(SHIFT_COUNT));
+    let name = shifts.name;
+    let whole = [&drawn.wy50[..], &stream.wy50].concat();
+    if let Some(difference) = peers::difference(&whole) {
+        return Err(format!("{name}: {difference}"));
+    }
+    let start = play::<Independent>(&drawn.wy50);
+    let page = play::<Independent>(&whole);
+    let (mut proved, mut independent, mut libvterm, mut floor) = (f64::MAX, f64::MAX, f64::MAX, f64::MAX);
+    for _ in 0..SHIFT_ROUNDS {
+        let differs = |peer: &str| format!("{name}: the page of {peer} differs");
+        if best_shifts(&mut proved, after::<Proved>(&drawn.wy50), &stream.wy50) != page {
+            return Err(differs("the proved terminal"));
+        }
+        if best_shifts(&mut independent, after::<Independent>(&drawn.wy50), &stream.wy50) != page {
+            return Err(differs("the independent implementation"));
+        }
+        if shown(&best_shifts(&mut libvterm, after::<Libvterm>(&drawn.ansi), &stream.ansi)) != shown(&page) {
+            return Err(differs("libvterm"));
+        }
+        if best_shifts(&mut floor, ShiftFloor::new(start, shifts.rows.clone(), shifts.row), &stream.wy50) != page {
+            return Err(differs("the floor"));
+        }
+    }
+    Ok(Row { name, proved, independent, libvterm: Some(libvterm), floor: Some(floor) })
+}
+
+fn best_shifts(least: &mut f64, mut peer: impl Peer, stream: &[u8]) -> Page {
+    let start = Instant::now();
+    feed(&mut peer, black_box(stream));
+    *least = least.min(start.elapsed().as_nanos() as f64 / SHIFT_COUNT as f64);
+    peer.page()
 }
 
 fn timed(stream: &[u8], play: fn(&[u8]) -> Page) -> (f64, Page) {
@@ -121,7 +172,7 @@ fn grown(workload: &Workload) -> [f64; 3] {
     let stream = workload.stream(GROWTH[2]).wy50;
     GROWTH.map(|size| {
         let turns = ROUNDS * (GROWTH[1] / size).max(1); // a short one is easily disturbed
-        (0..turns).fold(f64::MAX, |least, _| least.min(timed(&stream[..size], peers::proved).0))
+        (0..turns).fold(f64::MAX, |least, _| least.min(timed(&stream[..size], play::<Proved>).0))
     })
 }
 
@@ -208,16 +259,7 @@ fn peers_table(out: &mut String, rows: &[Row]) {
     line!(out, "| workload | proved | independent | libvterm | C floor |");
     line!(out, "|---|---|---|---|---|");
     for row in rows {
-        let beside = |time: Option<f64>| time.map_or("-".to_string(), |time| format!("{time:.2} ({:.2})", time / row.proved));
-        line!(
-            out,
-            "| {} | {:.2} | {} | {} | {} |",
-            row.name,
-            row.proved,
-            beside(Some(row.independent)),
-            beside(row.libvterm),
-            beside(row.floor)
-        );
+        peers_row(out, row, 2);
     }
     line!(out);
     line!(
@@ -226,6 +268,42 @@ fn peers_table(out: &mut String, rows: &[Row]) {
     );
     line!(out, "At the end all pages of a workload are the same.");
     line!(out);
+}
+
+fn shifts_table(out: &mut String, rows: &[Row]) {
+    line!(out, "## Scrolls");
+    line!(out);
+    line!(
+        out,
+        "Nanoseconds a row shift, and in brackets how many times the proved terminal's that is. {SHIFT_COUNT} each, the best of {SHIFT_ROUNDS}:"
+    );
+    line!(out);
+    for shifts in &SHIFTS {
+        line!(out, "- {}: {}", shifts.name, shifts.what);
+    }
+    line!(out);
+    line!(out, "| row shift | proved | independent | libvterm | C with `memmove` |");
+    line!(out, "|---|---|---|---|---|");
+    for row in rows {
+        peers_row(out, row, 0);
+    }
+    line!(out);
+    line!(out, "libvterm has them by its own sequences, in a scrolling region where the page is split. At the end all pages are the same.");
+    line!(out);
+}
+
+/// A row of the two tables above, its times with so many digits after the point.
+fn peers_row(out: &mut String, row: &Row, digits: usize) {
+    let beside = |time: Option<f64>| time.map_or("-".to_string(), |time| format!("{time:.digits$} ({:.2})", time / row.proved));
+    line!(
+        out,
+        "| {} | {:.digits$} | {} | {} | {} |",
+        row.name,
+        row.proved,
+        beside(Some(row.independent)),
+        beside(row.libvterm),
+        beside(row.floor)
+    );
 }
 
 fn growth_table(out: &mut String, growth: &[[f64; 3]]) {
@@ -254,21 +332,23 @@ fn singles_table(out: &mut String, singles: &[Single]) {
     line!(out);
 }
 
-fn targets(out: &mut String, rows: &[Row], singles: &[Single]) {
+fn targets(out: &mut String, rows: &[Row], shifts: &[Row], singles: &[Single]) {
     line!(out, "## Targets");
     line!(out);
     line!(out, "| target | measured | |");
     line!(out, "|---|---|---|");
     let mut target =
         |what: &str, measured: String, met: bool| line!(out, "| {what} | {measured} | {} |", if met { "met" } else { "missed" });
-    for row in rows {
+    let bytes = rows.iter().map(|row| (row, 3.0, "the C floor"));
+    let shifts = shifts.iter().map(|row| (row, 2.0, "C with memmove"));
+    for (row, most, floor) in bytes.chain(shifts) {
         if let Some(time) = row.libvterm {
             let ratio = time / row.proved;
             target(&format!("{}: at least 3 times as fast as libvterm", row.name), format!("{ratio:.1}"), ratio >= 3.0);
         }
         if let Some(time) = row.floor {
             let ratio = row.proved / time;
-            target(&format!("{}: within 3 times the C floor", row.name), format!("{ratio:.2}"), ratio <= 3.0);
+            target(&format!("{}: within {most} times {floor}", row.name), format!("{ratio:.2}"), ratio <= most);
         }
         let ratio = row.independent / row.proved;
         target(&format!("{}: no slower than the independent implementation", row.name), format!("{ratio:.2}"), ratio >= 1.0);

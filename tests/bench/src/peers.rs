@@ -1,7 +1,10 @@
 //! The terminals that are timed, each fed as a gateway feeds it: by the read, with room for replies.
 
 use crate::terminal;
-use std::ffi::{c_char, c_int, c_void};
+use std::{
+    ffi::{c_char, c_int, c_void},
+    ops::Range,
+};
 use wy50::{Terminal, CELLS, COLUMNS, ROWS};
 
 /// Bytes of a read, and of the reply room.
@@ -9,32 +12,76 @@ pub const READ: usize = 4096;
 
 pub type Page = [u16; CELLS];
 
-/// The proved terminal: its page after the stream.
-pub fn proved(stream: &[u8]) -> Page {
-    let mut terminal = Terminal::new();
-    let mut reply = [0; READ];
-    for mut read in stream.chunks(READ) {
-        while !read.is_empty() {
-            read = terminal.feed(read, &mut reply).rest;
+pub trait Peer {
+    /// Takes the bytes of a read.
+    fn read(&mut self, bytes: &[u8]);
+    fn page(&self) -> Page;
+}
+
+pub fn feed(peer: &mut impl Peer, stream: &[u8]) {
+    for bytes in stream.chunks(READ) {
+        peer.read(bytes);
+    }
+}
+
+/// A peer that has taken the stream from power-on.
+pub fn after<P: Peer + Default>(stream: &[u8]) -> P {
+    let mut peer = P::default();
+    feed(&mut peer, stream);
+    peer
+}
+
+/// Its page.
+pub fn play<P: Peer + Default>(stream: &[u8]) -> Page {
+    after::<P>(stream).page()
+}
+
+/// The proved terminal.
+pub struct Proved {
+    terminal: Terminal,
+    reply: [u8; READ],
+}
+
+impl Default for Proved {
+    fn default() -> Self {
+        Proved { terminal: Terminal::new(), reply: [0; READ] }
+    }
+}
+
+impl Peer for Proved {
+    fn read(&mut self, mut bytes: &[u8]) {
+        while !bytes.is_empty() {
+            bytes = self.terminal.feed(bytes, &mut self.reply).rest;
         }
     }
-    *terminal.page()
+
+    fn page(&self) -> Page {
+        *self.terminal.page()
+    }
 }
 
 /// The independent implementation.
-pub fn independent(stream: &[u8]) -> Page {
-    let mut terminal = terminal::Terminal::new();
-    let mut reply = [0; READ];
-    for mut read in stream.chunks(READ) {
-        while !read.is_empty() {
-            read = terminal.run(read, &mut reply).rest;
-        }
-    }
-    cells(&terminal)
+pub struct Independent {
+    terminal: terminal::Terminal,
+    reply: [u8; READ],
 }
 
-fn cells(terminal: &terminal::Terminal) -> Page {
-    std::array::from_fn(|k| terminal.page[k].0)
+impl Default for Independent {
+    fn default() -> Self {
+        Independent { terminal: terminal::Terminal::new(), reply: [0; READ] }
+    }
+}
+
+impl Peer for Independent {
+    fn read(&mut self, mut bytes: &[u8]) {
+        while !bytes.is_empty() {
+            bytes = self.terminal.run(bytes, &mut self.reply).rest;
+        }
+    }
+
+    fn page(&self) -> Page {
+        std::array::from_fn(|k| self.terminal.page[k].0)
+    }
 }
 
 /// Both side by side: every count and reply, and the page after each read. What differs first, if anything does.
@@ -65,17 +112,67 @@ pub fn difference(stream: &[u8]) -> Option<String> {
 
 extern "C" {
     fn floor_run(page: *mut u16, at: usize, bytes: *const u8, count: usize) -> usize;
+    fn floor_shift(page: *mut u16, cursor: *mut Cursor, bytes: *const u8, count: usize);
 }
 
-/// The floor, plain C.
-pub fn floor(stream: &[u8]) -> Page {
-    let mut page = [0; CELLS];
-    let mut at = 0;
-    for read in stream.chunks(READ) {
-        // SAFETY: the page has 1,920 cells, the cursor is one of them, and the pointer and the count are those of one slice.
-        at = unsafe { floor_run(page.as_mut_ptr(), at, read.as_ptr(), read.len()) };
+/// The floor of text, plain C.
+pub struct Floor {
+    page: Page,
+    at: usize,
+}
+
+impl Default for Floor {
+    fn default() -> Self {
+        Floor { page: [0; CELLS], at: 0 }
     }
-    page
+}
+
+impl Peer for Floor {
+    fn read(&mut self, bytes: &[u8]) {
+        // SAFETY: the page has 1,920 cells, the cursor is one of them, and the pointer and the count are those of one slice.
+        self.at = unsafe { floor_run(self.page.as_mut_ptr(), self.at, bytes.as_ptr(), bytes.len()) };
+    }
+
+    fn page(&self) -> Page {
+        self.page
+    }
+}
+
+/// Where the floor of row shifts stands: at a cell of a segment, from its first cell up to its end, and perhaps after ESC.
+#[derive(Clone, Copy)]
+#[repr(C)]
+pub struct Cursor {
+    at: usize,
+    first: usize,
+    end: usize,
+    escaped: bool,
+}
+
+/// The floor of row shifts, plain C with memmove.
+pub struct ShiftFloor {
+    page: Page,
+    cursor: Cursor,
+}
+
+impl ShiftFloor {
+    /// On a page, in a segment of whole rows and at the start of one of its rows.
+    pub fn new(page: Page, rows: Range<usize>, row: usize) -> Self {
+        assert!(rows.end <= ROWS && rows.contains(&row));
+        let cursor = Cursor { at: row * COLUMNS, first: rows.start * COLUMNS, end: rows.end * COLUMNS, escaped: false };
+        ShiftFloor { page, cursor }
+    }
+}
+
+impl Peer for ShiftFloor {
+    fn read(&mut self, bytes: &[u8]) {
+        // SAFETY: the page has 1,920 cells, the segment lies in it, the cursor in the segment, and the pointer and the count are those of one
+        // slice.
+        unsafe { floor_shift(self.page.as_mut_ptr(), &mut self.cursor, bytes.as_ptr(), bytes.len()) };
+    }
+
+    fn page(&self) -> Page {
+        self.page
+    }
 }
 
 #[repr(C)]
@@ -100,28 +197,51 @@ extern "C" {
 /// Damage is gathered, not told cell by cell: the fastest setting.
 const DAMAGE_SCROLL: c_int = 3;
 
-/// libvterm with its screen layer, on a stream of its own sequences. The page has its text, 0 where it has none.
-pub fn libvterm(stream: &[u8]) -> Page {
-    let mut page = [0; CELLS];
-    // SAFETY: the terminal and its screen live from vterm_new to vterm_free, and each pointer goes with the count of its slice.
-    unsafe {
-        let vt = vterm_new(ROWS as c_int, COLUMNS as c_int);
-        let screen = vterm_obtain_screen(vt);
-        vterm_screen_set_damage_merge(screen, DAMAGE_SCROLL);
-        vterm_screen_reset(screen, 1);
-        for read in stream.chunks(READ) {
-            vterm_input_write(vt, read.as_ptr().cast(), read.len());
+/// libvterm with its screen layer, which reads its own sequences. The page has its text, 0 where it has none.
+pub struct Libvterm {
+    vt: *mut c_void,
+    screen: *mut c_void,
+}
+
+impl Default for Libvterm {
+    fn default() -> Self {
+        // SAFETY: the terminal and its screen live until vterm_free.
+        unsafe {
+            let vt = vterm_new(ROWS as c_int, COLUMNS as c_int);
+            let screen = vterm_obtain_screen(vt);
+            vterm_screen_set_damage_merge(screen, DAMAGE_SCROLL);
+            vterm_screen_reset(screen, 1);
+            Libvterm { vt, screen }
         }
-        vterm_screen_flush_damage(screen);
+    }
+}
+
+impl Drop for Libvterm {
+    fn drop(&mut self) {
+        // SAFETY: made by vterm_new, and used no more.
+        unsafe { vterm_free(self.vt) };
+    }
+}
+
+impl Peer for Libvterm {
+    fn read(&mut self, bytes: &[u8]) {
+        // SAFETY: the terminal is alive, and the pointer goes with the count of its slice.
+        unsafe { vterm_input_write(self.vt, bytes.as_ptr().cast(), bytes.len()) };
+    }
+
+    fn page(&self) -> Page {
+        let mut page = [0; CELLS];
+        // SAFETY: the screen is alive.
+        unsafe { vterm_screen_flush_damage(self.screen) };
         for row in 0..ROWS {
             let mut text = [0u8; COLUMNS];
             let rect = Rect { start_row: row as c_int, end_row: row as c_int + 1, start_col: 0, end_col: COLUMNS as c_int };
-            let count = vterm_screen_get_text(screen, text.as_mut_ptr().cast(), text.len(), rect);
+            // SAFETY: the screen is alive, and the pointer goes with the count of its array.
+            let count = unsafe { vterm_screen_get_text(self.screen, text.as_mut_ptr().cast(), text.len(), rect) };
             for (cell, &code) in page[row * COLUMNS..].iter_mut().zip(&text[..count]) {
                 *cell = u16::from(code);
             }
         }
-        vterm_free(vt);
+        page
     }
-    page
 }

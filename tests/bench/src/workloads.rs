@@ -1,5 +1,6 @@
 //! The host streams that are timed. Each is made of rounds, from a seed that does not change.
 
+use std::ops::Range;
 use wy50::{COLUMNS, ROWS};
 
 /// The same rounds for the WY-50 and, where libvterm has them, in its own sequences.
@@ -44,12 +45,84 @@ pub const WORKLOADS: [Workload; 4] = [
 impl Workload {
     /// Rounds of at least `size` bytes for the WY-50.
     pub fn stream(&self, size: usize) -> Stream {
-        let mut writer = Writer { stream: Stream::default(), random: Random(0x2545_F491_4F6C_DD1D) };
+        let mut writer = Writer::new();
         (self.start)(&mut writer);
         while writer.stream.wy50.len() < size {
             (self.round)(&mut writer);
         }
         writer.stream
+    }
+}
+
+/// Row shifts on a page that is drawn first: rounds of ten shifts and one or two letters, so that pages that differ are seen.
+pub struct Shifts {
+    pub name: &'static str,
+    pub what: &'static str,
+    /// The rows of the segment, and the cursor's row.
+    pub rows: Range<usize>,
+    pub row: usize,
+    round: fn(&mut Writer),
+}
+
+const SHIFTS_IN_A_ROUND: usize = 10;
+const MIDDLE: usize = ROWS / 2;
+
+pub const SHIFTS: [Shifts; 3] = [
+    Shifts { name: "scrolls up", what: "0Ah on the last row", rows: 0..ROWS, row: ROWS - 1, round: scroll_up },
+    Shifts { name: "scrolls down", what: "ESC j on the first row", rows: 0..ROWS, row: 0, round: scroll_down },
+    Shifts {
+        name: "row edits",
+        what: "ESC E and ESC R, five of each by turns, on row 7 of a page that is split after row 12",
+        rows: 0..MIDDLE,
+        row: MIDDLE / 2,
+        round: edit_rows,
+    },
+];
+
+impl Shifts {
+    /// A page full of text, split where the segment is not all of it, with the cursor at the start of its row.
+    pub fn drawn(&self) -> Stream {
+        let mut writer = Writer::new();
+        for row in 0..ROWS {
+            writer.address(row, 0);
+            writer.text(COLUMNS - 1, COLUMNS - 1);
+        }
+        if self.rows.end < ROWS {
+            writer.apart(&[0x1b, b'x', b'1', 0x20 + self.rows.end as u8], format!("\x1b[1;{}r", self.rows.end).as_bytes());
+        }
+        writer.address(self.row, 0);
+        writer.stream
+    }
+
+    pub fn shifts(&self, count: usize) -> Stream {
+        let mut writer = Writer::new();
+        for _ in 0..count / SHIFTS_IN_A_ROUND {
+            (self.round)(&mut writer);
+        }
+        writer.stream
+    }
+}
+
+fn scroll_up(w: &mut Writer) {
+    w.letter();
+    w.both(&[b'\n'; SHIFTS_IN_A_ROUND]);
+}
+
+fn scroll_down(w: &mut Writer) {
+    w.letter();
+    for _ in 0..SHIFTS_IN_A_ROUND {
+        w.apart(b"\x1bj", b"\x1bM");
+    }
+}
+
+fn edit_rows(w: &mut Writer) {
+    w.letter();
+    for _ in 0..SHIFTS_IN_A_ROUND / 2 {
+        w.apart(b"\x1bE", b"\x1b[L");
+    }
+    w.letter();
+    for _ in 0..SHIFTS_IN_A_ROUND / 2 {
+        w.apart(b"\x1bR", b"\x1b[M");
     }
 }
 
@@ -118,6 +191,10 @@ struct Writer {
 }
 
 impl Writer {
+    fn new() -> Self {
+        Writer { stream: Stream::default(), random: Random(0x2545_F491_4F6C_DD1D) }
+    }
+
     fn both(&mut self, bytes: &[u8]) {
         self.stream.wy50.extend_from_slice(bytes);
         self.stream.ansi.extend_from_slice(bytes);
@@ -126,6 +203,17 @@ impl Writer {
     /// For the WY-50 alone.
     fn only(&mut self, bytes: &[u8]) {
         self.stream.wy50.extend_from_slice(bytes);
+    }
+
+    fn apart(&mut self, wy50: &[u8], ansi: &[u8]) {
+        self.stream.wy50.extend_from_slice(wy50);
+        self.stream.ansi.extend_from_slice(ansi);
+    }
+
+    /// A letter at the start of the row, and back.
+    fn letter(&mut self) {
+        self.text(1, 1);
+        self.both(b"\r");
     }
 
     fn text(&mut self, shortest: usize, longest: usize) {
@@ -137,8 +225,8 @@ impl Writer {
 
     /// Row and column count from 0.
     fn address(&mut self, row: usize, column: usize) {
-        self.only(&[0x1b, b'=', 0x20 + row as u8, 0x20 + column as u8]);
-        self.stream.ansi.extend_from_slice(format!("\x1b[{};{}H", row + 1, column + 1).as_bytes());
+        let wy50 = [0x1b, b'=', 0x20 + row as u8, 0x20 + column as u8];
+        self.apart(&wy50, format!("\x1b[{};{}H", row + 1, column + 1).as_bytes());
     }
 }
 
