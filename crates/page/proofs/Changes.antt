@@ -3,9 +3,10 @@
 --     length-filled, filled-at, one-filled
 --     length-left, left-kept, left-new         what comes from the right; what comes in
 --     length-right, right-kept, right-new
+--     at-front, at-part, at-back               what stands before, in and behind a part that was changed
 --     filled-up                                a shift ends by a fill of the cells that come in
 --     left-turn, left-filled                   the loop of a shift to the left: a turn, and the fill after it
---     right-range, right-turn, right-filled    to the right
+--     right-turn, right-filled                 to the right
 --     column-step                              one row of a column
 -- Assumes nothing.
 use mathlib.Core.Path.{_≡_, refl, sym, ap, _∙_}
@@ -76,12 +77,13 @@ module _ (k v : ℕ) (p : List ℕ) where
   unfolding shiftRight
   length-right = length-take-le (length p) (replicate k v ++ p) (simp (length-append, length-replicate) (omega arith))
 
-  pub right-kept : (i : ℕ) → i < length p → k ≤ i → getD (shiftRight k v p) i 0 ≡ getD p (i - k) 0
+  pub right-kept : (i : ℕ) → i + k < length p → getD (shiftRight k v p) (i + k) 0 ≡ getD p i 0
   unfolding shiftRight
-  right-kept i h n =
-      getD-take (length p) (replicate k v ++ p) i 0 h
-      ∙ getD-second (replicate k v) p i (rw length-replicate n)
-      ∙ rw length-replicate refl
+  right-kept i h =
+      let e : i + k - k ≡ i = omega arith in
+      getD-take (length p) (replicate k v ++ p) (i + k) 0 h
+      ∙ getD-second (replicate k v) p (i + k) (rw length-replicate (omega arith))
+      ∙ rw (length-replicate, e) refl
 
   pub right-new : (i : ℕ) → i < length p → i < k → getD (shiftRight k v p) i 0 ≡ v
   unfolding shiftRight
@@ -90,35 +92,40 @@ module _ (k v : ℕ) (p : List ℕ) where
       ∙ List·getD-append (replicate k v) p 0 i (rw length-replicate n)
       ∙ getD-replicate k i v 0 n
 
--- ---- cell by cell, after all cells of a part became v
+-- ---- cell by cell, after a part was changed
 
 lt-or-le : (i n : ℕ) → (i < n) ⊎ (n ≤ i)
 lt-or-le i zero = inr (omega arith)
 lt-or-le zero (suc n) = inl (omega arith)
 lt-or-le (suc i) (suc n) = ⊎-elim (λ h. inl (omega arith)) (λ h. inr (omega arith)) (lt-or-le i n)
 
-module _ (a e v : ℕ) (p x : List ℕ) (h : a ≤ e) (k : e ≤ length p) where
+module _ (a e : ℕ) (f : List ℕ → List ℕ) (p : List ℕ) (h : a ≤ e) (k : e ≤ length p)
+    (s : length (f (take (e - a) (drop a p))) ≡ length (take (e - a) (drop a p))) where
   front : length (take a p) ≡ a
   front = length-take-le a p (omega arith)
 
-  middle : length (filled false v (take (e - a) (drop a p))) ≡ e - a
-  middle = length-filled false v (take (e - a) (drop a p)) ∙ mid-len a e p k
+  middle : length (f (take (e - a) (drop a p))) ≡ e - a
+  middle = s ∙ mid-len a e p k
 
-  at-middle : (i : ℕ) → a ≤ i → i < e → getD (within a e (filled false v) p) i 0 ≡ v
+  pub at-front : (i : ℕ) → i < a → getD (within a e f p) i 0 ≡ getD p i 0
   unfolding within
-  at-middle i b c =
-      let q = filled false v (take (e - a) (drop a p)) in
-      let r = drop (e - a) (drop a p) in
-      getD-second (take a p) (q ++ r) i (rw front b)
-      ∙ rw front (List·getD-append q r 0 (i - a) (rw middle (omega arith)))
-      ∙ filled-at false v (take (e - a) (drop a p)) (i - a) (omega (arith, mid-len a e p k))
+  at-front i b = List·getD-append (take a p) _ 0 i (rw front b) ∙ getD-take a p i 0 b
 
-  at-back : (i : ℕ) → e ≤ i → getD (within a e (filled false v) p) i 0 ≡ getD p i 0
+  pub at-part : (i : ℕ) → i < e - a → getD (within a e f p) (a + i) 0 ≡ getD (f (take (e - a) (drop a p))) i 0
+  unfolding within
+  at-part i b =
+      let q = f (take (e - a) (drop a p)) in
+      let r = drop (e - a) (drop a p) in
+      let n : a + i - a ≡ i = omega arith in
+      getD-second (take a p) (q ++ r) (a + i) (rw front (omega arith))
+      ∙ rw (front, n) (List·getD-append q r 0 i (rw middle b))
+
+  pub at-back : (i : ℕ) → e ≤ i → getD (within a e f p) i 0 ≡ getD p i 0
   unfolding within
   at-back i b =
-      let q = filled false v (take (e - a) (drop a p)) in
+      let q = f (take (e - a) (drop a p)) in
       let r = drop (e - a) (drop a p) in
-      let s : a + (e - a + (i - a - (e - a))) ≡ i = omega arith in
+      let n : a + (e - a + (i - a - (e - a))) ≡ i = omega arith in
       getD-second (take a p) (q ++ r) i (rw front (omega arith))
       ∙ rw (
         front,
@@ -126,33 +133,35 @@ module _ (a e v : ℕ) (p x : List ℕ) (h : a ≤ e) (k : e ≤ length p) where
         middle,
         getD-drop (e - a) (drop a p) (i - a - (e - a)) 0,
         getD-drop a p (e - a + (i - a - (e - a))) 0,
-        s,
+        n,
       )
 
-  at-front : (i : ℕ) → i < a → getD (within a e (filled false v) p) i 0 ≡ getD p i 0
+  pub length-within : length (within a e f p) ≡ length p
   unfolding within
-  at-front i b = List·getD-append (take a p) _ 0 i (rw front b) ∙ getD-take a p i 0 b
+  length-within = same-len-mid a (e - a) p (f (take (e - a) (drop a p))) s
 
-  length-within : length (within a e (filled false v) p) ≡ length p
-  unfolding within
-  length-within = same-len-mid a (e - a) p (filled false v (take (e - a) (drop a p))) (length-filled false v (take (e - a) (drop a p)))
-
-  -- p is x but for the cells a up to e, and these are v in x
+-- p is x but for the cells a up to e, and these are v in x
+module _ (a e v : ℕ) (p x : List ℕ) (h : a ≤ e) (k : e ≤ length p) where
   pub filled-up : length p ≡ length x → ((i : ℕ) → i < a → getD p i 0 ≡ getD x i 0)
       → ((i : ℕ) → a ≤ i → i < e → getD x i 0 ≡ v) → ((i : ℕ) → e ≤ i → i < length p → getD p i 0 ≡ getD x i 0)
       → within a e (filled false v) p ≡ x
   filled-up n before new after =
-      ext-getD 0 (within a e (filled false v) p) x (length-within ∙ n)
+      let f = filled false v in
+      let s = length-filled false v (take (e - a) (drop a p)) in
+      ext-getD 0 (within a e f p) x (length-within a e f p h k s ∙ n)
       (λ i b. ⊎-elim
-      (λ c. at-front i c ∙ before i c)
-      (λ c. ⊎-elim (λ d. at-middle i c d ∙ sym (new i c d)) (λ d. at-back i d ∙ after i d (omega (arith, length-within))) (lt-or-le i e))
+      (λ c. at-front a e f p h k s i c ∙ before i c)
+      (λ c. ⊎-elim
+      (λ d.
+      let m : a + (i - a) ≡ i = omega arith in
+      rw m at (at-part a e f p h k s (i - a) (omega arith))
+      ∙ filled-at false v (take (e - a) (drop a p)) (i - a) (omega (arith, mid-len a e p k))
+      ∙ sym (new i c d))
+      (λ d. at-back a e f p h k s i d ∙ after i d (omega (arith, length-within a e f p h k s)))
+      (lt-or-le i e))
       (lt-or-le i a))
 
 -- ---- the loops of the shifts
-
--- the place before i, from f on
-pub right-range : {f i n : ℕ} → f < i → i ≤ n → (f ≤ i - 1) × (i - 1 ≤ n)
-right-range h n = omega arith
 
 module _ (k v : ℕ) (p : List ℕ) {l : List ℕ} {i : ℕ} where
   pub left-turn : i < length p - k → Joined i (shiftLeft k v p) p l
@@ -165,17 +174,19 @@ module _ (k v : ℕ) (p : List ℕ) {l : List ℕ} {i : ℕ} where
       filled-up f (length p) v l (shiftLeft k v p) (omega arith) (omega (arith, j .long)) (j .long ∙ sym (j .even))
       (λ m b. j .below m (omega arith)) (λ m b d. left-new k v p m d (omega arith)) (λ m b d. absurd (omega (arith, j .long)))
 
-  pub right-turn : length p - (length p - k) < i → i ≤ length p → Joined i p (shiftRight k v p) l
-      → Joined (i - 1) p (shiftRight k v p) (set l (i - 1) (getD l (i - 1 - k) 0))
+  pub right-turn : 0 < i → i ≤ length p - k → Joined (i + k) p (shiftRight k v p) l
+      → Joined (i - 1 + k) p (shiftRight k v p) (set l (i - 1 + k) (getD l (i - 1) 0))
   right-turn h n j =
-      step-down j (omega arith) (omega (arith, length-right k v p))
-      (j .below (i - 1 - k) (omega arith) ∙ sym (right-kept k v p (i - 1) (omega arith) (omega arith)))
+      let e : i + k - 1 ≡ i - 1 + k = omega arith in
+      rw (← e) (step-down j (omega arith) (omega (arith, length-right k v p))
+      (j .below (i - 1) (omega arith) ∙ rw e (sym (right-kept k v p (i - 1) (omega arith)))))
 
-  pub right-filled : {f : ℕ} → f ≡ length p - (length p - k) → i ≤ f → Joined i p (shiftRight k v p) l
-      → within 0 f (filled false v) l ≡ shiftRight k v p
+  pub right-filled : {f : ℕ} → f ≡ length p - k → i ≤ 0 → Joined (i + k) p (shiftRight k v p) l
+      → within 0 (length p - f) (filled false v) l ≡ shiftRight k v p
   right-filled {f} e n j =
-      filled-up 0 f v l (shiftRight k v p) (omega arith) (omega (arith, j .long, length-right k v p)) (j .long) (λ m b. absurd (omega arith))
-      (λ m b d. right-new k v p m (omega arith) (omega arith)) (λ m b d. j .above m (omega arith))
+      filled-up 0 (length p - f) v l (shiftRight k v p) (omega arith) (omega (arith, j .long, length-right k v p)) (j .long)
+      (λ m b. absurd (omega arith)) (λ m b d. right-new k v p m (omega arith) (omega arith))
+      (λ m b d. j .above m (omega (arith, j .long, length-right k v p)))
 
 -- ---- one row of a column
 

@@ -22,12 +22,12 @@ module _ {x y : List ℕ} (e : length x ≡ length y) where
   pub joined-start : Joined 0 x y y
   joined-start = record { even = e; long = refl; below = λ j h. absurd (omega arith); above = λ j h. refl }
 
-  pub joined-end : Joined (length x) x y x
-  joined-end = record {
+  pub joined-end : {i : ℕ} → length x ≤ i → Joined i x y x
+  joined-end n = record {
     even = e;
     long = e;
     below = λ j h. refl;
-    above = λ j h. List·getD-eq-default x 0 h ∙ sym (List·getD-eq-default y 0 (omega arith));
+    above = λ j h. List·getD-eq-default x 0 (omega arith) ∙ sym (List·getD-eq-default y 0 (omega arith));
   }
 
 module _ {i : ℕ} {x y l : List ℕ} (k : Joined i x y l) {v : ℕ} where

@@ -84,13 +84,13 @@ fn shift_right(part: &mut [u16], count: usize, value: u16)
     ensures { λ r. ⌜ now (part .exit) ≡ shiftRight count value (now (part .entry)) ⌝ }
 {
     let n = part.len();
-    let first = n - kept(n, count);
-    let mut i = n;
-    while first < i {
+    let rest = kept(n, count);
+    let mut i = rest;
+    while 0 < i {
         i -= 1;
-        part[i] = part[i - count];
+        part[i + count] = part[i];
     }
-    fill_cells(part, false, 0, first, value);
+    fill_cells(part, false, 0, n - rest, value);
 }
 
 // The one shift, by `count` cells: 1 for an insert or a delete, the width for rows.
@@ -104,11 +104,12 @@ fn shift(part: &mut [u16], right: bool, count: usize, value: u16)
     }
 }
 
-fn shift_cells(page: &mut [u16], right: bool, count: usize, from: usize, to: usize, value: u16)
+// The cells `from` up to `to` move by one cell.
+fn shift_cells(page: &mut [u16], right: bool, from: usize, to: usize, value: u16)
     requires { ⌜ (from ≤ to) × (to ≤ length (now page)) ⌝ }
-    ensures { λ r. ⌜ now (page .exit) ≡ within from to (shifted right count value) (now (page .entry)) ⌝ }
+    ensures { λ r. ⌜ now (page .exit) ≡ within from to (shifted right 1 value) (now (page .entry)) ⌝ }
 {
-    shift(&mut page[from..to], right, count, value);
+    shift(&mut page[from..to], right, 1, value);
 }
 
 // The edit run at a cell moves by one cell: right for an insert, left for a delete; `value` comes in.
@@ -124,7 +125,19 @@ pub fn shift_edit_run(
     ensures { λ r. ⌜ now (page .exit) ≡ editShifted width protect right value at (now (page .entry)) ⌝ }
 {
     let end = edit_end(page, width, protect, at);
-    shift_cells(page, right, 1, at, end, value);
+    shift_cells(page, right, at, end, value);
+}
+
+// The cells of whole rows move by one row. Each distance is a number that is known when the program is built: these become block moves.
+fn shift_by_row(part: &mut [u16], width: usize, down: bool)
+    requires { ⌜ Width width ⌝ }
+    ensures { λ r. ⌜ now (part .exit) ≡ shifted down width 32 (now (part .entry)) ⌝ }
+{
+    if width == 132 {
+        shift(part, down, 132, 32);
+    } else {
+        shift(part, down, 80, 32);
+    }
 }
 
 // The rows `top` up to `bottom` move by one row: scrolling both ways, row insert, row delete.
@@ -132,5 +145,7 @@ pub fn shift_rows(page: &mut [u16], width: usize, down: bool, top: usize, bottom
     requires { ⌜ Width width × ((top ≤ bottom) × ((bottom ≤ 24) × (length (now page) ≡ 24 * width))) ⌝ }
     ensures { λ r. ⌜ now (page .exit) ≡ rowsShifted width down top bottom (now (page .entry)) ⌝ }
 {
-    shift_cells(page, down, width, top * width, bottom * width, 32);
+    let from = top * width;
+    let to = bottom * width;
+    shift_by_row(&mut page[from..to], width, down);
 }

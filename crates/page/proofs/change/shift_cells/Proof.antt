@@ -25,4 +25,4 @@ shift-cells-spec =
     -- returns
     (λ c.
     let x = c .before .before .before .before .before .args in
-    lent (x .from) (x .to) (shifted (x .right) (x .count) (x .value)) (now (x .page)) (c .before .before .shift .ensures)))
+    lent (x .from) (x .to) (shifted (x .right) 1 (x .value)) (now (x .page)) (c .before .before .shift .ensures)))

@@ -1,8 +1,10 @@
 -- `page::change::shift_rows` meets its contract.
 use native.Mathlib.Omega.{arith}
 use borrow.Author.Needs.{needs}
-use Rattle.rules.specs.Change.{rowsShifted}
+use denote.Ref.{now}
+use Rattle.rules.specs.Change.{shifted, rowsShifted}
 use Rattle.rules.proofs.Rows.{rows-le, rows-small}
+use Rattle.page.proofs.Changes.{lent}
 use Rattle.page.proofs.change.shift_rows.Statement.{statement}
 use Rattle.page.proofs.change.shift_rows.Tie as tie
 
@@ -11,13 +13,23 @@ unfolding rowsShifted
 shift-rows-spec =
     tie.close
     (tie.spec
-    -- mul-shift-cells
-    (λ c. let k = c .before .before .pre in omega (arith, rows-small (k .0) {a = c .before .before .args .top} (omega arith)))
-    -- mul-shift-cells-2
-    (λ c. let k = c .before .before .pre in omega (arith, rows-small (k .0) (k .1 .1 .0)))
-    -- shift-cells-requires
-    (λ c κs. let k = c .before .before .pre in (rows-le (k .0) (k .1 .0), omega (arith, rows-le (k .0) (k .1 .1 .0))))
+    -- mul-from
+    (λ c. let k = c .before .pre in omega (arith, rows-small (k .0) {a = c .before .args .top} (omega arith)))
+    -- mul-to
+    (λ c. let k = c .before .pre in omega (arith, rows-small (k .0) (k .1 .1 .0)))
+    -- mul-shift-by-row
+    (λ c. let k = c .before .pre in omega (arith, rows-small (k .0) {a = c .before .args .top} (omega arith)))
+    -- sub-shift-by-row
+    (λ c. let k = c .before .pre in omega (arith, rows-le (k .0) (k .1 .0), rows-le (k .0) (k .1 .1 .0)))
+    -- part-shift-by-row-start
+    (λ c. let k = c .before .pre in omega (arith, rows-le (k .0) (k .1 .0), rows-le (k .0) (k .1 .1 .0)))
+    -- part-shift-by-row-end
+    (λ c. let k = c .before .pre in omega (arith, rows-le (k .0) (k .1 .1 .0)))
+    -- shift-by-row-requires
+    (λ c κs. search needs)
     -- same-length
     (λ c. search needs)
     -- returns
-    (λ c. c .before .before .shift-cells .ensures))
+    (λ c.
+    let x = c .before .before .before .before .before .args in
+    lent _ _ (shifted (x .down) (x .width) 32) (now (x .page)) (c .before .before .shift-by-row .ensures)))
