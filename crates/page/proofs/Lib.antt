@@ -1,4 +1,5 @@
 pub mod Loop
 pub mod Changes
+pub mod Moved
 pub mod Room
 pub mod Sends
