@@ -1,7 +1,7 @@
 /* wy50.h: the WY-50 alert terminal for C99 and C++. Link with libwy50.a.
  *
  * The caller lends the page (1,920 cells) and the reply room at each call and keeps the state: it goes in by value and comes back by value.
- * The library keeps nothing between calls, allocates nothing and calls nothing but memcpy and memset, so different terminals may run in
+ * The library keeps nothing between calls, allocates nothing and calls nothing but memcpy, memmove and memset, so different terminals may run in
  * different threads.
  *
  * Every call returns, whatever numbers it is handed. It relies on this much of its caller: a pointer goes with a count of elements, is not
