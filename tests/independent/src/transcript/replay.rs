@@ -1,0 +1,198 @@
+//! The calls, and the trace that they leave.
+
+use super::digest::PageDigest;
+use super::line::Line;
+use super::set::set;
+use super::write::*;
+use super::WIDEST_ROOM;
+use crate::state::{Sequence, State};
+use crate::terminal::{answer_number, Outcome, Run, Terminal};
+
+const ROOM_FILLER: u8 = 0xEE;
+
+/// A terminal that obeys script lines and writes the trace.
+pub struct Replay {
+    terminal: Terminal,
+    room: Vec<u8>,
+    count: u64,
+    digest: PageDigest,
+    spelled: Vec<u8>,
+}
+
+impl Replay {
+    pub fn new() -> Replay {
+        Replay {
+            terminal: Terminal::new(),
+            room: vec![ROOM_FILLER; WIDEST_ROOM],
+            count: 0,
+            digest: PageDigest::new(),
+            spelled: Vec::new(),
+        }
+    }
+
+    /// False if the line is bad.
+    pub fn obey(&mut self, line: &Line, out: &mut Vec<u8>) -> bool {
+        if !line.is_output() {
+            return set(&mut self.terminal, line);
+        }
+        self.count += 1;
+        push_number(out, self.count as usize);
+        match line {
+            Line::On => self.on(out),
+            Line::Step { byte, room } => self.step(*byte, *room, out),
+            Line::Run { bytes, room } => self.run(bytes, *room, out),
+            Line::Press { value, room } => self.press(*value, *room, out),
+            _ => self.show(out),
+        }
+        self.write_state(out);
+        out.extend_from_slice(b" page=");
+        push_digest(out, self.digest.of(&self.terminal.page));
+        out.push(b'\n');
+        true
+    }
+
+    fn on(&mut self, out: &mut Vec<u8>) {
+        let outcome = self.terminal.power_on();
+        out.extend_from_slice(b" on answer=");
+        push_number(out, answer_number(outcome) as usize);
+    }
+
+    fn step(&mut self, byte: u8, room: usize, out: &mut Vec<u8>) {
+        let outcome = self.terminal.step(byte, &mut self.room[..room]);
+        out.extend_from_slice(b" step");
+        self.write_outcome(outcome, room, out);
+    }
+
+    fn press(&mut self, value: u8, room: usize, out: &mut Vec<u8>) {
+        let outcome = self.terminal.press(value, &mut self.room[..room]);
+        out.extend_from_slice(b" press");
+        self.write_outcome(outcome, room, out);
+    }
+
+    fn run(&mut self, bytes: &[u8], room: usize, out: &mut Vec<u8>) {
+        let report = self.terminal.run(bytes, &mut self.room[..room]);
+        let Run {
+            answer,
+            taken,
+            replied,
+            refused,
+            rest,
+        } = report;
+        out.extend_from_slice(b" run answer=");
+        push_number(out, answer as usize);
+        out.extend_from_slice(b" taken=");
+        push_number(out, taken);
+        out.extend_from_slice(b" replied=");
+        push_number(out, replied);
+        out.extend_from_slice(b" refused=");
+        push_number(out, refused);
+        out.extend_from_slice(b" rest=");
+        push_bytes(out, rest);
+        self.write_reply(replied, room, out);
+    }
+
+    fn show(&mut self, out: &mut Vec<u8>) {
+        out.extend_from_slice(b" show cells=");
+        for (index, cell) in self.terminal.page.iter().enumerate() {
+            if index > 0 {
+                out.push(b',');
+            }
+            push_number(out, cell.0 as usize);
+        }
+    }
+
+    fn write_outcome(&mut self, outcome: Outcome, room: usize, out: &mut Vec<u8>) {
+        out.extend_from_slice(b" answer=");
+        push_number(out, answer_number(outcome) as usize);
+        self.write_reply(outcome.unwrap_or(0), room, out);
+    }
+
+    /// Writes the reply and fills the room again for the next call.
+    fn write_reply(&mut self, replied: usize, room: usize, out: &mut Vec<u8>) {
+        let (front, beyond) = self.room[..room].split_at_mut(replied);
+        out.extend_from_slice(b" reply=");
+        push_bytes(out, front);
+        let untouched = beyond
+            .iter()
+            .fold(0, |sum, byte| sum | (byte ^ ROOM_FILLER))
+            == 0;
+        out.extend_from_slice(if untouched {
+            b" beyond=1"
+        } else {
+            b" beyond=0"
+        });
+        front.fill(ROOM_FILLER);
+        beyond.fill(ROOM_FILLER);
+    }
+
+    fn write_state(&mut self, out: &mut Vec<u8>) {
+        let state = &self.terminal.state;
+        out.extend_from_slice(b" active=");
+        push_number(out, state.active as usize);
+        out.extend_from_slice(b" cursors=");
+        push_number(out, state.cursors[0] as usize);
+        out.push(b',');
+        push_number(out, state.cursors[1] as usize);
+        out.extend_from_slice(b" split=");
+        push_number(out, state.split as usize);
+        out.extend_from_slice(b" modes=");
+        write_modes(state, out);
+        out.extend_from_slice(b" tabs=");
+        for byte in &state.tab_stops.0.to_be_bytes()[6..] {
+            push_hex(out, *byte);
+        }
+        out.extend_from_slice(b" attributes=");
+        push_bytes(out, &state.attributes);
+        out.extend_from_slice(b" features=");
+        push_bytes(out, &state.features);
+        out.extend_from_slice(b" keys=");
+        write_keys(state, out);
+        out.extend_from_slice(b" bells=");
+        push_number(out, state.bells as usize);
+        out.extend_from_slice(b" pending=");
+        self.spelled.clear();
+        state.sequence.spell(&mut self.spelled);
+        push_bytes(out, &self.spelled);
+        if let Sequence::Overlong(_) = state.sequence {
+            out.push(b'+');
+        }
+    }
+}
+
+fn write_modes(state: &State, out: &mut Vec<u8>) {
+    let modes = &state.modes;
+    for on in [
+        modes.protect,
+        modes.write_protect,
+        modes.insert,
+        modes.autoscroll,
+        modes.locked,
+        modes.local_edit,
+    ] {
+        out.push(b'0' + on as u8);
+    }
+}
+
+fn write_keys(state: &State, out: &mut Vec<u8>) {
+    let mut is_first = true;
+    for (number, key) in state
+        .keys
+        .iter()
+        .enumerate()
+        .filter(|(_, key)| key.length > 0)
+    {
+        if !is_first {
+            out.push(b',');
+        }
+        is_first = false;
+        push_number(out, number);
+        out.push(b':');
+        push_bytes(out, key.kept());
+        if key.length as usize > key.kept().len() {
+            out.push(b'+');
+        }
+    }
+    if is_first {
+        out.push(b'-');
+    }
+}

@@ -1,0 +1,86 @@
+//! Lines that set something.
+
+use super::line::Line;
+use crate::state::{Cell, Key, Sequence, State, CELLS};
+use crate::terminal::Terminal;
+
+const BYTES_PAST_KEY_TEXT: &[u8] = &[0x30; 9];
+
+/// Obeys a line that sets something. False if it doesn't fit the page or has
+/// a sequence that is not in its one spelling.
+pub fn set(terminal: &mut Terminal, line: &Line) -> bool {
+    let Terminal { page, state } = terminal;
+    match line {
+        Line::Length(count) => *page = vec![Cell::NULL; *count],
+        Line::Noise { seed, mask, share } => return fill_with_noise(page, *seed, *mask, *share),
+        Line::Cell { index, value } => match page.get_mut(*index) {
+            Some(cell) => *cell = Cell(*value),
+            None => return false,
+        },
+        Line::Fill {
+            index,
+            count,
+            value,
+        } => match page.get_mut(*index..*index + *count) {
+            Some(cells) => cells.fill(Cell(*value)),
+            None => return false,
+        },
+        Line::Active(segment) => state.active = *segment,
+        Line::Cursor { segment, cell } => state.cursors[*segment] = *cell,
+        Line::Split(row) => state.split = *row,
+        Line::Mode { mode, on } => set_mode(state, *mode, *on),
+        Line::Tab { column, on } => state.tab_stops.set(*column, *on),
+        Line::Attribute { field, value } => state.attributes[*field] = *value,
+        Line::Feature { feature, value } => state.features[*feature] = *value,
+        Line::Key { key, bytes } => state.keys[*key] = Key::holding(bytes),
+        Line::Bells(count) => state.bells = *count,
+        Line::Pending { bytes, overlong } => match sequence_left_by(bytes, *overlong) {
+            Some(sequence) => state.sequence = sequence,
+            None => return false,
+        },
+        _ => return false,
+    }
+    true
+}
+
+fn fill_with_noise(page: &mut [Cell], seed: u32, mask: u16, share: u16) -> bool {
+    if page.len() != CELLS {
+        return false;
+    }
+    let mut x = seed;
+    let mut draw = || {
+        x = x.wrapping_mul(1664525).wrapping_add(1013904223);
+        x
+    };
+    for cell in page {
+        let contents = (draw() >> 16) as u16 & mask & 0xFF7F;
+        let protected = draw() >> 24 < share as u32;
+        *cell = Cell(contents + if protected { 128 } else { 0 });
+    }
+    true
+}
+
+fn set_mode(state: &mut State, mode: usize, on: bool) {
+    let modes = &mut state.modes;
+    *[
+        &mut modes.protect,
+        &mut modes.write_protect,
+        &mut modes.insert,
+        &mut modes.autoscroll,
+        &mut modes.locked,
+        &mut modes.local_edit,
+    ][mode] = on;
+}
+
+fn sequence_left_by(bytes: &[u8], overlong: bool) -> Option<Sequence> {
+    let mut terminal = Terminal::new();
+    terminal.run(bytes, &mut []);
+    if overlong {
+        terminal.run(BYTES_PAST_KEY_TEXT, &mut []);
+    }
+    let sequence = terminal.state.sequence;
+    let mut spelled = Vec::new();
+    sequence.spell(&mut spelled);
+    let is_overlong = matches!(sequence, Sequence::Overlong(_));
+    (spelled == bytes && is_overlong == overlong).then_some(sequence)
+}

@@ -1,0 +1,29 @@
+//! Numbers and bytes as text.
+
+pub fn push_number(out: &mut Vec<u8>, number: usize) {
+    if number >= 10 {
+        push_number(out, number / 10);
+    }
+    out.push(b'0' + (number % 10) as u8);
+}
+
+pub fn push_hex(out: &mut Vec<u8>, byte: u8) {
+    const DIGITS: &[u8; 16] = b"0123456789abcdef";
+    let (high, low) = (byte >> 4, byte & 15);
+    out.extend_from_slice(&[DIGITS[high as usize], DIGITS[low as usize]]);
+}
+
+pub fn push_bytes(out: &mut Vec<u8>, bytes: &[u8]) {
+    if bytes.is_empty() {
+        out.push(b'-');
+    }
+    for &byte in bytes {
+        push_hex(out, byte);
+    }
+}
+
+pub fn push_digest(out: &mut Vec<u8>, digest: u64) {
+    for byte in digest.to_be_bytes() {
+        push_hex(out, byte);
+    }
+}
