@@ -1,4 +1,5 @@
-//! The conformance script: the bench list, the tables, the slips and the corners.
+//! The conformance script: the bench list, the tables, the slips, the corners
+//! and the requests.
 
 mod bench;
 mod book;
@@ -7,6 +8,7 @@ mod moves;
 mod possible;
 mod protection;
 mod tables;
+mod texts;
 mod writing;
 
 use book::Book;
@@ -28,5 +30,6 @@ pub fn script() -> Vec<u8> {
     book.move_corners();
     book.writing_corners();
     book.protection_corners();
+    book.texts();
     book.text
 }

@@ -3,6 +3,7 @@
 mod excursions;
 mod phrases;
 mod scenes;
+mod texts;
 
 use crate::random::Random;
 use crate::state::Sequence;

@@ -12,19 +12,23 @@ mod tabs;
 mod text;
 
 pub use cell::Cell;
-pub use codes::{feature_number, is_attribute, key_number};
+pub use codes::{feature_number, is_attribute, key_number, label_number};
 pub use sequence::{Gathered, Sequence};
 use std::ops::Range;
 pub use tabs::TabStops;
-pub use text::Key;
+pub use text::{is_character, is_key_byte, Key, Label, Message, Text};
 
 pub const ROWS: usize = 24;
 pub const COLUMNS: usize = 80;
 pub const CELLS: usize = ROWS * COLUMNS;
 pub const KEYS: usize = 32;
 pub const KEY_BYTES: usize = 8;
+pub const LABELS: usize = 16;
+pub const LABEL_BYTES: usize = 8;
+pub const MESSAGE_BYTES: usize = 46;
 
 pub const ESC: u8 = 0x1B;
+pub const CR: u8 = 0x0D;
 pub const DEL: u8 = 0x7F;
 
 #[derive(Clone, Copy, PartialEq, Eq, Debug)]
@@ -50,6 +54,10 @@ pub struct State {
     pub keys: [Key; KEYS],
     pub bells: u8,
     pub sequence: Sequence,
+    pub message: Message,
+    pub labels: [Label; LABELS],
+    /// Whether the shifted line is on.
+    pub shifted: bool,
 }
 
 impl State {
@@ -69,15 +77,23 @@ impl State {
             tab_stops: TabStops(0),
             attributes: [b'0'; 4],
             features: *b"1579@",
-            keys: [Key::UNPROGRAMMED; KEYS],
+            keys: [Text::EMPTY; KEYS],
             bells: 0,
             sequence: Sequence::None,
+            message: Text::EMPTY,
+            labels: [Text::EMPTY; LABELS],
+            shifted: false,
         }
     }
 
     pub fn is_possible(&self) -> bool {
         self.has_possible_cursors()
-            && self.keys.iter().all(Key::is_possible)
+            && self.keys.iter().all(|key| key.is_possible(is_key_byte))
+            && self.message.is_possible(is_character)
+            && self
+                .labels
+                .iter()
+                .all(|label| label.is_possible(is_character))
             && self.attributes.iter().all(|&code| is_attribute(code))
             && (0..5).all(|number| feature_number(self.features[number]) == Some(number))
     }

@@ -8,6 +8,8 @@ mod cursor;
 mod replies;
 #[path = "terminal/taking.rs"]
 mod taking;
+#[path = "terminal/texts.rs"]
+mod texts;
 #[path = "terminal/writing.rs"]
 mod writing;
 
@@ -16,7 +18,6 @@ use replies::reply;
 
 const ACK: u8 = 0x06;
 const SOH: u8 = 0x01;
-const CR: u8 = 0x0D;
 const US: u8 = 0x1F;
 
 /// The numbers that come back, but for 0. 5 is not used.

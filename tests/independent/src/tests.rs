@@ -1,5 +1,7 @@
 //! The bench list and the transcript's example.
 
+mod texts;
+
 use crate::state::{Cell, ESC};
 use crate::terminal::{answer_number, Refusal, Terminal};
 use crate::{conformance, generate, transcript};
@@ -201,14 +203,15 @@ fn transcript_example() {
     assert_eq!(outcome, Ok(()));
     let lines: Vec<&str> = trace.lines().collect();
     assert!(lines[0].starts_with("1 on answer=0 active=0 cursors=0,0 split=0 modes=000100 "));
-    assert!(lines[0].ends_with(" keys=- bells=0 pending=- page=ad1806b01441cf25"));
+    assert!(lines[0]
+        .ends_with(" keys=- bells=0 pending=- message=- labels=- shifted=0 page=ad1806b01441cf25"));
     assert!(lines[1].starts_with(
         "2 run answer=0 taken=3 replied=0 refused=0 rest=- reply=- beyond=1 active=0 cursors=1,0 "
     ));
     assert!(lines[1].contains(" modes=010100 "));
     assert!(lines[1].ends_with(" page=2247f1d9654793e4"));
     assert!(lines[2].starts_with("3 step answer=0 reply=- beyond=1 "));
-    assert!(lines[2].ends_with(" pending=1b page=2247f1d9654793e4"));
+    assert!(lines[2].ends_with(" pending=1b message=- labels=- shifted=0 page=2247f1d9654793e4"));
 }
 
 #[test]
@@ -223,6 +226,12 @@ fn bad_lines_are_named() {
         ("pending 1b613552\n", 1),
         ("run  0\n", 1),
         ("on \n", 1),
+        ("label 16 -\n", 1),
+        ("shifted 2\n", 1),
+        ("pending 1b4600\n", 1),
+        ("pending 1b4641+\n", 1),
+        ("pending 1b7a7f\n", 1),
+        ("message 41\npending 1b46+\npending 1b7a57+\nstep\n", 4),
     ] {
         assert_eq!(trace_of(script.as_bytes()).1, Err(line), "{script}");
     }

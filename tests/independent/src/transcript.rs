@@ -4,6 +4,7 @@ mod digest;
 mod line;
 mod replay;
 mod set;
+mod state;
 mod words;
 mod write;
 

@@ -96,7 +96,7 @@ impl Book {
     pub fn pending(&mut self, bytes: &[u8]) {
         self.line(Line::Pending {
             bytes: bytes.to_vec(),
-            overlong: false,
+            spoilt: false,
         });
     }
 

@@ -107,7 +107,7 @@ impl Book {
         for byte in *b"1\x1b\xff\x7f" {
             self.line(Line::Pending {
                 bytes: b"\x1bzk".to_vec(),
-                overlong: true,
+                spoilt: true,
             });
             self.step(byte);
         }
@@ -152,7 +152,7 @@ impl Book {
         self.step(b'A');
     }
 
-    fn impossible(&mut self, title: &str, settings: &[Line]) {
+    pub(super) fn impossible(&mut self, title: &str, settings: &[Line]) {
         self.case(&format!("impossible: {title}"));
         for line in settings {
             self.line(line.clone());

@@ -159,6 +159,7 @@ impl Book {
         }
         self.case("ESC z with every value");
         for value in 0x00..=0x7F {
+            self.pending(b"");
             self.run(&[ESC, b'z', value, b'v', value, DEL]);
         }
         for value in (0x40..=0x4F).chain(0x60..=0x6F) {

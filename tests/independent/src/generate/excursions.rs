@@ -44,7 +44,7 @@ impl Generator {
 
     pub fn impossible(&mut self) {
         let high_byte = self.random.byte_within(0x80..=0xFF);
-        let line = match self.random.below(9) {
+        let line = match self.random.below(11) {
             0 => Line::Active(self.random.pick(&[1, 2, 3, 128, 255])),
             1 => Line::Split(self.random.pick(&[1, 25, 26, 128, 255])),
             2 => Line::Cursor {
@@ -70,7 +70,8 @@ impl Generator {
                     bytes,
                 }
             }
-            7 => {
+            7 | 8 => self.impossible_text(),
+            9 => {
                 let value = self
                     .random
                     .pick(&[0, 0x1F, 0x21, 0x2F, 0x40, 0x6F, 0x7F, high_byte]);

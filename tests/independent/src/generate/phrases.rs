@@ -1,9 +1,9 @@
 //! Phrases: bytes that belong together.
 
 use super::Generator;
-use crate::state::{COLUMNS, DEL, ESC, KEYS, ROWS};
+use crate::state::{COLUMNS, DEL, ESC, ROWS};
 
-const KNOWN_ESCAPES: &[u8] = b" !\"#&'()*+,-./0124567:;=?AEGHIJKMNOQRTVWY]`abijklqrtxyz{}";
+const KNOWN_ESCAPES: &[u8] = b" !\"#&'()*+,-./0124567:;=?AEFGHIJKMNOQRTVWY]`abijklqrtxyz{}";
 const MOVES: &[u8] = &[0x08, 0x09, 0x0A, 0x0B, 0x0C, 0x0D, 0x1E, 0x1F];
 
 impl Generator {
@@ -19,6 +19,8 @@ impl Generator {
             (6, Generator::compose_decimal_address),
             (4, Generator::compose_split),
             (5, Generator::compose_key),
+            (4, Generator::compose_label),
+            (3, Generator::compose_message),
             (5, Generator::compose_attribute_or_graphic),
             (2, Generator::compose_field_attribute),
             (3, Generator::compose_feature),
@@ -53,11 +55,11 @@ impl Generator {
         }
     }
 
-    fn text_byte(&mut self) -> u8 {
+    pub(super) fn text_byte(&mut self) -> u8 {
         self.random.byte_within(b' '..=b'~')
     }
 
-    fn push_text(&mut self, count: usize, phrase: &mut Vec<u8>) {
+    pub(super) fn push_text(&mut self, count: usize, phrase: &mut Vec<u8>) {
         for _ in 0..count {
             phrase.push(self.text_byte());
         }
@@ -192,38 +194,6 @@ impl Generator {
         if self.random.coin() {
             phrase.extend([ESC, self.random.pick(b"}}JK]")]);
         }
-    }
-
-    pub(super) fn key_value(&mut self) -> u8 {
-        match self.random.below(KEYS) as u8 {
-            number if number < 16 => 0x40 + number,
-            number => 0x60 + number - 16,
-        }
-    }
-
-    pub(super) fn key_byte(&mut self) -> u8 {
-        match self.random.below(4) {
-            0 => self.random.byte_within(0x00..=0x1F),
-            _ => self.text_byte(),
-        }
-    }
-
-    fn compose_key(&mut self, phrase: &mut Vec<u8>) {
-        phrase.extend([ESC, b'z']);
-        if self.random.once_in(8) {
-            phrase.push(self.random.byte_within(0x00..=0x7F));
-            return;
-        }
-        phrase.push(self.key_value());
-        let count = match self.random.below(6) {
-            0 => self.random.within(9..=20),
-            1 => self.random.within(7..=9),
-            _ => self.random.within(0..=8),
-        };
-        for _ in 0..count {
-            phrase.push(self.key_byte());
-        }
-        phrase.push(DEL);
     }
 
     fn attribute(&mut self) -> u8 {

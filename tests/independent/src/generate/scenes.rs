@@ -1,7 +1,7 @@
 //! Scenes: a page and a state set by lines.
 
 use super::Generator;
-use crate::state::{CELLS, COLUMNS, ESC, KEYS, ROWS};
+use crate::state::{CELLS, COLUMNS, ESC, KEYS, LABEL_BYTES, MESSAGE_BYTES, ROWS};
 use crate::transcript::Line;
 
 const PROTECTED: u16 = 128;
@@ -122,7 +122,7 @@ impl Generator {
     }
 
     pub fn set_something(&mut self) {
-        let line = match self.random.below(8) {
+        let line = match self.random.below(10) {
             0 => Line::Tab {
                 column: self.random.below(COLUMNS),
                 on: self.random.coin(),
@@ -152,6 +152,7 @@ impl Generator {
                 }
             }
             4 => Line::Bells(self.random.pick(&[0, 1, 128, 254, 255])),
+            5 | 6 => self.set_text(),
             _ => Line::Mode {
                 mode: self.random.within(1..=5),
                 on: self.random.coin(),
@@ -163,8 +164,8 @@ impl Generator {
     pub fn pending(&mut self) -> Line {
         let any = |generator: &mut Generator| generator.random.byte_within(0x00..=0x7F);
         let mut bytes = vec![ESC];
-        let mut overlong = false;
-        match self.random.below(14) {
+        let mut spoilt = false;
+        match self.random.below(17) {
             0 => bytes.clear(),
             1 => {}
             2 => bytes.push(b'='),
@@ -188,15 +189,28 @@ impl Generator {
                     bytes.push(self.key_byte());
                 }
             }
+            13 => {
+                bytes.extend([b'z', self.label_field()]);
+                bytes.extend(self.characters(LABEL_BYTES));
+            }
+            14 => {
+                bytes.push(b'F');
+                bytes.extend(self.characters(MESSAGE_BYTES));
+            }
+            15 => {
+                spoilt = true;
+                let field = self.label_field();
+                bytes.extend(self.random.pick(&[&[b'z', field][..], b"F"]));
+            }
             _ => {
                 bytes.push(b'z');
-                overlong = self.random.coin();
-                if overlong {
+                spoilt = self.random.coin();
+                if spoilt {
                     bytes.push(self.key_value());
                 }
             }
         }
-        Line::Pending { bytes, overlong }
+        Line::Pending { bytes, spoilt }
     }
 
     fn digit(&mut self) -> u8 {

@@ -9,6 +9,15 @@ pub fn key_number(value: u8) -> Option<usize> {
     }
 }
 
+/// The number of the label in this field: 30h to 37h, then 50h to 57h.
+pub fn label_number(field: u8) -> Option<usize> {
+    match field {
+        0x30..=0x37 => Some(field as usize - 0x30),
+        0x50..=0x57 => Some(field as usize - 0x50 + 8),
+        _ => None,
+    }
+}
+
 pub fn is_attribute(code: u8) -> bool {
     matches!(code, b' ' | 0x30..=0x3F | 0x70..=0x7E)
 }

@@ -1,13 +1,15 @@
 //! The sequence under way.
 
-use super::{ESC, KEY_BYTES};
+use super::{ESC, MESSAGE_BYTES};
+
+const MOST_ARGUMENTS: usize = MESSAGE_BYTES;
 
 /// A command that awaits arguments, with those that came so far.
 #[derive(Clone, Copy, PartialEq, Eq, Debug)]
 pub struct Gathered {
     command: u8,
     length: u8,
-    bytes: [u8; 1 + KEY_BYTES],
+    bytes: [u8; MOST_ARGUMENTS],
 }
 
 impl Gathered {
@@ -15,7 +17,7 @@ impl Gathered {
         Gathered {
             command,
             length: 0,
-            bytes: [0; 1 + KEY_BYTES],
+            bytes: [0; MOST_ARGUMENTS],
         }
     }
 
@@ -25,6 +27,14 @@ impl Gathered {
 
     pub fn arguments(&self) -> &[u8] {
         &self.bytes[..self.length as usize]
+    }
+
+    /// The same command with its first arguments alone.
+    pub fn cut_to(self, count: usize) -> Gathered {
+        let mut cut = Gathered::new(self.command);
+        cut.length = count as u8;
+        cut.bytes[..count].copy_from_slice(&self.bytes[..count]);
+        cut
     }
 
     pub fn push(&mut self, byte: u8) {
@@ -46,8 +56,8 @@ pub enum Sequence {
     None,
     Escape,
     Arguments(Gathered),
-    /// Too many bytes for the key of this value, swallowed up to DEL.
-    Overlong(u8),
+    /// A text that will be refused, without its bytes: it is swallowed to its end.
+    Spoilt(Gathered),
 }
 
 impl Sequence {
@@ -56,11 +66,10 @@ impl Sequence {
         match self {
             Sequence::None => {}
             Sequence::Escape => bytes.push(ESC),
-            Sequence::Arguments(gathered) => {
+            Sequence::Arguments(gathered) | Sequence::Spoilt(gathered) => {
                 bytes.extend_from_slice(&[ESC, gathered.command]);
                 bytes.extend_from_slice(gathered.arguments());
             }
-            Sequence::Overlong(value) => bytes.extend_from_slice(&[ESC, b'z', *value]),
         }
     }
 }

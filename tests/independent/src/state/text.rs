@@ -1,36 +1,52 @@
-//! Texts of keys.
+//! Texts of keys, of labels and of the host message.
 
-use super::{DEL, KEY_BYTES};
+use super::{DEL, KEY_BYTES, LABEL_BYTES, MESSAGE_BYTES};
 
-/// A key's text. The length may be impossible; bytes beyond it mean nothing.
+/// A text of at most so many bytes. The length may be impossible; bytes beyond
+/// it mean nothing.
 #[derive(Clone, Copy, PartialEq, Eq, Debug)]
-pub struct Key {
+pub struct Text<const MOST: usize> {
     pub length: u8,
-    pub bytes: [u8; KEY_BYTES],
+    pub bytes: [u8; MOST],
 }
 
-impl Key {
-    pub const UNPROGRAMMED: Key = Key {
+pub type Key = Text<KEY_BYTES>;
+pub type Label = Text<LABEL_BYTES>;
+pub type Message = Text<MESSAGE_BYTES>;
+
+impl<const MOST: usize> Text<MOST> {
+    pub const EMPTY: Self = Text {
         length: 0,
-        bytes: [0; KEY_BYTES],
+        bytes: [0; MOST],
     };
 
-    /// Takes over the length as it is and the first 8 bytes.
-    pub fn holding(text: &[u8]) -> Key {
-        let mut key = Key {
+    /// Takes over the length as it is and the first bytes.
+    pub fn holding(text: &[u8]) -> Self {
+        let kept = text.len().min(MOST);
+        let mut bytes = [0; MOST];
+        bytes[..kept].copy_from_slice(&text[..kept]);
+        Text {
             length: text.len() as u8,
-            bytes: [0; KEY_BYTES],
-        };
-        let kept = text.len().min(KEY_BYTES);
-        key.bytes[..kept].copy_from_slice(&text[..kept]);
-        key
+            bytes,
+        }
     }
 
     pub fn kept(&self) -> &[u8] {
-        &self.bytes[..KEY_BYTES.min(self.length as usize)]
+        &self.bytes[..MOST.min(self.length as usize)]
     }
 
-    pub fn is_possible(&self) -> bool {
-        self.length as usize <= KEY_BYTES && self.kept().iter().all(|&byte| byte < DEL)
+    /// Whether the length is kept and each byte is one of these.
+    pub fn is_possible(&self, is_good: fn(u8) -> bool) -> bool {
+        self.length as usize <= MOST && self.kept().iter().all(|&byte| is_good(byte))
     }
+}
+
+/// What a key may hold.
+pub fn is_key_byte(byte: u8) -> bool {
+    byte < DEL
+}
+
+/// What a label or the host message may hold.
+pub fn is_character(byte: u8) -> bool {
+    (b' '..=b'~').contains(&byte)
 }

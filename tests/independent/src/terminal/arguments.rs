@@ -16,13 +16,13 @@ impl Terminal {
             (b'x', []) => self.split_choice(gathered, byte),
             (b'x', _) => self.split_at(byte),
             (b'a', _) => self.decimal_address(gathered, byte),
-            (b'z', []) => self.key_value(gathered, byte),
-            (b'z', _) => self.key_text(gathered, byte),
+            (b'z', []) => self.text_place(gathered, byte),
+            (b'z' | b'F', _) => self.text(gathered, byte),
             _ => self.await_more(gathered, byte),
         }
     }
 
-    fn await_more(&mut self, mut gathered: Gathered, byte: u8) -> Outcome {
+    pub(super) fn await_more(&mut self, mut gathered: Gathered, byte: u8) -> Outcome {
         gathered.push(byte);
         self.await_next(Sequence::Arguments(gathered))
     }
@@ -129,38 +129,6 @@ impl Terminal {
         };
         self.state.cursors[1] = lower_home as u16;
         self.home()
-    }
-
-    fn key_value(&mut self, gathered: Gathered, byte: u8) -> Outcome {
-        match key_number(byte) {
-            Some(_) => self.await_more(gathered, byte),
-            None => Err(Refusal::BadArgument),
-        }
-    }
-
-    fn key_text(&mut self, gathered: Gathered, byte: u8) -> Outcome {
-        let value = gathered.arguments()[0];
-        let text = &gathered.arguments()[1..];
-        if byte == DEL {
-            self.program_key(value, text)
-        } else if text.len() < KEY_BYTES {
-            self.await_more(gathered, byte)
-        } else {
-            self.await_next(Sequence::Overlong(value))
-        }
-    }
-
-    pub(super) fn swallow(&mut self, value: u8, byte: u8) -> Outcome {
-        if byte == DEL {
-            return Err(Refusal::BadArgument);
-        }
-        self.await_next(Sequence::Overlong(value))
-    }
-
-    fn program_key(&mut self, value: u8, text: &[u8]) -> Outcome {
-        let number = key_number(value).ok_or(Refusal::BadArgument)?;
-        self.state.keys[number] = Key::holding(text);
-        DONE
     }
 }
 

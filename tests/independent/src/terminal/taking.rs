@@ -15,7 +15,7 @@ impl Terminal {
             Sequence::None => self.plain(byte, room),
             Sequence::Escape => self.escape(byte, room),
             Sequence::Arguments(gathered) => self.argument(gathered, byte),
-            Sequence::Overlong(value) => self.swallow(value, byte),
+            Sequence::Spoilt(head) => self.swallow(head, byte),
         };
         if outcome == Err(Refusal::NoRoom) {
             self.state.sequence = before;
@@ -49,7 +49,7 @@ impl Terminal {
 
     fn escape(&mut self, byte: u8, room: &mut [u8]) -> Outcome {
         match byte {
-            b'=' | b'-' | b'A' | b'G' | b'H' | b'!' | b'.' | b'`' | b'x' | b'a' | b'z' => {
+            b'=' | b'-' | b'A' | b'G' | b'H' | b'!' | b'.' | b'`' | b'x' | b'a' | b'z' | b'F' => {
                 self.await_next(Sequence::Arguments(Gathered::new(byte)))
             }
             b' ' => reply(room, b"50\r"),

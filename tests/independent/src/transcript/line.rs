@@ -2,7 +2,7 @@
 
 use super::words::*;
 use super::write::*;
-use crate::state::{COLUMNS, KEYS};
+use crate::state::{COLUMNS, KEYS, LABELS};
 
 const LONGEST_PAGE: usize = 4000;
 
@@ -53,8 +53,14 @@ pub enum Line {
     Bells(u8),
     Pending {
         bytes: Vec<u8>,
-        overlong: bool,
+        spoilt: bool,
     },
+    Message(Vec<u8>),
+    Label {
+        label: usize,
+        bytes: Vec<u8>,
+    },
+    Shifted(bool),
     On,
     Step {
         byte: u8,
@@ -112,11 +118,20 @@ impl Line {
                 push_bytes(out, bytes);
             }
             Line::Bells(count) => word(out, &format!("bells {count}")),
-            Line::Pending { bytes, overlong } => {
+            Line::Pending { bytes, spoilt } => {
                 word(out, "pending ");
                 push_bytes(out, bytes);
-                word(out, if *overlong { "+" } else { "" });
+                word(out, if *spoilt { "+" } else { "" });
             }
+            Line::Message(bytes) => {
+                word(out, "message ");
+                push_bytes(out, bytes);
+            }
+            Line::Label { label, bytes } => {
+                word(out, &format!("label {label} "));
+                push_bytes(out, bytes);
+            }
+            Line::Shifted(on) => word(out, &format!("shifted {}", *on as u8)),
             Line::On => word(out, "on"),
             Line::Step { byte, room } => word(out, &format!("step {byte:02x} {room}")),
             Line::Run { bytes, room } => {
@@ -172,10 +187,16 @@ impl Line {
             },
             "key" => Line::Key {
                 key: number(words.next()?, KEYS - 1)?,
-                bytes: hex(words.next()?).filter(|bytes| bytes.len() <= 255)?,
+                bytes: text_bytes(words.next()?)?,
             },
             "bells" => Line::Bells(number(words.next()?, 255)? as u8),
             "pending" => pending(words.next()?)?,
+            "message" => Line::Message(text_bytes(words.next()?)?),
+            "label" => Line::Label {
+                label: number(words.next()?, LABELS - 1)?,
+                bytes: text_bytes(words.next()?)?,
+            },
+            "shifted" => Line::Shifted(flag(words.next()?)?),
             "on" => Line::On,
             "step" => Line::Step {
                 byte: hex_byte(words.next()?)?,
@@ -208,6 +229,6 @@ fn pending(word: &str) -> Option<Line> {
     let bare = word.strip_suffix('+');
     Some(Line::Pending {
         bytes: hex(bare.unwrap_or(word))?,
-        overlong: bare.is_some(),
+        spoilt: bare.is_some(),
     })
 }

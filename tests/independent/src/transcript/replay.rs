@@ -3,9 +3,9 @@
 use super::digest::PageDigest;
 use super::line::Line;
 use super::set::set;
+use super::state::write_state;
 use super::write::*;
 use super::WIDEST_ROOM;
-use crate::state::{Sequence, State};
 use crate::terminal::{answer_number, Outcome, Run, Terminal};
 
 const ROOM_FILLER: u8 = 0xEE;
@@ -16,7 +16,6 @@ pub struct Replay {
     room: Vec<u8>,
     count: u64,
     digest: PageDigest,
-    spelled: Vec<u8>,
 }
 
 impl Replay {
@@ -26,7 +25,6 @@ impl Replay {
             room: vec![ROOM_FILLER; WIDEST_ROOM],
             count: 0,
             digest: PageDigest::new(),
-            spelled: Vec::new(),
         }
     }
 
@@ -44,7 +42,7 @@ impl Replay {
             Line::Press { value, room } => self.press(*value, *room, out),
             _ => self.show(out),
         }
-        self.write_state(out);
+        write_state(&self.terminal.state, out);
         out.extend_from_slice(b" page=");
         push_digest(out, self.digest.of(&self.terminal.page));
         out.push(b'\n');
@@ -123,76 +121,5 @@ impl Replay {
         });
         front.fill(ROOM_FILLER);
         beyond.fill(ROOM_FILLER);
-    }
-
-    fn write_state(&mut self, out: &mut Vec<u8>) {
-        let state = &self.terminal.state;
-        out.extend_from_slice(b" active=");
-        push_number(out, state.active as usize);
-        out.extend_from_slice(b" cursors=");
-        push_number(out, state.cursors[0] as usize);
-        out.push(b',');
-        push_number(out, state.cursors[1] as usize);
-        out.extend_from_slice(b" split=");
-        push_number(out, state.split as usize);
-        out.extend_from_slice(b" modes=");
-        write_modes(state, out);
-        out.extend_from_slice(b" tabs=");
-        for byte in &state.tab_stops.0.to_be_bytes()[6..] {
-            push_hex(out, *byte);
-        }
-        out.extend_from_slice(b" attributes=");
-        push_bytes(out, &state.attributes);
-        out.extend_from_slice(b" features=");
-        push_bytes(out, &state.features);
-        out.extend_from_slice(b" keys=");
-        write_keys(state, out);
-        out.extend_from_slice(b" bells=");
-        push_number(out, state.bells as usize);
-        out.extend_from_slice(b" pending=");
-        self.spelled.clear();
-        state.sequence.spell(&mut self.spelled);
-        push_bytes(out, &self.spelled);
-        if let Sequence::Overlong(_) = state.sequence {
-            out.push(b'+');
-        }
-    }
-}
-
-fn write_modes(state: &State, out: &mut Vec<u8>) {
-    let modes = &state.modes;
-    for on in [
-        modes.protect,
-        modes.write_protect,
-        modes.insert,
-        modes.autoscroll,
-        modes.locked,
-        modes.local_edit,
-    ] {
-        out.push(b'0' + on as u8);
-    }
-}
-
-fn write_keys(state: &State, out: &mut Vec<u8>) {
-    let mut is_first = true;
-    for (number, key) in state
-        .keys
-        .iter()
-        .enumerate()
-        .filter(|(_, key)| key.length > 0)
-    {
-        if !is_first {
-            out.push(b',');
-        }
-        is_first = false;
-        push_number(out, number);
-        out.push(b':');
-        push_bytes(out, key.kept());
-        if key.length as usize > key.kept().len() {
-            out.push(b'+');
-        }
-    }
-    if is_first {
-        out.push(b'-');
     }
 }

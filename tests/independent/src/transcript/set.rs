@@ -1,10 +1,12 @@
 //! Lines that set something.
 
 use super::line::Line;
-use crate::state::{Cell, Key, Sequence, State, CELLS};
+use crate::state::{key_number, Cell, Sequence, State, Text, CELLS};
 use crate::terminal::Terminal;
 
-const BYTES_PAST_KEY_TEXT: &[u8] = &[0x30; 9];
+/// What spoils a text under way.
+const PAST_KEY_TEXT: &[u8] = &[0x30; 9];
+const BAD_CHARACTER: &[u8] = &[0x00];
 
 /// Obeys a line that sets something. False if it doesn't fit the page or has
 /// a sequence that is not in its one spelling.
@@ -32,12 +34,15 @@ pub fn set(terminal: &mut Terminal, line: &Line) -> bool {
         Line::Tab { column, on } => state.tab_stops.set(*column, *on),
         Line::Attribute { field, value } => state.attributes[*field] = *value,
         Line::Feature { feature, value } => state.features[*feature] = *value,
-        Line::Key { key, bytes } => state.keys[*key] = Key::holding(bytes),
+        Line::Key { key, bytes } => state.keys[*key] = Text::holding(bytes),
         Line::Bells(count) => state.bells = *count,
-        Line::Pending { bytes, overlong } => match sequence_left_by(bytes, *overlong) {
+        Line::Pending { bytes, spoilt } => match sequence_left_by(bytes, *spoilt) {
             Some(sequence) => state.sequence = sequence,
             None => return false,
         },
+        Line::Message(bytes) => state.message = Text::holding(bytes),
+        Line::Label { label, bytes } => state.labels[*label] = Text::holding(bytes),
+        Line::Shifted(on) => state.shifted = *on,
         _ => return false,
     }
     true
@@ -72,15 +77,23 @@ fn set_mode(state: &mut State, mode: usize, on: bool) {
     ][mode] = on;
 }
 
-fn sequence_left_by(bytes: &[u8], overlong: bool) -> Option<Sequence> {
+fn sequence_left_by(bytes: &[u8], spoilt: bool) -> Option<Sequence> {
     let mut terminal = Terminal::new();
     terminal.run(bytes, &mut []);
-    if overlong {
-        terminal.run(BYTES_PAST_KEY_TEXT, &mut []);
+    if spoilt {
+        let is_key_text = bytes
+            .get(2)
+            .is_some_and(|&value| key_number(value).is_some());
+        let spoiler = if is_key_text {
+            PAST_KEY_TEXT
+        } else {
+            BAD_CHARACTER
+        };
+        terminal.run(spoiler, &mut []);
     }
     let sequence = terminal.state.sequence;
     let mut spelled = Vec::new();
     sequence.spell(&mut spelled);
-    let is_overlong = matches!(sequence, Sequence::Overlong(_));
-    (spelled == bytes && is_overlong == overlong).then_some(sequence)
+    let is_spoilt = matches!(sequence, Sequence::Spoilt(_));
+    (spelled == bytes && is_spoilt == spoilt).then_some(sequence)
 }

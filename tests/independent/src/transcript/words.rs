@@ -30,6 +30,11 @@ pub fn hex(word: &str) -> Option<Vec<u8>> {
     }
 }
 
+/// Bytes whose number a text's length can say.
+pub fn text_bytes(word: &str) -> Option<Vec<u8>> {
+    hex(word).filter(|bytes| bytes.len() <= 255)
+}
+
 pub fn hex_byte(word: &str) -> Option<u8> {
     match word.as_bytes() {
         &[high, low] => hex_pair(high, low),

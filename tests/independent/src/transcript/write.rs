@@ -7,6 +7,10 @@ pub fn push_number(out: &mut Vec<u8>, number: usize) {
     out.push(b'0' + (number % 10) as u8);
 }
 
+pub fn push_flag(out: &mut Vec<u8>, on: bool) {
+    out.push(b'0' + on as u8);
+}
+
 pub fn push_hex(out: &mut Vec<u8>, byte: u8) {
     const DIGITS: &[u8; 16] = b"0123456789abcdef";
     let (high, low) = (byte >> 4, byte & 15);
