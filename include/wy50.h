@@ -23,7 +23,10 @@ enum {
     WY50_CELLS = 1920,         /* the page, in reading order */
     WY50_LONGEST_REPLY = 1944, /* a step that has this room is never answered 6 */
     WY50_KEYS = 32,
-    WY50_KEY_BYTES = 8
+    WY50_KEY_BYTES = 8,
+    WY50_LABELS = 16,
+    WY50_LABEL_BYTES = 8,
+    WY50_MESSAGE_BYTES = 46
 };
 
 /* What a call answers. */
@@ -31,7 +34,7 @@ enum {
     WY50_DONE = 0,         /* done, or more bytes are awaited */
     WY50_HIGH_BYTE = 1,    /* a byte 80h to FFh; nothing changed */
     WY50_UNKNOWN = 2,      /* no such byte after ESC; the sequence is cleared */
-    WY50_BAD_ARGUMENT = 3, /* an argument outside its range, no such key or segment; the sequence is cleared */
+    WY50_BAD_ARGUMENT = 3, /* an argument outside its range, a text too long or with a bad byte, no such key or segment; the sequence is cleared */
     WY50_BARRED = 4,       /* a guarded cell or protect mode bars it; the sequence is cleared */
                            /* 5 is unused: 32 keys of 8 bytes are never over 256 */
     WY50_NO_ROOM = 6,      /* the reply is longer than the room; nothing changed, the byte may come again */
@@ -46,11 +49,18 @@ enum {
     WY50_GRAPHIC = 2
 };
 
-/* A function key: the first len of bytes, each below 7Fh. len is at most 8; 0 is a key that is not programmed. */
+/* A function key: the first len of bytes, each below 7Fh. len is at most 8; 0 is a key that is not programmed. A key label likewise: its bytes
+ * are 20h to 7Eh, and 0 is an empty label. What the library writes has zeros behind the text. */
 typedef struct wy50_key {
     uint8_t len;
     uint8_t bytes[WY50_KEY_BYTES];
 } wy50_key;
+
+/* The host message: the first len of bytes, each 20h to 7Eh. len is at most 46; 0 is no message. */
+typedef struct wy50_message {
+    uint8_t len;
+    uint8_t bytes[WY50_MESSAGE_BYTES];
+} wy50_message;
 
 /* The page is one segment, or split into two at a row. */
 typedef struct wy50_screen {
@@ -91,8 +101,12 @@ enum {
     WY50_FIELD_ATTRIBUTE = 16, /* ESC A */
     WY50_FIELD_NUMBER = 17,    /* ESC A n: first is the field code */
     WY50_KEY_VALUE = 18,       /* ESC z */
-    WY50_KEY_TEXT = 19,        /* ESC z value: first is the value, wy50_state.gathered the text so far */
-    WY50_KEY_OVER = 20         /* ESC z value and more than 8 bytes: first is the value */
+    WY50_KEY_TEXT = 19,        /* ESC z value, a key's: first is the value, second counts the bytes of wy50_state.gathered, the text so far */
+    WY50_KEY_OVER = 20,        /* ESC z value and more than 8 bytes: first is the value */
+    WY50_LABEL_TEXT = 21,      /* ESC z value, a label's: first is the value, second counts the bytes gathered */
+    WY50_LABEL_SPOILT = 22,    /* ESC z value and more than 8 bytes, or a bad one: first is the value */
+    WY50_MESSAGE_TEXT = 23,    /* ESC F: second counts the bytes gathered */
+    WY50_MESSAGE_SPOILT = 24   /* ESC F and more than 46 bytes, or a bad one */
 };
 
 /* The sequence under way. A number that its kind does not have is 0. */
@@ -112,22 +126,26 @@ enum {
     WY50_SCROLLING = 4       /* '<' '=' '>' '?' smooth at 1, 2, 4, 8 rows a second, '@' jump */
 };
 
-/* The state: numbers alone, without padding, so that memcmp compares two states and a state can be saved as its 406 bytes.
+/* The state: numbers alone, without padding, so that memcmp compares two states and a state can be saved as its 636 bytes.
  *
  * A program may read it and may fill it in. Numbers that are no possible state do no harm: a call that is handed them answers 7, replies
- * nothing and gives them back as they came. A mode or a tab stop that is neither 0 nor 1, a sequence of no kind above, and a number other
- * than 0 that its kind does not have are such numbers too. The bytes of a key beyond its len are not looked at.
+ * nothing and gives them back as they came. A mode, a tab stop or a shifted line that is neither 0 nor 1, a sequence of no kind above, and a
+ * number other than 0 that its kind does not have are such numbers too. The bytes of a key, a label or the message beyond its len are not looked
+ * at, and no more are the bytes gathered beyond those that the sequence counts: they mean nothing, and a call that is not refused with 7 gives zeros there.
  */
 typedef struct wy50_state {
     wy50_screen screen;
     wy50_modes modes;
     uint16_t bells; /* 07h counted modulo 256: below 256 */
     wy50_sequence sequence;
-    wy50_key gathered;          /* the key text under way */
-    uint8_t tabs[WY50_COLUMNS]; /* by column: 1 a tab stop, 0 none */
-    uint8_t attributes[4];      /* of ESC A: 20h, 30h to 3Fh or 70h to 7Eh */
-    uint8_t features[5];        /* of ESC `, by the places above */
-    wy50_key keys[WY50_KEYS];   /* 40h to 4Fh, then 60h to 6Fh */
+    uint8_t gathered[WY50_MESSAGE_BYTES]; /* the bytes of a text under way; the sequence counts them */
+    uint8_t tabs[WY50_COLUMNS];           /* by column: 1 a tab stop, 0 none */
+    uint8_t attributes[4];                /* of ESC A: 20h, 30h to 3Fh or 70h to 7Eh */
+    uint8_t features[5];                  /* of ESC `, by the places above */
+    wy50_key keys[WY50_KEYS];             /* 40h to 4Fh, then 60h to 6Fh */
+    wy50_key labels[WY50_LABELS];         /* fields 30h to 37h, then 50h to 57h, which are the shifted line's */
+    wy50_message message;                 /* of ESC F */
+    uint16_t shifted;                     /* the shifted line: 0 off, 1 on */
 } wy50_state;
 
 typedef struct wy50_power_on_result {

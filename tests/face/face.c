@@ -65,21 +65,25 @@ static int same(const wy50_state *a, const wy50_state *b)
 static void layout(void)
 {
     CHECK(sizeof(wy50_key) == 9);
+    CHECK(sizeof(wy50_message) == 47);
     CHECK(sizeof(wy50_screen) == 6);
     CHECK(sizeof(wy50_modes) == 6);
     CHECK(sizeof(wy50_sequence) == 6);
-    CHECK(sizeof(wy50_state) == 406);
+    CHECK(sizeof(wy50_state) == 636);
     CHECK(offsetof(wy50_state, modes) == 6);
     CHECK(offsetof(wy50_state, bells) == 12);
     CHECK(offsetof(wy50_state, sequence) == 14);
     CHECK(offsetof(wy50_state, gathered) == 20);
-    CHECK(offsetof(wy50_state, tabs) == 29);
-    CHECK(offsetof(wy50_state, attributes) == 109);
-    CHECK(offsetof(wy50_state, features) == 113);
-    CHECK(offsetof(wy50_state, keys) == 118);
-    CHECK(sizeof(wy50_power_on_result) == 408);
-    CHECK(sizeof(wy50_step_result) == 424);
-    CHECK(sizeof(wy50_run_result) == 440);
+    CHECK(offsetof(wy50_state, tabs) == 66);
+    CHECK(offsetof(wy50_state, attributes) == 146);
+    CHECK(offsetof(wy50_state, features) == 150);
+    CHECK(offsetof(wy50_state, keys) == 155);
+    CHECK(offsetof(wy50_state, labels) == 443);
+    CHECK(offsetof(wy50_state, message) == 587);
+    CHECK(offsetof(wy50_state, shifted) == 634);
+    CHECK(sizeof(wy50_power_on_result) == 638);
+    CHECK(sizeof(wy50_step_result) == 656);
+    CHECK(sizeof(wy50_run_result) == 672);
     CHECK(sizeof(wy50_press_result) == 16);
     part("sizes and offsets");
 }
@@ -111,6 +115,20 @@ static void set_key(wy50_key *k, const char *text)
     memcpy(k->bytes, text, k->len);
 }
 
+static void set_message(const char *text)
+{
+    memset(&expected.message, 0, sizeof expected.message);
+    expected.message.len = (uint8_t)strlen(text);
+    memcpy(expected.message.bytes, text, expected.message.len);
+}
+
+/* A text under way. */
+static void gathering(uint16_t kind, uint8_t first, const char *text)
+{
+    sequence_is(kind, first, (uint8_t)strlen(text), 0);
+    memcpy(expected.gathered, text, strlen(text));
+}
+
 static void members(void)
 {
     EXPECT("AB", expected.screen.cursor0 = 2);
@@ -134,6 +152,14 @@ static void members(void)
     EXPECT("\033z@first\177", set_key(&expected.keys[0], "first"));
     EXPECT("\033zonine byte\177", (void)0);
     EXPECT("\033zoeightlng\177", set_key(&expected.keys[31], "eightlng"));
+    EXPECT("\033FThe host says\r", set_message("The host says"));
+    EXPECT("\033FThe host says\r\033F\r", (void)0);
+    EXPECT("\033Fold\r\033F12345678901234567890123456789012345678901234567\r", set_message("old"));
+    EXPECT("\033z0first\r", set_key(&expected.labels[0], "first"));
+    EXPECT("\033z7\177\r", (void)0);
+    EXPECT("\033zWeightlng\r", (set_key(&expected.labels[15], "eightlng"), expected.shifted = 1));
+    EXPECT("\033zPx\r\033zP\r", expected.shifted = 1);
+    EXPECT("\033zPx\r\033z\177", set_key(&expected.labels[8], "x"));
     part("each member of the state, by the command that sets it");
 
     EXPECT("\033", sequence_is(WY50_ESCAPE, 0, 0, 0));
@@ -154,8 +180,13 @@ static void members(void)
     EXPECT("\033A", sequence_is(WY50_FIELD_ATTRIBUTE, 0, 0, 0));
     EXPECT("\033A1", sequence_is(WY50_FIELD_NUMBER, '1', 0, 0));
     EXPECT("\033z", sequence_is(WY50_KEY_VALUE, 0, 0, 0));
-    EXPECT("\033zAtext", (sequence_is(WY50_KEY_TEXT, 'A', 0, 0), set_key(&expected.gathered, "text")));
+    EXPECT("\033zAtext", gathering(WY50_KEY_TEXT, 'A', "text"));
     EXPECT("\033zA123456789", sequence_is(WY50_KEY_OVER, 'A', 0, 0));
+    EXPECT("\033z5text", gathering(WY50_LABEL_TEXT, '5', "text"));
+    EXPECT("\033zR123456789", sequence_is(WY50_LABEL_SPOILT, 'R', 0, 0));
+    EXPECT("\033F", gathering(WY50_MESSAGE_TEXT, 0, ""));
+    EXPECT("\033Ftext of a message", gathering(WY50_MESSAGE_TEXT, 0, "text of a message"));
+    EXPECT("\033Ftext\033", sequence_is(WY50_MESSAGE_SPOILT, 0, 0, 0));
     part("each sequence under way, with its numbers");
 }
 
@@ -177,7 +208,13 @@ static void round_trip(void)
     state.sequence.first = 17;
     state.sequence.second = 3;
     state.sequence.third = 789;
-    set_key(&state.gathered, "gathered");
+    for (i = 0; i < WY50_LABELS; i++) {
+        state.labels[i].len = (uint8_t)(i % 9);
+        memset(state.labels[i].bytes, (int)(0x41 + i), WY50_LABEL_BYTES);
+    }
+    state.message.len = 45;
+    memset(state.message.bytes, 0x7e, WY50_MESSAGE_BYTES);
+    state.shifted = 1;
     for (i = 0; i < WY50_COLUMNS; i++)
         state.tabs[i] = (uint8_t)(i % 3 == 1);
     for (i = 0; i < 4; i++)
@@ -327,8 +364,8 @@ static void refused(const wy50_state *x, size_t page_len)
 
 static void impossible(void)
 {
-    static const uint8_t bare[] = {0, 1, 2, 4, 9, 10, 11, 12, 13, 14, 15, 16, 18};
-    static const uint8_t one[] = {3, 5, 17, 19, 20};
+    static const uint8_t bare[] = {0, 1, 2, 4, 9, 10, 11, 12, 13, 14, 15, 16, 18, 24};
+    static const uint8_t one[] = {3, 5, 17, 20, 22};
     size_t i;
     power_on();
     refused(&state, WY50_CELLS - 1);
@@ -342,7 +379,7 @@ static void impossible(void)
     for (i = 0; i < WY50_COLUMNS; i++)
         REFUSED(state.tabs[i] = (uint8_t)(2 + i));
     REFUSED(state.bells = 256);
-    REFUSED(state.sequence.kind = 21);
+    REFUSED(state.sequence.kind = 25);
     REFUSED(state.sequence.kind = 256);
     REFUSED(state.sequence.kind = 0xffff);
     for (i = 0; i < sizeof bare; i++) {
@@ -359,7 +396,11 @@ static void impossible(void)
     REFUSED((state.sequence.kind = WY50_DECIMAL_ROW, state.sequence.third = 1));
     REFUSED((state.sequence.kind = WY50_DECIMAL_ROW, state.sequence.first = 1, state.sequence.second = 10));
     REFUSED((state.sequence.kind = WY50_DECIMAL_COLUMN, state.sequence.second = 4));
-    REFUSED((state.sequence.kind = WY50_KEY_TEXT, state.sequence.first = 'A', state.gathered.len = 9));
+    REFUSED((state.sequence.kind = WY50_KEY_TEXT, state.sequence.first = 'A', state.sequence.third = 1));
+    REFUSED((state.sequence.kind = WY50_MESSAGE_TEXT, state.sequence.first = 1));
+    REFUSED((state.sequence.kind = WY50_MESSAGE_SPOILT, state.sequence.second = 1));
+    REFUSED(state.shifted = 2);
+    REFUSED(state.shifted = 256);
     part("numbers that name no state: 7, and given back as they came");
 
     REFUSED(state.screen.active = 1);
@@ -372,6 +413,17 @@ static void impossible(void)
     REFUSED(state.features[0] = '2');
     REFUSED(state.keys[31].len = 9);
     REFUSED((state.keys[7].len = 8, state.keys[7].bytes[7] = 0x7f));
+    REFUSED(state.labels[15].len = 9);
+    REFUSED((state.labels[0].len = 1, state.labels[0].bytes[0] = 0x1f));
+    REFUSED(state.message.len = 47);
+    REFUSED((state.screen.cursor0 = WY50_CELLS, memset(state.gathered, 0xff, sizeof state.gathered)));
+    REFUSED((state.message.len = 1, state.message.bytes[0] = 0x7f));
+    REFUSED((state.sequence.kind = WY50_KEY_TEXT, state.sequence.first = 'P'));
+    REFUSED((state.sequence.kind = WY50_KEY_TEXT, state.sequence.first = 'A', state.sequence.second = 9));
+    REFUSED((state.sequence.kind = WY50_LABEL_TEXT, state.sequence.first = 'P', state.sequence.second = 1));
+    REFUSED((state.sequence.kind = WY50_MESSAGE_TEXT, state.sequence.second = 47));
+    REFUSED((state.sequence.kind = WY50_LABEL_TEXT, state.sequence.first = '8'));
+    REFUSED((state.sequence.kind = WY50_LABEL_SPOILT, state.sequence.first = 'A'));
     memset(&state, 0, sizeof state);
     refused(&state, WY50_CELLS);
     memset(&state, 0xff, sizeof state);
@@ -380,9 +432,16 @@ static void impossible(void)
 
     power_on();
     memset(state.keys[3].bytes, 0xff, sizeof state.keys[3].bytes);
-    memset(&state.gathered, 0xff, sizeof state.gathered);
-    CHECK(FEED("A") == 0 && state.keys[3].bytes[0] == 0xff);
-    part("bytes beyond a key's text are not looked at");
+    memset(state.labels[5].bytes, 0xff, sizeof state.labels[5].bytes);
+    memset(state.message.bytes, 0xff, sizeof state.message.bytes);
+    memset(state.gathered, 0xff, sizeof state.gathered);
+    CHECK(FEED("A") == 0 && state.keys[3].bytes[0] == 0xff && state.labels[5].bytes[7] == 0xff && state.message.bytes[0] == 0xff);
+    CHECK(state.gathered[0] == 0 && state.gathered[45] == 0);
+    state.sequence.kind = WY50_MESSAGE_TEXT;
+    state.sequence.second = 1;
+    memset(state.gathered, 0x62, sizeof state.gathered);
+    CHECK(FEED("c") == 0 && memcmp(state.gathered, "bc", 3) == 0 && FEED("\r") == 0 && state.message.len == 2);
+    part("bytes beyond a text are not looked at, and those gathered come back as zeros");
 }
 
 int main(void)

@@ -15,7 +15,8 @@ use Rattle.rules.specs.Room.{over}
 use Rattle.rules.specs.declared.Core.{Core}
 use Rattle.rules.specs.declared.Plan.{Plan}
 use Rattle.rules.specs.declared.CoreResult.{CoreResult}
-use Rattle.rules.specs.declared.SetupChange.the-variants as SetupChange
+use Rattle.rules.specs.declared.Change.the-variants as Change
+use Rattle.rules.specs.State.{unchanged}
 use Rattle.rules.specs.declared.Answer.the-variants as Answer
 use Rattle.carry.specs.Carried.{Carried}
 
@@ -25,7 +26,7 @@ carried-is {e} {e′} {r} {p} {w} {w′} h k = subst (λ (x : Effect). Carried x
 module _ (p : List ℕ) (c : Core) (x : Plan) (w : List ℕ) {m n : ℕ} (wide : m ≡ planWidth x)
     (e : n ≡ length (replied m (c .modes .protect) p (x .reply))) where
   pub no-room : length w < n
-      → Carried (carried p c x (length w)) (record { answer = Answer.NoRoom; replied = 0; core = x .next; change = SetupChange.Nothing }) p w w
+      → Carried (carried p c x (length w)) (record { answer = Answer.NoRoom; replied = 0; core = x .next; change = unchanged }) p w w
   unfolding carried over
   no-room h =
       carried-is {e′ = quiet 6 c p} (rw (← wide, ← e, lt-leb n (length w) h))
@@ -34,7 +35,7 @@ module _ (p : List ℕ) (c : Core) (x : Plan) (w : List ℕ) {m n : ℕ} (wide :
   pub carried-out : {p₁ p₂ w′ : List ℕ} {c′ : Core} → n ≤ length w → w′ ≡ over (replied m (c .modes .protect) p (x .reply)) w
       → p₁ ≡ applied m (c .modes .protect) (x .first) p → p₂ ≡ applied m (c .modes .protect) (x .second) p₁
       → c′ ≡ landed (guardedAt (x .next .modes .protect) p₂) (x .land) (x .next)
-      → Carried (carried p c x (length w)) (record { answer = x .answer; replied = n; core = c′; change = x .change }) p₂ w w′
+      → Carried (carried p c x (length w)) (record { answer = x .answer; replied = n; core = c′; change = Change.Set (x .change) }) p₂ w w′
   unfolding carried done
   carried-out h hw h₁ h₂ hc =
       carried-is {e′ = done (c .modes .protect) p x} (rw (← wide, ← e, le-leb n (length w) h))

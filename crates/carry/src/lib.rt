@@ -14,6 +14,7 @@ use landing::land;
 use replies::put_reply;
 use replies::reply_length;
 use rules::Answer;
+use rules::Change;
 use rules::Core;
 use rules::CoreResult;
 use rules::Plan;
@@ -37,7 +38,7 @@ pub fn carry_out(page: &mut [u16], core: Core, plan: Plan, room: &mut [u8]) -> C
             answer: Answer::NoRoom,
             replied: 0,
             core: next,
-            change: SetupChange::Nothing,
+            change: Change::Set(SetupChange::Nothing),
         };
     }
     put_reply(page, width, on, reply, room);
@@ -49,7 +50,8 @@ pub fn carry_out(page: &mut [u16], core: Core, plan: Plan, room: &mut [u8]) -> C
     let place = plan.land;
     let c = land(page, next, place);
     let answer = plan.answer;
-    let change = plan.change;
+    let x = plan.change;
+    let change = Change::Set(x);
     CoreResult {
         answer: answer,
         replied: n,

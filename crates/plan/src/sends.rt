@@ -44,6 +44,7 @@ pub fn plan_setting(core: Core, s: Setting) -> Plan
         Setting::ClearTabs => changing(core, SetupChange::ClearTabs),
         Setting::Attribute(n, a) => changing(core, SetupChange::Attribute(n, a)),
         Setting::Feature(f) => changing(core, SetupChange::Feature(feature_place(f), f)),
+        Setting::HideLine => changing(core, SetupChange::HideLine),
     }
 }
 

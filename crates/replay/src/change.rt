@@ -1,10 +1,11 @@
 // Lines that set something: the page's cells, and the parts of a state.
 use crate::narrow::COLUMNS;
 use crate::script::Setting;
-use rules::Key;
+use rules::LongText;
 use rules::Modes;
 use rules::Screen;
 use rules::Setup;
+use rules::ShortText;
 use rules::State;
 
 // The next number of the sequence that `noise` draws from.
@@ -90,7 +91,7 @@ fn with_feature(u: Setup, n: usize, v: u8) -> Setup {
     t
 }
 
-pub fn with_key(u: Setup, n: usize, k: Key) -> Setup {
+pub fn with_key(u: Setup, n: usize, k: ShortText) -> Setup {
     let mut t = u;
     if n < 32 {
         t.keys[n] = k;
@@ -98,15 +99,43 @@ pub fn with_key(u: Setup, n: usize, k: Key) -> Setup {
     t
 }
 
-// The key of the first n bytes: its length is n, and it keeps the first 8.
-pub fn key_of(n: u8, bytes: &[u8]) -> Key {
+pub fn with_label(u: Setup, n: usize, k: ShortText) -> Setup {
+    let mut t = u;
+    if n < 16 {
+        t.labels[n] = k;
+    }
+    t
+}
+
+pub fn with_message(u: Setup, m: LongText) -> Setup {
+    let mut t = u;
+    t.message = m;
+    t
+}
+
+// The key or label of the first n bytes: its length is n, and it keeps the first 8.
+pub fn key_of(n: u8, bytes: &[u8]) -> ShortText {
     let mut kept = [0u8; 8];
     let mut i = 0;
     while i < 8 {
         kept[i] = byte_or_zero(bytes, i, n);
         i += 1;
     }
-    Key {
+    ShortText {
+        len: n,
+        bytes: kept,
+    }
+}
+
+// The message of the first n bytes, of which it keeps 46.
+pub fn message_of(n: u8, bytes: &[u8]) -> LongText {
+    let mut kept = [0u8; 46];
+    let mut i = 0;
+    while i < 46 {
+        kept[i] = byte_or_zero(bytes, i, n);
+        i += 1;
+    }
+    LongText {
         len: n,
         bytes: kept,
     }
@@ -135,9 +164,12 @@ pub fn set(s: State, x: Setting) -> State {
         Setting::Attribute(n, v) => setup = with_attribute(setup, n, v),
         Setting::Feature(n, v) => setup = with_feature(setup, n, v),
         Setting::Bells(n) => core.bells = n,
+        Setting::Shifted(b) => setup.shifted = b,
     }
+    let gathered = s.gathered;
     State {
         core: core,
+        gathered: gathered,
         setup: setup,
     }
 }

@@ -12,6 +12,7 @@ use crate::script::read;
 use crate::sequence;
 use crate::text;
 use libc::STDERR_FILENO;
+use rules::Setup;
 use rules::State;
 use std::num::wrapping_add_usize;
 
@@ -83,6 +84,8 @@ fn carry_out(s: Progress, line: &[u8], page: &mut [u16], out: &mut [u8]) -> Prog
         Command::Page(x) => change_page(s, x, page),
         Command::Set(x) => set(s, x),
         Command::Key(k) => set_key(s, k, line),
+        Command::Label(k) => set_label(s, k, line),
+        Command::Message => set_message(s, line),
         Command::Pending => set_pending(s, line),
         Command::Call(x, n) => obey_call(s, x, n, line, page, out),
     }
@@ -127,31 +130,60 @@ fn fill(s: Progress, i: usize, n: usize, v: u16, page: &mut [u16]) -> Progress {
     s
 }
 
+fn with_setup(s: Progress, u: Setup) -> Progress {
+    let mut t = s;
+    let mut state = s.state;
+    state.setup = u;
+    t.state = state;
+    t
+}
+
 fn set_key(s: Progress, k: usize, line: &[u8]) -> Progress {
     let mut bytes = [0u8; MOST];
     let n = text::byte_string(text::later(text::later(line)), &mut bytes);
     if 255 < n {
         return stopped(s);
     }
-    let mut t = s;
-    let mut state = s.state;
+    let state = s.state;
     let setup = state.setup;
     let key = change::key_of(n as u8, &bytes);
     let next = change::with_key(setup, k, key);
-    state.setup = next;
-    t.state = state;
-    t
+    with_setup(s, next)
+}
+
+fn set_label(s: Progress, k: usize, line: &[u8]) -> Progress {
+    let mut bytes = [0u8; MOST];
+    let n = text::byte_string(text::later(text::later(line)), &mut bytes);
+    if 255 < n {
+        return stopped(s);
+    }
+    let state = s.state;
+    let setup = state.setup;
+    let label = change::key_of(n as u8, &bytes);
+    let next = change::with_label(setup, k, label);
+    with_setup(s, next)
+}
+
+fn set_message(s: Progress, line: &[u8]) -> Progress {
+    let mut bytes = [0u8; MOST];
+    let n = text::byte_string(text::later(line), &mut bytes);
+    if 255 < n {
+        return stopped(s);
+    }
+    let state = s.state;
+    let setup = state.setup;
+    let message = change::message_of(n as u8, &bytes);
+    let next = change::with_message(setup, message);
+    with_setup(s, next)
 }
 
 fn set_pending(s: Progress, line: &[u8]) -> Progress {
     let mut bytes = [0u8; MOST];
     let mut t = s;
-    let mut state = s.state;
-    let core = state.core;
-    let g = sequence::read(core, text::later(line), &mut bytes);
-    let next = g.core;
-    state.core = next;
-    t.state = state;
+    let state = s.state;
+    let g = sequence::read(state, text::later(line), &mut bytes);
+    let next = g.state;
+    t.state = next;
     t.going = g.good;
     t
 }

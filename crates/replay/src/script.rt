@@ -26,6 +26,7 @@ pub enum Setting {
     Attribute(usize, u8),
     Feature(usize, u8),
     Bells(u8),
+    Shifted(bool),
 }
 
 // Lines that call, or show.
@@ -37,13 +38,15 @@ pub enum Call {
     Show,
 }
 
-// Key has its key, counted from 0; a call the length of its reply room.
+// Key and Label have their place, counted from 0; a call the length of its reply room.
 pub enum Command {
     Bad,
     Skip,
     Page(PageLine),
     Set(Setting),
     Key(usize),
+    Label(usize),
+    Message,
     Pending,
     Call(Call, usize),
 }
@@ -86,6 +89,9 @@ fn two_words(line: &[u8]) -> Command {
     if same(word, b"pending") {
         return Command::Pending;
     }
+    if same(word, b"message") {
+        return Command::Message;
+    }
     let n = number(later(line));
     if same(word, b"length") {
         return given(n <= 4000, Command::Page(PageLine::Length(n)));
@@ -102,6 +108,9 @@ fn two_words(line: &[u8]) -> Command {
     }
     if same(word, b"bells") {
         return Command::Set(Setting::Bells(v));
+    }
+    if same(word, b"shifted") {
+        return given(v <= 1, Command::Set(Setting::Shifted(v == 1)));
     }
     Command::Bad
 }
@@ -122,6 +131,9 @@ fn three_words(line: &[u8]) -> Command {
     let i = number(first(words));
     if same(word, b"key") {
         return given(i < 32, Command::Key(i));
+    }
+    if same(word, b"label") {
+        return given(i < 16, Command::Label(i));
     }
     pair(word, i, n)
 }

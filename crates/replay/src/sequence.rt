@@ -1,23 +1,26 @@
-// The sequence under way, as text: the bytes since and with ESC, and `+` where a key's text was too long.
+// The sequence under way, as text: the bytes since and with ESC, and `+` where a text was too long or had a bad byte.
 ghost use Prim.Native.Nat.{_+_, _≤_};
+use crate::bounds::least;
 use crate::bounds::within;
 use crate::narrow::CELLS;
 use crate::text::byte_string;
 use check::same;
+use rules::Argument;
 use rules::Core;
-use rules::Key;
 use rules::Pending;
+use rules::Slot;
+use rules::State;
 
 // The first `len` of `bytes`, and whether `+` follows.
 pub struct Spelling {
     pub len: usize,
-    pub bytes: [u8; 12],
+    pub bytes: [u8; 49],
     pub over: bool,
 }
 
 // The first `len` of four bytes.
 fn few(len: usize, a: u8, b: u8, c: u8, d: u8) -> Spelling {
-    let mut s = [0u8; 12];
+    let mut s = [0u8; 49];
     s[0] = a;
     s[1] = b;
     s[2] = c;
@@ -35,8 +38,8 @@ fn escape(b: u8) -> Spelling {
 }
 
 // The last digits of a number, so many of them, from a place on.
-fn digits(bytes: [u8; 12], from: usize, count: usize, n: u16) -> [u8; 12]
-    requires { ⌜ from + count ≤ 12 ⌝ }
+fn digits(bytes: [u8; 49], from: usize, count: usize, n: u16) -> [u8; 49]
+    requires { ⌜ from + count ≤ 49 ⌝ }
 {
     let mut b = bytes;
     let mut rest = n;
@@ -84,70 +87,86 @@ fn decimal_column(row: u8, count: u8, column: u16) -> Spelling {
     }
 }
 
-// ESC z, the key, and the text gathered.
-fn key_text(v: u8, g: Key) -> Spelling {
-    let text = g.bytes;
-    let s = few(3, 0x1b, b'z', v, 0);
+// ESC z and its value, or ESC F.
+fn slot(x: Slot) -> Spelling {
+    match x {
+        Slot::Key(v) => few(3, 0x1b, b'z', v, 0),
+        Slot::Label(v) => few(3, 0x1b, b'z', v, 0),
+        Slot::Message => escape(b'F'),
+    }
+}
+
+// And the first n bytes gathered.
+fn slot_text(x: Slot, n: u8, g: [u8; 46]) -> Spelling {
+    let s = slot(x);
+    let from = least(s.len, 3);
     let mut bytes = s.bytes;
     let mut i = 0;
-    while i < 8 {
-        bytes[3 + i] = text[i];
+    while i < 46 {
+        bytes[from + i] = g[i];
         i += 1;
     }
     Spelling {
-        len: 3 + shown(g.len),
+        len: from + shown(n),
         bytes: bytes,
         over: false,
     }
 }
 
-// A key of more than 8 bytes has 8 to show.
-fn shown(len: u8) -> usize
-    ensures { λ r. ⌜ r ≤ 8 ⌝ }
+// No text has more than 46 bytes.
+fn shown(n: u8) -> usize
+    ensures { λ r. ⌜ r ≤ 46 ⌝ }
 {
-    if len < 8 { len as usize } else { 8 }
+    if n < 46 { n as usize } else { 46 }
 }
 
-// The spelling of a sequence; g is the key text gathered.
-pub fn spelled(p: Pending, g: Key) -> Spelling {
-    match p {
-        Pending::Idle => few(0, 0, 0, 0, 0),
-        Pending::Escape => few(1, 0x1b, 0, 0, 0),
-        Pending::Address => escape(b'='),
-        Pending::AddressRow(r) => few(3, 0x1b, b'=', r, 0),
-        Pending::Segment => escape(b'-'),
-        Pending::SegmentNumber(n) => few(3, 0x1b, b'-', n, 0),
-        Pending::SegmentRow(n, r) => few(4, 0x1b, b'-', n, r),
-        Pending::DecimalRow(k, n) => decimal_row(k, n),
-        Pending::DecimalColumn(row, k, n) => decimal_column(row, k, n),
-        Pending::Split => escape(b'x'),
-        Pending::SplitRow => few(3, 0x1b, b'x', b'1', 0),
-        Pending::Attribute => escape(b'G'),
-        Pending::Graphic => escape(b'H'),
-        Pending::FillAttribute => escape(b'!'),
-        Pending::FillCode => escape(b'.'),
-        Pending::Feature => escape(b'`'),
-        Pending::FieldAttribute => escape(b'A'),
-        Pending::FieldNumber(n) => few(3, 0x1b, b'A', n, 0),
-        Pending::KeyValue => escape(b'z'),
-        Pending::KeyText(v) => key_text(v, g),
-        Pending::KeyOver(v) => over(v),
-    }
-}
-
-// ESC z and the key; its text is left out.
-fn over(v: u8) -> Spelling {
-    let s = few(3, 0x1b, b'z', v, 0);
+// A spoilt text is left out.
+fn spoilt(x: Slot) -> Spelling {
+    let s = slot(x);
     let bytes = s.bytes;
     Spelling {
-        len: 3,
+        len: s.len,
         bytes: bytes,
         over: true,
     }
 }
 
-// What bytes leave of a terminal that was just turned on, on a page of its own. Where a key's text is to be too long, nine more bytes follow.
-fn fed(bytes: &[u8], is_over: bool) -> Core {
+fn awaited(a: Argument) -> Spelling {
+    match a {
+        Argument::Address => escape(b'='),
+        Argument::Segment => escape(b'-'),
+        Argument::Split => escape(b'x'),
+        Argument::SplitRow => few(3, 0x1b, b'x', b'1', 0),
+        Argument::Attribute => escape(b'G'),
+        Argument::Graphic => escape(b'H'),
+        Argument::FillAttribute => escape(b'!'),
+        Argument::FillCode => escape(b'.'),
+        Argument::Feature => escape(b'`'),
+        Argument::FieldAttribute => escape(b'A'),
+        Argument::Slot => escape(b'z'),
+    }
+}
+
+// The spelling of a sequence; g are the bytes gathered.
+pub fn spelled(p: Pending, g: [u8; 46]) -> Spelling {
+    match p {
+        Pending::Idle => few(0, 0, 0, 0, 0),
+        Pending::Escape => few(1, 0x1b, 0, 0, 0),
+        Pending::Awaits(a) => awaited(a),
+        Pending::AddressRow(r) => few(3, 0x1b, b'=', r, 0),
+        Pending::SegmentNumber(n) => few(3, 0x1b, b'-', n, 0),
+        Pending::SegmentRow(n, r) => few(4, 0x1b, b'-', n, r),
+        Pending::DecimalRow(k, n) => decimal_row(k, n),
+        Pending::DecimalColumn(row, k, n) => decimal_column(row, k, n),
+        Pending::FieldNumber(n) => few(3, 0x1b, b'A', n, 0),
+        Pending::Text(x, n) => slot_text(x, n, g),
+        Pending::Spoilt(x) => spoilt(x),
+    }
+}
+
+// What bytes leave of a terminal that was just turned on, on a page of its own. Where a text is to be spoilt, ten times 00h follow: a bad byte of
+// a message or a label, and too many for a key.
+fn fed(bytes: &[u8], is_over: bool) -> State {
     let mut page = [0u16; CELLS];
     let mut room = [0u8; 1];
     let on = terminal::power_on(&mut page);
@@ -155,45 +174,51 @@ fn fed(bytes: &[u8], is_over: bool) -> Core {
     let r = terminal::run(&mut page, start, bytes, &mut room);
     let s = r.state;
     if !is_over {
-        return s.core;
+        return s;
     }
-    let more = terminal::run(&mut page, s, b"000000000", &mut room);
-    let t = more.state;
-    t.core
+    let zeros = [0u8; 10];
+    let more = terminal::run(&mut page, s, &zeros, &mut room);
+    more.state
 }
 
-// The core with the sequence that a word spells; good if bytes can leave it under way and this is its spelling.
+// The state with the sequence that a word spells; good if bytes can leave it under way and this is its spelling.
 pub struct Reading {
     pub good: bool,
-    pub core: Core,
+    pub state: State,
 }
 
-pub fn read(c: Core, word: &[u8], bytes: &mut [u8]) -> Reading {
+pub fn read(s: State, word: &[u8], bytes: &mut [u8]) -> Reading {
     let digits = before_plus(word);
     let is_over = digits.len() < word.len();
     let n = byte_string(digits, bytes);
     if bytes.len() < n {
         return Reading {
             good: false,
-            core: c,
+            state: s,
         };
     }
     let k = within(n, bytes);
     let f = fed(&bytes[..k], is_over);
-    let p = f.pending;
+    let left = f.core;
+    let p = left.pending;
     let g = f.gathered;
-    let s = spelled(p, g);
-    let screen = c.screen;
-    let modes = c.modes;
-    let good = matches(s, &bytes[..k], is_over);
+    let spelling = spelled(p, g);
+    let good = matches(spelling, &bytes[..k], is_over);
+    let core = s.core;
+    let screen = core.screen;
+    let modes = core.modes;
+    let setup = s.setup;
     Reading {
         good: good,
-        core: Core {
-            screen: screen,
-            modes: modes,
-            bells: c.bells,
-            pending: p,
+        state: State {
+            core: Core {
+                screen: screen,
+                modes: modes,
+                bells: core.bells,
+                pending: p,
+            },
             gathered: g,
+            setup: setup,
         },
     }
 }
@@ -219,7 +244,7 @@ fn matches(s: Spelling, bytes: &[u8], over: bool) -> bool {
     front_is(own, s.len, bytes)
 }
 
-fn front_is(own: [u8; 12], n: usize, bytes: &[u8]) -> bool {
+fn front_is(own: [u8; 49], n: usize, bytes: &[u8]) -> bool {
     let k = within(n, &own);
     same(&own[..k], bytes)
 }

@@ -12,11 +12,12 @@ use crate::trace::hex_digit;
 use crate::trace::named;
 use crate::trace::put;
 use crate::trace::text;
-use rules::Key;
+use rules::LongText;
 use rules::Modes;
 use rules::Pending;
 use rules::Screen;
 use rules::Setup;
+use rules::ShortText;
 use rules::State;
 
 pub fn state(out: &mut [u8], at: usize, s: State) -> usize {
@@ -25,12 +26,13 @@ pub fn state(out: &mut [u8], at: usize, s: State) -> usize {
     let x = core.screen;
     let m = core.modes;
     let p = core.pending;
-    let g = core.gathered;
+    let g = s.gathered;
     let n = screen(out, at, x);
     let n1 = modes(out, n, m);
     let n2 = set_up(out, n1, setup);
     let n3 = named(out, n2, b" bells=", core.bells as usize);
-    pending(out, n3, p, g)
+    let n4 = pending(out, n3, p, g);
+    texts(out, n4, setup)
 }
 
 fn screen(out: &mut [u8], at: usize, s: Screen) -> usize {
@@ -93,7 +95,7 @@ fn bit(b: bool) -> u8
 }
 
 // The programmed keys, or `-`.
-fn keys(out: &mut [u8], at: usize, all: [Key; 32]) -> usize {
+fn keys(out: &mut [u8], at: usize, all: [ShortText; 32]) -> usize {
     let mut n = at;
     let mut found = 0;
     let mut i = 0;
@@ -109,14 +111,14 @@ fn keys(out: &mut [u8], at: usize, all: [Key; 32]) -> usize {
     n
 }
 
-fn programmed(k: Key) -> usize
+fn programmed(k: ShortText) -> usize
     ensures { λ r. ⌜ r ≤ 1 ⌝ }
 {
     if k.len == 0 { 0 } else { 1 }
 }
 
-// A programmed key: a comma unless it is the first, its number, its first 8 bytes, and `+` where there are more.
-fn key(out: &mut [u8], at: usize, i: usize, k: Key, is_next: bool) -> usize {
+// A programmed key, or a label that is set: a comma unless it is the first, its number, its first 8 bytes, and `+` where there are more.
+fn key(out: &mut [u8], at: usize, i: usize, k: ShortText, is_next: bool) -> usize {
     if k.len == 0 {
         return at;
     }
@@ -141,7 +143,7 @@ fn plus(out: &mut [u8], at: usize, is_over: bool) -> usize {
     at
 }
 
-fn pending(out: &mut [u8], at: usize, p: Pending, g: Key) -> usize {
+fn pending(out: &mut [u8], at: usize, p: Pending, g: [u8; 46]) -> usize {
     let s = spelled(p, g);
     let bytes = s.bytes;
     let len = s.len;
@@ -150,7 +152,48 @@ fn pending(out: &mut [u8], at: usize, p: Pending, g: Key) -> usize {
     plus(out, n1, s.over)
 }
 
-fn sequence_bytes(out: &mut [u8], at: usize, bytes: [u8; 12], n: usize) -> usize {
+fn sequence_bytes(out: &mut [u8], at: usize, bytes: [u8; 49], n: usize) -> usize {
     let k = within(n, &bytes);
     byte_string(out, at, &bytes[..k])
+}
+
+// The host message, the labels, and whether the shifted line is on.
+fn texts(out: &mut [u8], at: usize, u: Setup) -> usize {
+    let m = u.message;
+    let all = u.labels;
+    let n = text(out, at, b" message=");
+    let n1 = message(out, n, m);
+    let n2 = text(out, n1, b" labels=");
+    let n3 = labels(out, n2, all);
+    let n4 = text(out, n3, b" shifted=");
+    flag(out, n4, u.shifted)
+}
+
+// Its first 46 bytes, and `+` where there are more.
+fn message(out: &mut [u8], at: usize, m: LongText) -> usize {
+    let bytes = m.bytes;
+    let n = message_bytes(out, at, bytes, m.len as usize);
+    plus(out, n, 46 < m.len)
+}
+
+fn message_bytes(out: &mut [u8], at: usize, bytes: [u8; 46], n: usize) -> usize {
+    let k = within(n, &bytes);
+    byte_string(out, at, &bytes[..k])
+}
+
+// The labels that are set, or `-`.
+fn labels(out: &mut [u8], at: usize, all: [ShortText; 16]) -> usize {
+    let mut n = at;
+    let mut found = 0;
+    let mut i = 0;
+    while i < 16 {
+        let k = all[i];
+        n = key(out, n, i, k, 0 < found);
+        found += programmed(k);
+        i += 1;
+    }
+    if found == 0 {
+        return put(out, n, b'-');
+    }
+    n
 }

@@ -14,7 +14,7 @@ use lib.ListN.{length, take, drop, length-append, length-take}
 use borrow.Author.Tests.{eqb-true, ltb-true, leb-true, leb-false, ne-eqb}
 use Rattle.rules.specs.declared.Core.{Core}
 use Rattle.rules.specs.declared.Screen.{Screen}
-use Rattle.rules.specs.declared.Key.{Key}
+use Rattle.rules.specs.declared.ShortText.{ShortText}
 use Rattle.rules.specs.declared.Setup.{Setup}
 use Rattle.rules.specs.declared.State.{State}
 use Rattle.rules.specs.declared.Plan.{Plan}
@@ -25,8 +25,9 @@ use Rattle.rules.specs.declared.Reply.the-variants as Reply
 use Rattle.rules.specs.Cell.{pick, both, guarded}
 use Rattle.rules.specs.Row.{Width, columns}
 use Rattle.rules.specs.State.{number, widthOf, pageLength, keyPlace, idle}
-use Rattle.rules.specs.Possible.{allBelow, keyOk, good}
 use Rattle.rules.specs.Arguments.{isKey}
+use Rattle.rules.specs.Slot.{allText, textOk}
+use Rattle.rules.specs.Possible.{good}
 use Rattle.rules.specs.Decode.{decodeRule}
 use Rattle.rules.specs.Good.{GoodReply}
 use Rattle.rules.specs.Carry.{separator, openCell, textFrom, textOf, replied, replyOf, Effect, done, carried}
@@ -35,7 +36,7 @@ use Rattle.rules.specs.Calls.{joined, repeated, runRule, keySends, keyAt
 use Rattle.rules.proofs.Tests.{pick-if, both-parts, among-parts}
 use Rattle.rules.proofs.Rows.{by-width, columns-width}
 use Rattle.rules.proofs.Good.{PlanKept}
-use Rattle.rules.proofs.Keys.{key-parts, text-short, keys-at}
+use Rattle.rules.proofs.Texts.{text-parts, texts-at}
 use Rattle.rules.proofs.Decoding.{decodedOk, decoded-ok}
 use Rattle.rules.proofs.Kept.{PossibleCore, planned-kept, possible-parts, good-parts}
 
@@ -121,7 +122,7 @@ pub record Bounded (x : Screen) (room : ℕ) (e : Effect) : Type 0 where
 silent : {x : Screen} {room : ℕ} {e : Effect} → length (e .reply) ≡ 0 → eqb (e .answer) 6 ≡ false → Bounded x room e
 silent z a = record { fits = omega arith; bound = omega arith; taken = λ r. a }
 
-module _ (p : List ℕ) (c : Core) (n : length p ≡ pageLength (c .screen)) (h : PossibleCore c) where
+module _ (p : List ℕ) (c : Core) (n : length p ≡ pageLength (c .screen)) (g : List ℕ) (h : PossibleCore c g) where
   carried-bounded : {t : Bool} (x : Plan) (room : ℕ) → PlanKept t (idle c) x → Bounded (c .screen) room (carried p c x room)
   unfolding carried done
   carried-bounded x room k =
@@ -136,20 +137,20 @@ module _ (p : List ℕ) (c : Core) (n : length p ≡ pageLength (c .screen)) (h 
             (omega (arith, leb-false (length (replyOf (c .modes .protect) p x)) room e));
       })
 
-  obeyed-bounded : (tabs : List Bool) (d : Decoded) (room : ℕ) → decodedOk (c .pending) (c .gathered) d ≡ true → Bounded (c .screen) room (obeyed p c tabs d room)
+  obeyed-bounded : (tabs : List Bool) (d : Decoded) (room : ℕ) → decodedOk g d ≡ true → Bounded (c .screen) room (obeyed p c tabs d room)
   unfolding obeyed decodedOk
   obeyed-bounded tabs (Decoded.Wait q) room e = silent refl refl
-  obeyed-bounded tabs (Decoded.Gather b) room e = silent refl refl
-  obeyed-bounded tabs (Decoded.Program i) room e = silent refl refl
+  obeyed-bounded tabs (Decoded.Gather x i b) room e = silent refl refl
+  obeyed-bounded tabs (Decoded.Take x i) room e = silent refl refl
   obeyed-bounded tabs (Decoded.Reject a) room e = silent refl (ne-eqb (number a) 6 (omega (arith, among-parts 2 3 (number a) e)))
-  obeyed-bounded tabs (Decoded.Do d) room e = carried-bounded _ room (planned-kept p c n h tabs d)
+  obeyed-bounded tabs (Decoded.Do d) room e = carried-bounded _ room (planned-kept p c n g h tabs d)
 
   pub inner-bounded : (tabs : List Bool) (b room : ℕ) → Bounded (c .screen) room (innerRule p c tabs b room)
   unfolding innerRule
   inner-bounded tabs b room =
       pick-if (Bounded (c .screen) room) (ltb b 128)
-      (λ e. obeyed-bounded tabs (decodeRule (c .pending) (c .gathered .len) b) room
-      (decoded-ok (c .pending) (c .gathered) b (ltb-true b 128 e) (h .pending)))
+      (λ e. obeyed-bounded tabs (decodeRule (c .pending) b) room
+      (decoded-ok (c .pending) g b (ltb-true b 128 e) (h .pending)))
       (λ e. silent refl refl)
 
 -- ---- the calls
@@ -157,7 +158,7 @@ module _ (p : List ℕ) (c : Core) (n : length p ≡ pageLength (c .screen)) (h 
 step-bounded : (p : List ℕ) (s : State) (b room : ℕ) → good p s ≡ true → Bounded (s .core .screen) room (innerRule p (s .core) (s .setup .tabs) b room)
 step-bounded p s b room g =
     let r = good-parts p s g in
-    inner-bounded p (s .core) (r .0) (possible-parts s (r .1) .core) (s .setup .tabs) b room
+    inner-bounded p (s .core) (r .0) (s .gathered) (possible-parts s (r .1) .core) (s .setup .tabs) b room
 
 module _ (p : List ℕ) (s : State) (b room : ℕ) where
   pub reply-bound : length (stepRule p s b room .reply) ≤ mostReply (s .core .screen)
@@ -178,13 +179,13 @@ unfolding runRule repeated joined
 run-takes p s [] room g h n = absurd (omega arith)
 run-takes p s (b ∷ bytes) room g h n = rw (g, step-taken p s b room g h) (omega arith)
 
-key-bound : (k : Key) (v : ℕ) → keyOk k ≡ true → length (keySends k v) ≤ 8
+key-bound : (k : ShortText) (v : ℕ) → textOk 0 8 (k .len) (k .bytes) ≡ true → length (keySends k v) ≤ 8
 unfolding keySends
 key-bound k v h =
-    pick-if (λ (l : List ℕ). length l ≤ 8) (eqb (k .len) 0) (λ e. omega arith) (λ e. omega (arith, text-short k, key-parts k h .0))
+    pick-if (λ (l : List ℕ). length l ≤ 8) (eqb (k .len) 0) (λ e. omega arith) (λ e. omega (arith, length-take (k .len) (k .bytes), text-parts 0 8 (k .len) (k .bytes) h .0))
 
 pub press-bound : (p : List ℕ) (s : State) (v room : ℕ) → length (pressRule p s v room .reply) ≤ 8
-unfolding pressRule keyOk allBelow
+unfolding pressRule textOk allText
 press-bound p s v room =
     pick-if P (good p s)
     (λ g. pick-if P (s .core .modes .locked) (λ e. omega arith)
@@ -196,5 +197,5 @@ press-bound p s v room =
     P : Pressed → Type 0
     P r = length (r .reply) ≤ 8
 
-    key-at-ok : good p s ≡ true → keyOk (keyAt s v) ≡ true
-    key-at-ok g = keys-at (s .setup .keys) (keyPlace v) _ (possible-parts s (good-parts p s g .1) .setup .keys) refl
+    key-at-ok : good p s ≡ true → textOk 0 8 (keyAt s v .len) (keyAt s v .bytes) ≡ true
+    key-at-ok g = texts-at 0 (s .setup .keys) (keyPlace v) _ (possible-parts s (good-parts p s g .1) .setup .keys) refl

@@ -3,10 +3,11 @@ use mathlib.Core.Path.{refl}
 use Rattle.rules.specs.Row.{columns, rowEnd}
 use Rattle.rules.specs.Search.{marksBy, others, startsFrom, firstIn, lastIn, around, aroundBack}
 use Rattle.rules.specs.Change.{within, filled, shiftLeft, shiftRight, editShifted, rowsShifted, columnFilled}
-use Rattle.rules.specs.State.{segmentTop, segmentBottom, cursorOf, withCursor, withMode, changed}
-use Rattle.rules.specs.Possible.{powerOn, blank, unsplitOk, splitOk, screenOk, allBelow, keyOk, keysOk, attributesOk, featuresOk, pendingOk, noStops, coreOk, setupOk, possible, good}
-use Rattle.rules.specs.Arguments.{isAttribute, featurePlace, isKey}
-use Rattle.rules.specs.Decode.{lookup, idleRule, escapeRule, judged, attributeContents, featureRule, fieldRule, splitRule, digitRule, decimalRowRule, decimalColumnRule, keyValueRule, keyTextRule, keyOverRule, decodeRule}
+use Rattle.rules.specs.State.{segmentTop, segmentBottom, cursorOf, withCursor, withMode, changed, stored, gatheredAfter, setupAfter}
+use Rattle.rules.specs.Possible.{powerOn, blank, unsplitOk, splitOk, screenOk, attributesOk, featuresOk, pendingOk, noStops, coreOk, setupOk, possible, good}
+use Rattle.rules.specs.Arguments.{isAttribute, featurePlace, isKey, isLabel}
+use Rattle.rules.specs.Slot.{slotOk, slotEnd, slotMost, slotLow, isText, allText, textOk, textsOk}
+use Rattle.rules.specs.Decode.{lookup, idleRule, escapeRule, judged, attributeContents, featureRule, fieldRule, splitRule, digitRule, decimalRowRule, decimalColumnRule, slotRule, textRule, spoiltRule, argumentRule, decodeRule}
 use Rattle.rules.specs.Plan.{unlessGuarded, scrolls, nextCell, atTop, upCell, reversePlan, downPlan, tabCell, backTabCell, addressPlan, movePlan, activate, isSegment, windowPlan, storing, advancing, storePlan, rowEditPlan, editPlan, clearPlan, settingPlan, sendPlan, excludedPlan, planRule}
 use Rattle.rules.specs.Carry.{applied, separator, openCell, textFrom, replied, landed, done, carried}
 use Rattle.rules.specs.Step.{obeyed, innerRule, stepRule}
@@ -20,8 +21,9 @@ use Rattle.rules.specs.MovingCases.{movingCases}
 use Rattle.rules.specs.WritingCases.{writingCases}
 use Rattle.rules.specs.ReplyCases.{replyCases}
 use Rattle.rules.specs.CallCases.{callCases}
+use Rattle.rules.specs.LabelCases.{message, labelling, labelCases}
 use Rattle.rules.specs.ByteCases.{span, lastAnswer, triedHold, bytesHold, low, high, digitBytes, attributeBytes, escapeBytes, firstBytes, argumentBytes, addressBytes, decimalBytes}
-use Rattle.rules.specs.PossibleCases.{placed, keyed, attributed, featured, stopped, possibleStates, impossibleStates, allPossible, nonePossible}
+use Rattle.rules.specs.PossibleCases.{placed, keyed, labelledAt, messaged, attributed, featured, stopped, shiftedOn, gathering, possibleStates, impossibleStates, allPossible, nonePossible}
 use Rattle.rules.specs.Cases.{CaseList}
 
 pub cases : CaseList
@@ -29,11 +31,11 @@ unfolding completes runCompletes callCompletes anyCompleted completesFrom stepCo
     esc goTo labelled halves lower threeLetters lettersBelow pageOf cursorAt protectAt upperAt lowerAt belled fullKeys typed obeys refuses
     obeysFrom refusesFrom countsOf restsOf segmentsOf modesOf stopsFrom movingCases writingCases replyCases callCases span lastAnswer
     triedHold bytesHold low high digitBytes attributeBytes escapeBytes firstBytes argumentBytes addressBytes decimalBytes placed keyed
-    attributed featured stopped possibleStates impossibleStates allPossible nonePossible over powerOnRule columns rowEnd marksBy others
+    labelledAt messaged shiftedOn gathering message labelling labelCases attributed featured stopped possibleStates impossibleStates allPossible nonePossible over powerOnRule columns rowEnd marksBy others
     startsFrom firstIn lastIn around aroundBack within filled shiftLeft shiftRight editShifted rowsShifted columnFilled segmentTop
-    segmentBottom cursorOf withCursor withMode changed powerOn blank unsplitOk splitOk screenOk allBelow keyOk keysOk isAttribute
+    segmentBottom cursorOf withCursor withMode changed stored gatheredAfter setupAfter powerOn blank unsplitOk splitOk screenOk isLabel slotOk slotEnd slotMost slotLow isText allText textOk textsOk isAttribute
     attributesOk featurePlace featuresOk isKey pendingOk noStops coreOk setupOk possible good lookup idleRule escapeRule judged attributeContents
-    featureRule fieldRule splitRule digitRule decimalRowRule decimalColumnRule keyValueRule keyTextRule keyOverRule decodeRule unlessGuarded
+    featureRule fieldRule splitRule digitRule decimalRowRule decimalColumnRule slotRule textRule spoiltRule argumentRule decodeRule unlessGuarded
     scrolls nextCell atTop upCell reversePlan downPlan tabCell backTabCell addressPlan movePlan activate isSegment windowPlan storing
     advancing storePlan rowEditPlan editPlan clearPlan settingPlan sendPlan excludedPlan planRule applied separator openCell textFrom
     replied landed done carried obeyed innerRule stepRule joined repeated runRule keySends pressRule ofStep ofRun
@@ -43,6 +45,7 @@ cases = record {
   writing = refl;
   replying = refl;
   calling = refl;
+  labels = refl;
   first = refl;
   argument = refl;
   address = refl;

@@ -39,25 +39,15 @@ either-second false b e = e
 bare-escape : (q : Pending) → afterEscape q ≡ true → q ≡ Pending.Escape
 bare-escape Pending.Idle e = absurd (false≢true e)
 bare-escape Pending.Escape e = refl
-bare-escape Pending.Address e = absurd (false≢true e)
+bare-escape (Pending.Awaits a) e = absurd (false≢true e)
 bare-escape (Pending.AddressRow r) e = absurd (false≢true e)
-bare-escape Pending.Segment e = absurd (false≢true e)
 bare-escape (Pending.SegmentNumber n) e = absurd (false≢true e)
 bare-escape (Pending.SegmentRow n r) e = absurd (false≢true e)
 bare-escape (Pending.DecimalRow n row) e = absurd (false≢true e)
 bare-escape (Pending.DecimalColumn row n column) e = absurd (false≢true e)
-bare-escape Pending.Split e = absurd (false≢true e)
-bare-escape Pending.SplitRow e = absurd (false≢true e)
-bare-escape Pending.Attribute e = absurd (false≢true e)
-bare-escape Pending.Graphic e = absurd (false≢true e)
-bare-escape Pending.FillAttribute e = absurd (false≢true e)
-bare-escape Pending.FillCode e = absurd (false≢true e)
-bare-escape Pending.Feature e = absurd (false≢true e)
-bare-escape Pending.FieldAttribute e = absurd (false≢true e)
 bare-escape (Pending.FieldNumber n) e = absurd (false≢true e)
-bare-escape Pending.KeyValue e = absurd (false≢true e)
-bare-escape (Pending.KeyText v) e = absurd (false≢true e)
-bare-escape (Pending.KeyOver v) e = absurd (false≢true e)
+bare-escape (Pending.Text x n) e = absurd (false≢true e)
+bare-escape (Pending.Spoilt x) e = absurd (false≢true e)
 
 -- the byte k, or one of some others
 one-more : (b k : ℕ) (r : Bool) → OneOfSix k → (r ≡ true → OneOfSix b) → either (eqb b k) r ≡ true → OneOfSix b

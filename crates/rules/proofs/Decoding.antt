@@ -1,5 +1,5 @@
--- What a byte comes to after a possible sequence under way: a possible sequence again, a byte that the key's text can take, a key that is
--- there, a refusal with 2 to 4, or a command whose change fits the set-up.
+-- What a byte comes to after a possible sequence under way: a possible sequence again, a byte that the text can take, a text that its slot can
+-- take, a refusal with 2 to 4, or a command whose change fits the set-up.
 -- Assumes nothing.
 use mathlib.Core.Path.{_≡_, refl}
 use mathlib.Core.Bool.{Bool, true, false}
@@ -9,38 +9,41 @@ use native.Mathlib.Omega.{arith}
 use native.Mathlib.Nat.{pow-le-pow-right}
 use native.Mathlib.Numerals.{add-one}
 use lib.Dec.{ltb, leb, eqb}
-use borrow.Author.Tests.{lt-ltb, le-leb, leb-true, ltb-true, eqb-false}
-use Rattle.rules.specs.declared.Key.{Key}
+use lib.ListN.{set}
+use borrow.Author.Tests.{lt-ltb, le-leb, leb-true, ltb-true}
+use Rattle.rules.specs.declared.Slot.{Slot}
 use Rattle.rules.specs.declared.Pending.{Pending}
 use Rattle.rules.specs.declared.Pending.the-variants as Pending
+use Rattle.rules.specs.declared.Argument.{Argument}
+use Rattle.rules.specs.declared.Argument.the-variants as Argument
 use Rattle.rules.specs.declared.Command.{Command}
 use Rattle.rules.specs.declared.Decoded.{Decoded}
 use Rattle.rules.specs.declared.Decoded.the-variants as Decoded
 use Rattle.rules.specs.Cell.{both, either, among}
-use Rattle.rules.specs.State.{number, keyPlace, noKey}
-use Rattle.rules.specs.Possible.{allBelow, keyOk, pendingOk}
-use Rattle.rules.specs.Arguments.{isAttribute, featurePlace, isKey}
-use Rattle.rules.specs.Decode.{lookup, controls, escapes, idleRule, escapeRule, judged, featureRule, fieldRule, splitRule, digitRule, decimalRowRule, decimalColumnRule, keyValueRule, keyTextRule, keyOverRule, decodeRule}
-use Rattle.rules.specs.Step.{grown}
+use Rattle.rules.specs.State.{number}
+use Rattle.rules.specs.Arguments.{isAttribute, featurePlace, isKey, isLabel}
+use Rattle.rules.specs.Slot.{slotOk, slotEnd, slotMost, slotLow, isText, allText, textOk}
+use Rattle.rules.specs.Possible.{pendingOk}
+use Rattle.rules.specs.Decode.{lookup, controls, escapes, idleRule, escapeRule, judged, featureRule, fieldRule, splitRule, digitRule, decimalRowRule, decimalColumnRule, slotRule, textRule, spoiltRule, argumentRule, decodeRule}
 use Rattle.rules.proofs.Tests.{pick-if, both-parts, both-true, among-parts}
 use Rattle.rules.proofs.Good.{settingOk, commandOk}
-use Rattle.rules.proofs.Keys.{key-grown}
+use Rattle.rules.proofs.Texts.{text-begun, text-grown}
 
--- q is the sequence under way, k the key text gathered
-unfoldable pub decodedOk : Pending → Key → Decoded → Bool
-decodedOk q k (Decoded.Wait r) = pendingOk r noKey
-decodedOk q k (Decoded.Gather b) = pendingOk q (grown k b)
-decodedOk q k (Decoded.Program n) = both (ltb n 32) (keyOk k)
-decodedOk q k (Decoded.Reject a) = among 2 3 (number a)
-decodedOk q k (Decoded.Do d) = commandOk d
+-- g are the bytes gathered
+unfoldable pub decodedOk : List ℕ → Decoded → Bool
+decodedOk g (Decoded.Wait r) = pendingOk r g
+decodedOk g (Decoded.Gather x n b) = pendingOk (Pending.Text x (n + 1)) (set g n b)
+decodedOk g (Decoded.Take x n) = pendingOk (Pending.Text x n) g
+decodedOk g (Decoded.Reject a) = among 2 3 (number a)
+decodedOk g (Decoded.Do d) = commandOk d
 
 -- ---- tables: what holds of each entry holds at every byte
 
-unfoldable entriesOk : (Decoded → Bool) → List (ℕ × Decoded) → Bool
+unfoldable pub entriesOk : (Decoded → Bool) → List (ℕ × Decoded) → Bool
 entriesOk f [] = true
 entriesOk f (r ∷ t) = both (f (r .1)) (entriesOk f t)
 
-looked-up : (f : Decoded → Bool) (t : List (ℕ × Decoded)) (other : Decoded) (b : ℕ) → entriesOk f t ≡ true → f other ≡ true
+pub looked-up : (f : Decoded → Bool) (t : List (ℕ × Decoded)) (other : Decoded) (b : ℕ) → entriesOk f t ≡ true → f other ≡ true
     → f (lookup t other b) ≡ true
 unfolding entriesOk lookup
 looked-up f [] other b e h = h
@@ -48,13 +51,13 @@ looked-up f (r ∷ t) other b e h =
     let p = both-parts (f (r .1)) (entriesOk f t) e in
     pick-if (λ (d : Decoded). f d ≡ true) (eqb b (r .0)) (λ z. p .0) (λ z. looked-up f t other b (p .1) h)
 
-controls-ok : (q : Pending) (k : Key) → entriesOk (decodedOk q k) controls ≡ true
+controls-ok : (g : List ℕ) → entriesOk (decodedOk g) controls ≡ true
 unfolding entriesOk decodedOk commandOk pendingOk
-controls-ok q k = refl
+controls-ok g = refl
 
-escapes-ok : (q : Pending) (k : Key) → entriesOk (decodedOk q k) escapes ≡ true
-unfolding entriesOk decodedOk commandOk settingOk pendingOk
-escapes-ok q k = refl
+escapes-ok : (g : List ℕ) → entriesOk (decodedOk g) escapes ≡ true
+unfolding entriesOk decodedOk commandOk settingOk pendingOk slotOk textOk slotMost allText
+escapes-ok g = refl
 
 -- ---- the rules of the single sequences
 
@@ -62,30 +65,30 @@ escapes-ok q k = refl
 digit-more : (n v d : ℕ) → v < 10 ^ n → d < 10 → ltb (v * 10 + d) (10 ^ (n + 1)) ≡ true
 digit-more n v d h k = lt-ltb (v * 10 + d) (10 ^ (n + 1)) (rw add-one (omega arith))
 
-abbrev Ok : Pending → Key → Decoded → Type 0
-Ok q k d = decodedOk q k d ≡ true
+abbrev Ok : List ℕ → Decoded → Type 0
+Ok g d = decodedOk g d ≡ true
 
-module _ (q : Pending) (k : Key) where
-  judged-ok : (t : Bool) (d : Command) → (t ≡ true → commandOk d ≡ true) → decodedOk q k (judged t d) ≡ true
+module _ (g : List ℕ) where
+  judged-ok : (t : Bool) (d : Command) → (t ≡ true → commandOk d ≡ true) → decodedOk g (judged t d) ≡ true
   unfolding judged decodedOk
   judged-ok true d h = h refl
   judged-ok false d h = refl
 
-  idle-ok : (b : ℕ) → decodedOk q k (idleRule b) ≡ true
+  idle-ok : (b : ℕ) → decodedOk g (idleRule b) ≡ true
   unfolding idleRule decodedOk commandOk
   idle-ok b =
-      pick-if (Ok q k) (ltb b 0x20) (λ e. looked-up (decodedOk q k) controls _ b (controls-ok q k) refl)
-      (λ e. pick-if (Ok q k) (ltb b 0x7f) (λ z. refl) (λ z. refl))
+      pick-if (Ok g) (ltb b 0x20) (λ e. looked-up (decodedOk g) controls _ b (controls-ok g) refl)
+      (λ e. pick-if (Ok g) (ltb b 0x7f) (λ z. refl) (λ z. refl))
 
-  escape-ok : (b : ℕ) → decodedOk q k (escapeRule b) ≡ true
+  escape-ok : (b : ℕ) → decodedOk g (escapeRule b) ≡ true
   unfolding escapeRule decodedOk
-  escape-ok b = looked-up (decodedOk q k) escapes _ b (escapes-ok q k) refl
+  escape-ok b = looked-up (decodedOk g) escapes _ b (escapes-ok g) refl
 
-  feature-ok : (f : ℕ) → decodedOk q k (featureRule f) ≡ true
+  feature-ok : (f : ℕ) → decodedOk g (featureRule f) ≡ true
   unfolding featureRule decodedOk commandOk settingOk
-  feature-ok f = pick-if (Ok q k) (eqb f 0x3a) (λ e. refl) (λ e. judged-ok (ltb (featurePlace f) 5) _ (λ z. z))
+  feature-ok f = pick-if (Ok g) (eqb f 0x3a) (λ e. refl) (λ e. judged-ok (ltb (featurePlace f) 5) _ (λ z. z))
 
-  field-ok : (n a : ℕ) → decodedOk q k (fieldRule n a) ≡ true
+  field-ok : (n a : ℕ) → decodedOk g (fieldRule n a) ≡ true
   unfolding fieldRule commandOk settingOk
   field-ok n a =
       judged-ok (both (among 0x30 4 n) (isAttribute a)) _ (λ e.
@@ -93,88 +96,84 @@ module _ (q : Pending) (k : Key) where
       let m = among-parts 0x30 4 n (r .0) in
       both-true (lt-ltb (n - 0x30) 4 (omega arith)) (r .1))
 
-  split-ok : (b : ℕ) → decodedOk q k (splitRule b) ≡ true
+  split-ok : (b : ℕ) → decodedOk g (splitRule b) ≡ true
   unfolding splitRule decodedOk commandOk pendingOk
   split-ok b =
-      pick-if (Ok q k) (eqb b 0x30) (λ e. refl) (λ e. pick-if (Ok q k) (eqb b 0x31) (λ z. refl) (λ z. refl))
+      pick-if (Ok g) (eqb b 0x30) (λ e. refl) (λ e. pick-if (Ok g) (eqb b 0x31) (λ z. refl) (λ z. refl))
 
-  digit-ok : (most n b : ℕ) (next : Pending) → (n < most → b - 0x30 < 10 → pendingOk next noKey ≡ true)
-      → decodedOk q k (digitRule most n b next) ≡ true
+  digit-ok : (most n b : ℕ) (next : Pending) → (n < most → b - 0x30 < 10 → pendingOk next g ≡ true)
+      → decodedOk g (digitRule most n b next) ≡ true
   unfolding digitRule decodedOk
   digit-ok most n b next h =
-      pick-if (Ok q k) (both (among 0x30 10 b) (ltb n most)) (λ e.
+      pick-if (Ok g) (both (among 0x30 10 b) (ltb n most)) (λ e.
       let r = both-parts (among 0x30 10 b) (ltb n most) e in
       let m = among-parts 0x30 10 b (r .0) in
       h (ltb-true n most (r .1)) (omega arith)) (λ e. refl)
 
-  decimal-row-ok : (n row b : ℕ) → pendingOk (Pending.DecimalRow n row) k ≡ true → decodedOk q k (decimalRowRule n row b) ≡ true
+  decimal-row-ok : (n row b : ℕ) → pendingOk (Pending.DecimalRow n row) g ≡ true → decodedOk g (decimalRowRule n row b) ≡ true
   unfolding decimalRowRule decodedOk pendingOk
   decimal-row-ok n row b h =
       let p = both-parts (leb n 2) (ltb row (10 ^ n)) h in
       let l = leb-true n 2 (p .0) in
       let m = ltb-true row (10 ^ n) (p .1) in
       let u : 10 ^ n ≤ 100 = pow-le-pow-right {n = 10} (omega arith) l in
-      pick-if (Ok q k) (both (eqb b 0x52) (ltb 0 n)) (λ e. both-true (lt-ltb row 100 (omega arith)) refl)
+      pick-if (Ok g) (both (eqb b 0x52) (ltb 0 n)) (λ e. both-true (lt-ltb row 100 (omega arith)) refl)
       (λ e. digit-ok 2 n b _ (λ i j. both-true (le-leb (n + 1) 2 (omega arith)) (digit-more n row (b - 0x30) m j)))
 
-  decimal-column-ok : (row n column b : ℕ) → pendingOk (Pending.DecimalColumn row n column) k ≡ true
-      → decodedOk q k (decimalColumnRule row n column b) ≡ true
+  decimal-column-ok : (row n column b : ℕ) → pendingOk (Pending.DecimalColumn row n column) g ≡ true
+      → decodedOk g (decimalColumnRule row n column b) ≡ true
   unfolding decimalColumnRule decodedOk pendingOk commandOk
   decimal-column-ok row n column b h =
       let p = both-parts (ltb row 100) _ h in
       let r = both-parts (leb n 3) (ltb column (10 ^ n)) (p .1) in
-      pick-if (Ok q k) (both (eqb b 0x43) (ltb 0 n)) (λ e. refl)
+      pick-if (Ok g) (both (eqb b 0x43) (ltb 0 n)) (λ e. refl)
       (λ e. digit-ok 3 n b _ (λ i j. both-true (p .0) (both-true (le-leb (n + 1) 3 (omega arith))
       (digit-more n column (b - 0x30) (ltb-true column (10 ^ n) (r .1)) j))))
 
-  key-value-ok : (v : ℕ) → decodedOk q k (keyValueRule v) ≡ true
-  unfolding keyValueRule decodedOk pendingOk keyOk allBelow
-  key-value-ok v = pick-if (Ok q k) (isKey v) (λ e. both-true e refl) (λ e. refl)
+  slot-ok : (v : ℕ) → decodedOk g (slotRule v) ≡ true
+  unfolding slotRule decodedOk pendingOk slotOk commandOk settingOk
+  slot-ok v =
+      pick-if (Ok g) (isKey v) (λ e. both-true e (text-begun _ _ g))
+      (λ e. pick-if (Ok g) (isLabel v) (λ z. both-true z (text-begun _ _ g)) (λ z. judged-ok (eqb v 0x7f) _ (λ y. refl)))
 
-  key-over-ok : (v b : ℕ) → isKey v ≡ true → decodedOk q k (keyOverRule v b) ≡ true
-  unfolding keyOverRule decodedOk pendingOk
-  key-over-ok v b h = pick-if (Ok q k) (eqb b 0x7f) (λ e. refl) (λ e. h)
+  spoilt-ok : (x : Slot) (b : ℕ) → slotOk x ≡ true → decodedOk g (spoiltRule x b) ≡ true
+  unfolding spoiltRule decodedOk pendingOk
+  spoilt-ok x b h = pick-if (Ok g) (eqb b (slotEnd x)) (λ e. refl) (λ e. h)
 
-key-place-below : (v : ℕ) → isKey v ≡ true → keyPlace v < 32
-unfolding isKey
-key-place-below v h = by (among 0x40 16 v) refl h
-  where
-    place : v < 0x70 → keyPlace v < 32
-    place n = pick-if (λ (k : ℕ). k < 32) (ltb v 0x60) (λ e. omega (arith, ltb-true v 0x60 e)) (λ e. omega arith)
+  text-ok : (x : Slot) (n b : ℕ) → pendingOk (Pending.Text x n) g ≡ true → decodedOk g (textRule x n b) ≡ true
+  unfolding textRule decodedOk pendingOk
+  text-ok x n b e =
+      let r = both-parts (slotOk x) _ e in
+      pick-if (Ok g) (eqb b (slotEnd x)) (λ z. e)
+      (λ z. pick-if (Ok g) (both (ltb n (slotMost x)) (isText (slotLow x) b))
+      (λ t.
+      let w = both-parts (ltb n (slotMost x)) (isText (slotLow x) b) t in
+      both-true (r .0) (text-grown (slotLow x) (slotMost x) n g b (r .1) (ltb-true n (slotMost x) (w .0)) (w .1))) (λ t. r .0))
 
-    by : (s : Bool) → among 0x40 16 v ≡ s → either s (among 0x60 16 v) ≡ true → keyPlace v < 32
-    by true z e = place (omega (arith, among-parts 0x40 16 v z))
-    by false z e = place (omega (arith, among-parts 0x60 16 v e))
+argument-ok : (g : List ℕ) (a : Argument) (b : ℕ) → b < 128 → decodedOk g (argumentRule a b) ≡ true
+unfolding argumentRule decodedOk pendingOk commandOk
+argument-ok g Argument.Address b h = lt-ltb b _ (omega arith)
+argument-ok g Argument.Segment b h = lt-ltb b _ (omega arith)
+argument-ok g Argument.Split b h = split-ok g b
+argument-ok g Argument.SplitRow b h = refl
+argument-ok g Argument.Attribute b h = judged-ok g (isAttribute b) _ (λ z. refl)
+argument-ok g Argument.Graphic b h = judged-ok g (among 0x30 16 b) _ (λ z. refl)
+argument-ok g Argument.FillAttribute b h = judged-ok g (isAttribute b) _ (λ z. refl)
+argument-ok g Argument.FillCode b h = judged-ok g (either (eqb b 0) (among 0x20 95 b)) _ (λ z. refl)
+argument-ok g Argument.Feature b h = feature-ok g b
+argument-ok g Argument.FieldAttribute b h = lt-ltb b _ (omega arith)
+argument-ok g Argument.Slot b h = slot-ok g b
 
-key-text-ok : (v : ℕ) (k : Key) (b : ℕ) → b < 128 → pendingOk (Pending.KeyText v) k ≡ true
-    → decodedOk (Pending.KeyText v) k (keyTextRule v (k .len) b) ≡ true
-unfolding keyTextRule decodedOk pendingOk
-key-text-ok v k b h e =
-    let r = both-parts (isKey v) (keyOk k) e in
-    pick-if (Ok (Pending.KeyText v) k) (eqb b 0x7f) (λ z. both-true (lt-ltb (keyPlace v) 32 (key-place-below v (r .0))) (r .1))
-    (λ z. pick-if (Ok (Pending.KeyText v) k) (ltb (k .len) 8)
-    (λ n. both-true (r .0) (key-grown k b (r .1) (ltb-true (k .len) 8 n) (omega (arith, eqb-false b 0x7f z)))) (λ n. r .0))
-
-pub decoded-ok : (q : Pending) (k : Key) (b : ℕ) → b < 128 → pendingOk q k ≡ true → decodedOk q k (decodeRule q (k .len) b) ≡ true
+pub decoded-ok : (q : Pending) (g : List ℕ) (b : ℕ) → b < 128 → pendingOk q g ≡ true → decodedOk g (decodeRule q b) ≡ true
 unfolding decodeRule decodedOk pendingOk commandOk
-decoded-ok Pending.Idle k b h e = idle-ok Pending.Idle k b
-decoded-ok Pending.Escape k b h e = escape-ok Pending.Escape k b
-decoded-ok Pending.Address k b h e = lt-ltb b _ (omega arith)
-decoded-ok (Pending.AddressRow r) k b h e = refl
-decoded-ok Pending.Segment k b h e = lt-ltb b _ (omega arith)
-decoded-ok (Pending.SegmentNumber n) k b h e = both-true e (lt-ltb b _ (omega arith))
-decoded-ok (Pending.SegmentRow n r) k b h e = refl
-decoded-ok (Pending.DecimalRow n row) k b h e = decimal-row-ok (Pending.DecimalRow n row) k n row b e
-decoded-ok (Pending.DecimalColumn row n column) k b h e = decimal-column-ok (Pending.DecimalColumn row n column) k row n column b e
-decoded-ok Pending.Split k b h e = split-ok Pending.Split k b
-decoded-ok Pending.SplitRow k b h e = refl
-decoded-ok Pending.Attribute k b h e = judged-ok Pending.Attribute k (isAttribute b) _ (λ z. refl)
-decoded-ok Pending.Graphic k b h e = judged-ok Pending.Graphic k (among 0x30 16 b) _ (λ z. refl)
-decoded-ok Pending.FillAttribute k b h e = judged-ok Pending.FillAttribute k (isAttribute b) _ (λ z. refl)
-decoded-ok Pending.FillCode k b h e = judged-ok Pending.FillCode k (either (eqb b 0) (among 0x20 95 b)) _ (λ z. refl)
-decoded-ok Pending.Feature k b h e = feature-ok Pending.Feature k b
-decoded-ok Pending.FieldAttribute k b h e = lt-ltb b _ (omega arith)
-decoded-ok (Pending.FieldNumber f) k b h e = field-ok (Pending.FieldNumber f) k f b
-decoded-ok Pending.KeyValue k b h e = key-value-ok Pending.KeyValue k b
-decoded-ok (Pending.KeyText v) k b h e = key-text-ok v k b h e
-decoded-ok (Pending.KeyOver v) k b h e = key-over-ok (Pending.KeyOver v) k v b e
+decoded-ok Pending.Idle g b h e = idle-ok g b
+decoded-ok Pending.Escape g b h e = escape-ok g b
+decoded-ok (Pending.Awaits a) g b h e = argument-ok g a b h
+decoded-ok (Pending.AddressRow r) g b h e = refl
+decoded-ok (Pending.SegmentNumber n) g b h e = both-true e (lt-ltb b _ (omega arith))
+decoded-ok (Pending.SegmentRow n r) g b h e = refl
+decoded-ok (Pending.DecimalRow n row) g b h e = decimal-row-ok g n row b e
+decoded-ok (Pending.DecimalColumn row n column) g b h e = decimal-column-ok g row n column b e
+decoded-ok (Pending.FieldNumber f) g b h e = field-ok g f b
+decoded-ok (Pending.Text x n) g b h e = text-ok g x n b e
+decoded-ok (Pending.Spoilt x) g b h e = spoilt-ok g x b e

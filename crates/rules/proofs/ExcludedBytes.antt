@@ -10,10 +10,12 @@ use native.Mathlib.Omega.{arith}
 use lib.ListN.{getD, drop}
 use Rattle.rules.specs.declared.Pending.{Pending}
 use Rattle.rules.specs.declared.Pending.the-variants as Pending
+use Rattle.rules.specs.declared.Argument.{Argument}
+use Rattle.rules.specs.declared.Argument.the-variants as Argument
 use Rattle.rules.specs.declared.Decoded.{Decoded}
 use Rattle.rules.specs.declared.Decoded.the-variants as Decoded
 use Rattle.rules.specs.Cell.{pick, both}
-use Rattle.rules.specs.Decode.{lookup, idleRule, escapeRule, judged, featureRule, fieldRule, splitRule, digitRule, decimalRowRule, decimalColumnRule, keyValueRule, keyTextRule, keyOverRule, decodeRule}
+use Rattle.rules.specs.Decode.{lookup, idleRule, escapeRule, judged, featureRule, fieldRule, splitRule, digitRule, decimalRowRule, decimalColumnRule, slotRule, textRule, spoiltRule, argumentRule, decodeRule}
 use Rattle.rules.specs.Noninterference.{afterEscape, anyOf, excludedBytes}
 use Rattle.rules.proofs.Unrevealing.{isExcluded}
 
@@ -34,8 +36,8 @@ below (suc n) f g e i h = by (ℕ-discrete i n) (below n f g (ap (drop 1) e) i)
 -- a byte completes one of the six
 abbrev pub givesExcluded : Decoded → Bool
 givesExcluded (Decoded.Wait q) = false
-givesExcluded (Decoded.Gather b) = false
-givesExcluded (Decoded.Program n) = false
+givesExcluded (Decoded.Gather x n b) = false
+givesExcluded (Decoded.Take x n) = false
 givesExcluded (Decoded.Reject a) = false
 givesExcluded (Decoded.Do d) = isExcluded d
 
@@ -51,26 +53,30 @@ pick-none : (t : Bool) (d e : Decoded) → givesExcluded d ≡ false → givesEx
 pick-none true d e h k = h
 pick-none false d e h k = k
 
-pub excluded-bytes : (q : Pending) (n b : ℕ) → b < 128 → givesExcluded (decodeRule q n b) ≡ both (afterEscape q) (anyOf excludedBytes b)
-unfolding decodeRule judged featureRule fieldRule splitRule digitRule decimalRowRule decimalColumnRule keyValueRule keyTextRule keyOverRule
-excluded-bytes Pending.Idle n b h = below 128 (λ b. givesExcluded (idleRule b)) (λ b. false) in-idle b h
-excluded-bytes Pending.Escape n b h = below 128 (λ b. givesExcluded (escapeRule b)) (anyOf excludedBytes) after-escape b h
-excluded-bytes Pending.Address n b h = refl
-excluded-bytes (Pending.AddressRow r) n b h = refl
-excluded-bytes Pending.Segment n b h = refl
-excluded-bytes (Pending.SegmentNumber s) n b h = refl
-excluded-bytes (Pending.SegmentRow s r) n b h = refl
-excluded-bytes (Pending.DecimalRow k row) n b h = search pick-none
-excluded-bytes (Pending.DecimalColumn row k column) n b h = search pick-none
-excluded-bytes Pending.Split n b h = search pick-none
-excluded-bytes Pending.SplitRow n b h = refl
-excluded-bytes Pending.Attribute n b h = search pick-none
-excluded-bytes Pending.Graphic n b h = search pick-none
-excluded-bytes Pending.FillAttribute n b h = search pick-none
-excluded-bytes Pending.FillCode n b h = search pick-none
-excluded-bytes Pending.Feature n b h = search pick-none
-excluded-bytes Pending.FieldAttribute n b h = refl
-excluded-bytes (Pending.FieldNumber f) n b h = search pick-none
-excluded-bytes Pending.KeyValue n b h = search pick-none
-excluded-bytes (Pending.KeyText v) n b h = search pick-none
-excluded-bytes (Pending.KeyOver v) n b h = search pick-none
+argument-none : (a : Argument) (b : ℕ) → givesExcluded (argumentRule a b) ≡ false
+unfolding argumentRule judged featureRule splitRule slotRule
+argument-none Argument.Address b = refl
+argument-none Argument.Segment b = refl
+argument-none Argument.Split b = search pick-none
+argument-none Argument.SplitRow b = refl
+argument-none Argument.Attribute b = search pick-none
+argument-none Argument.Graphic b = search pick-none
+argument-none Argument.FillAttribute b = search pick-none
+argument-none Argument.FillCode b = search pick-none
+argument-none Argument.Feature b = search pick-none
+argument-none Argument.FieldAttribute b = refl
+argument-none Argument.Slot b = search pick-none
+
+pub excluded-bytes : (q : Pending) (b : ℕ) → b < 128 → givesExcluded (decodeRule q b) ≡ both (afterEscape q) (anyOf excludedBytes b)
+unfolding decodeRule judged featureRule fieldRule splitRule digitRule decimalRowRule decimalColumnRule slotRule textRule spoiltRule
+excluded-bytes Pending.Idle b h = below 128 (λ b. givesExcluded (idleRule b)) (λ b. false) in-idle b h
+excluded-bytes Pending.Escape b h = below 128 (λ b. givesExcluded (escapeRule b)) (anyOf excludedBytes) after-escape b h
+excluded-bytes (Pending.Awaits a) b h = argument-none a b
+excluded-bytes (Pending.AddressRow r) b h = refl
+excluded-bytes (Pending.SegmentNumber s) b h = refl
+excluded-bytes (Pending.SegmentRow s r) b h = refl
+excluded-bytes (Pending.DecimalRow k row) b h = search pick-none
+excluded-bytes (Pending.DecimalColumn row k column) b h = search pick-none
+excluded-bytes (Pending.FieldNumber f) b h = search pick-none
+excluded-bytes (Pending.Text x n) b h = search pick-none
+excluded-bytes (Pending.Spoilt x) b h = search pick-none

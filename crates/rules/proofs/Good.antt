@@ -13,7 +13,6 @@ use borrow.Author.Tests.{ltb-true, ltb-false, eqb-false, lt-ltb, eq-eqb}
 use Rattle.rules.specs.declared.Screen.{Screen}
 use Rattle.rules.specs.declared.Modes.{Modes}
 use Rattle.rules.specs.declared.Core.{Core}
-use Rattle.rules.specs.declared.Key.{Key}
 use Rattle.rules.specs.declared.Plan.{Plan}
 use Rattle.rules.specs.declared.Answer.{Answer}
 use Rattle.rules.specs.declared.Answer.the-variants as Answer
@@ -42,7 +41,7 @@ use Rattle.rules.specs.declared.Land.{Land}
 use Rattle.rules.specs.Cell.{pick, both, among}
 use Rattle.rules.specs.Row.{columnOf, rowStart}
 use Rattle.rules.specs.State.{number, widthOf, pageLength, segmentTop, segmentBottom, segmentStart, segmentEnd, cursorOf, activated, withScreen, withModes, withProtect, withMode, Inside}
-use Rattle.rules.specs.Possible.{screenOk, keyOk}
+use Rattle.rules.specs.Possible.{screenOk}
 use Rattle.rules.specs.Arguments.{isAttribute, featurePlace}
 use Rattle.rules.specs.Plan.{refusing, plain, writingTwo, settling, replying, changing, unlessGuarded, scrolls, atTop, reversePlan, downPlan, tabCell, backTabCell, addressPlan, movePlan, unsplitScreen, splitScreen, activate, isSegment, windowPlan, storing, advancing, storePlan, rowEditPlan, editPlan, clearPlan, settingPlan, sendPlan, clearAll, excludedPlan, planRule}
 use Rattle.rules.specs.Good.{GoodWrite, GoodReply, GoodLand, GoodPlan}
@@ -51,14 +50,14 @@ use Rattle.rules.proofs.Rows.{columns-width, column-below, rows-le, cel
 use Rattle.rules.proofs.Places.{In, segment-there, in-next, in-up, in-next-tab, in-previous-tab, in-back, in-next-field, in-previous-field}
 use Rattle.rules.proofs.Screens.{screen-inside, activated-kept, unsplit-screen, split-screen}
 
--- a change that fits the set-up: its place is there, and its value from its list. w is the width of the page, k the key text gathered
-unfoldable pub changeOk : ℕ → Key → SetupChange → Bool
-changeOk w k SetupChange.Nothing = true
-changeOk w k (SetupChange.Tab c b) = ltb c w
-changeOk w k SetupChange.ClearTabs = true
-changeOk w k (SetupChange.Attribute n a) = both (ltb n 4) (isAttribute a)
-changeOk w k (SetupChange.Feature n f) = both (ltb n 5) (eqb (featurePlace f) n)
-changeOk w k (SetupChange.Key n) = both (ltb n 32) (keyOk k)
+-- a change that fits the set-up: its place is there, and its value from its list. w is the width of the page
+unfoldable pub changeOk : ℕ → SetupChange → Bool
+changeOk w SetupChange.Nothing = true
+changeOk w (SetupChange.Tab c b) = ltb c w
+changeOk w SetupChange.ClearTabs = true
+changeOk w (SetupChange.Attribute n a) = both (ltb n 4) (isAttribute a)
+changeOk w (SetupChange.Feature n f) = both (ltb n 5) (eqb (featurePlace f) n)
+changeOk w SetupChange.HideLine = true
 
 -- a setting, and a command, that makes such a change
 unfoldable pub settingOk : Setting → Bool
@@ -66,6 +65,7 @@ settingOk (Setting.Tab b) = true
 settingOk Setting.ClearTabs = true
 settingOk (Setting.Attribute n a) = both (ltb n 4) (isAttribute a)
 settingOk (Setting.Feature f) = ltb (featurePlace f) 5
+settingOk Setting.HideLine = true
 
 unfoldable pub commandOk : Command → Bool
 commandOk Command.Nothing = true
@@ -94,7 +94,7 @@ pub record PlanKept (t : Bool) (c : Core) (x : Plan) : Type 0 where
   pub wide : x .next .screen .wide ≡ c .screen .wide
   pub pending : x .next .pending ≡ c .pending
   pub bells : c .bells < 256 → x .next .bells < 256
-  pub change : t ≡ true → (k : Key) → changeOk (widthOf (c .screen)) k (x .change) ≡ true
+  pub change : t ≡ true → changeOk (widthOf (c .screen)) (x .change) ≡ true
   pub answer : eqb (number (x .answer)) 6 ≡ false
 
 -- ---- the forms of plans
@@ -108,7 +108,7 @@ module _ {t : Bool} {c n : Core} (h : Next c n) where
         wide = h .wide;
         pending = h .pending;
         bells = h .bells;
-        change = λ u k. refl;
+        change = λ u. refl;
         answer = e;
       }
 
@@ -120,7 +120,7 @@ module _ {t : Bool} {c n : Core} (h : Next c n) where
         wide = h .wide;
         pending = h .pending;
         bells = h .bells;
-        change = λ u k. refl;
+        change = λ u. refl;
         answer = refl;
       }
 
@@ -132,11 +132,11 @@ module _ {t : Bool} {c n : Core} (h : Next c n) where
         wide = h .wide;
         pending = h .pending;
         bells = h .bells;
-        change = λ u k. refl;
+        change = λ u. refl;
         answer = refl;
       }
 
-  kept-changing : {x : SetupChange} → (t ≡ true → (k : Key) → changeOk (widthOf (c .screen)) k x ≡ true) → PlanKept t c (changing n x)
+  kept-changing : {x : SetupChange} → (t ≡ true → changeOk (widthOf (c .screen)) x ≡ true) → PlanKept t c (changing n x)
   kept-changing f =
       record {
         good = record { one = tt; two = tt; text = tt; screen = h .screen; place = tt };
@@ -317,10 +317,11 @@ module _ (c : Core) (ok : screenOk (c .screen) ≡ true) (i : Inside (c .screen)
 
   kept-setting : (x : Setting) → PlanKept (settingOk x) c (settingPlan c x)
   unfolding settingPlan settingOk changeOk
-  kept-setting (Setting.Tab b) = kept-changing here (λ e k. lt-ltb (columnOf (widthOf (c .screen)) (cursorOf (c .screen))) (widthOf (c .screen)) (omega arith))
-  kept-setting Setting.ClearTabs = kept-changing here (λ e k. refl)
-  kept-setting (Setting.Attribute n a) = kept-changing here (λ e k. e)
-  kept-setting (Setting.Feature f) = kept-changing here (λ e k. both-true e (eq-eqb (featurePlace f) (featurePlace f) refl))
+  kept-setting (Setting.Tab b) = kept-changing here (λ e. lt-ltb (columnOf (widthOf (c .screen)) (cursorOf (c .screen))) (widthOf (c .screen)) (omega arith))
+  kept-setting Setting.ClearTabs = kept-changing here (λ e. refl)
+  kept-setting (Setting.Attribute n a) = kept-changing here (λ e. e)
+  kept-setting Setting.HideLine = kept-changing here (λ e. refl)
+  kept-setting (Setting.Feature f) = kept-changing here (λ e. both-true e (eq-eqb (featurePlace f) (featurePlace f) refl))
 
   kept-command : (g : List Bool) → length g ≡ pageLength (c .screen) → (tabs : List Bool) (d : Command) → PlanKept (commandOk d) c (planRule g tabs c d)
   unfolding planRule commandOk

@@ -11,11 +11,15 @@ use mathlib.Core.List.{List, [], _∷_}
 use Prim.Native.Nat.{ℕ, zero, suc, _+_, _-_, _*_, _<_}
 use native.Mathlib.Omega.{arith}
 use lib.Dec.{ltb, leb, eqb}
-use lib.ListN.{length, set, replicate}
+use lib.ListN.{length, take, set, replicate}
 use lib.Seq.{drop-set-lt}
 use borrow.Author.Tests.{ltb-true, lt-ltb, eqb-true, eq-eqb}
 use Rattle.rules.specs.declared.Core.{Core}
-use Rattle.rules.specs.declared.Key.{Key}
+use Rattle.rules.specs.declared.Slot.{Slot}
+use Rattle.rules.specs.declared.Slot.the-variants as Slot
+use Rattle.rules.specs.declared.Pending.the-variants as Pending
+use Rattle.rules.specs.declared.Change.{Change}
+use Rattle.rules.specs.declared.Change.the-variants as Change
 use Rattle.rules.specs.declared.Setup.{Setup}
 use Rattle.rules.specs.declared.State.{State}
 use Rattle.rules.specs.declared.Plan.{Plan}
@@ -28,9 +32,10 @@ use Rattle.rules.specs.declared.Land.{Land}
 use Rattle.rules.specs.declared.Land.the-variants as Land
 use Rattle.rules.specs.Row.{columns}
 use Rattle.rules.specs.Search.{guardedAt}
-use Rattle.rules.specs.State.{widthOf, pageLength, withCursor, idle, changed, keyOf, keyText}
-use Rattle.rules.specs.Possible.{powerOn, blank, unsplitOk, screenOk, allBelow, keyOk, keysOk, attributesOk, featuresOk, pendingOk, noStops, tabsOk, narrow, coreOk, setupOk, possible, good}
+use Rattle.rules.specs.State.{widthOf, pageLength, withCursor, keyPlace, labelPlace, shortText, idle, changed, stored, gatheredAfter, setupAfter}
+use Rattle.rules.specs.Possible.{powerOn, blank, unsplitOk, screenOk, attributesOk, featuresOk, pendingOk, noStops, tabsOk, narrow, coreOk, setupOk, possible, good}
 use Rattle.rules.specs.Arguments.{isAttribute, featurePlace}
+use Rattle.rules.specs.Slot.{slotOk, slotLow, slotMost, allText, textOk, textsOk}
 use Rattle.rules.specs.Decode.{decodeRule}
 use Rattle.rules.specs.Plan.{planRule}
 use Rattle.rules.specs.Good.{GoodLand}
@@ -43,26 +48,29 @@ use Rattle.rules.proofs.Places.{in-settled}
 use Rattle.rules.proofs.Screens.{screen-inside, cursor-kept}
 use Rattle.rules.proofs.Good.{changeOk, commandOk, PlanKept, plan-kept}
 use Rattle.rules.proofs.Lengths.{length-after}
-use Rattle.rules.proofs.Keys.{key-copied, keys-set}
+use Rattle.rules.proofs.Texts.{text-taken, texts-set}
 use Rattle.rules.proofs.Decoding.{decodedOk, decoded-ok}
 
 -- ---- a possible state, by its parts
 
-pub record PossibleCore (c : Core) : Type 0 where
+-- g are the bytes gathered
+pub record PossibleCore (c : Core) (g : List ℕ) : Type 0 where
   pub screen : screenOk (c .screen) ≡ true
   pub bells : c .bells < 256
-  pub pending : pendingOk (c .pending) (c .gathered) ≡ true
+  pub pending : pendingOk (c .pending) g ≡ true
 
 -- w is the width of the page
 pub record PossibleSetup (w : ℕ) (u : Setup) : Type 0 where
-  pub tabs : tabsOk w (u .tabs) ≡ true
-  pub keys : keysOk (u .keys) ≡ true
+  pub keys : textsOk 0 (u .keys) ≡ true
+  pub labels : textsOk 0x20 (u .labels) ≡ true
+  pub message : textOk 0x20 46 (u .message .len) (u .message .bytes) ≡ true
   pub attributes : attributesOk (u .attributes) ≡ true
   pub features : featuresOk 0 (u .features) ≡ true
+  pub tabs : tabsOk w (u .tabs) ≡ true
 
 pub record PossibleState (s : State) : Type 0 where
   pub narrow : s .core .screen .wide ≡ false
-  pub core : PossibleCore (s .core)
+  pub core : PossibleCore (s .core) (s .gathered)
   pub setup : PossibleSetup (widthOf (s .core .screen)) (s .setup)
 
 not-wide : (b : Bool) → not b ≡ true → b ≡ false
@@ -72,19 +80,22 @@ not-wide false h = refl
 pub setup-parts : (w : ℕ) (u : Setup) → setupOk w u ≡ true → PossibleSetup w u
 unfolding setupOk
 setup-parts w u h =
-    let r1 = both-parts (keysOk (u .keys)) _ h in
-    let r2 = both-parts (attributesOk (u .attributes)) _ (r1 .1) in
-    let r3 = both-parts (featuresOk 0 (u .features)) _ (r2 .1) in
-    record { tabs = r3 .1; keys = r1 .0; attributes = r2 .0; features = r3 .0 }
+    let r1 = both-parts (textsOk 0 (u .keys)) _ h in
+    let r2 = both-parts (textsOk 0x20 (u .labels)) _ (r1 .1) in
+    let r3 = both-parts (textOk 0x20 46 (u .message .len) (u .message .bytes)) _ (r2 .1) in
+    let r4 = both-parts (attributesOk (u .attributes)) _ (r3 .1) in
+    let r5 = both-parts (featuresOk 0 (u .features)) _ (r4 .1) in
+    record { keys = r1 .0; labels = r2 .0; message = r3 .0; attributes = r4 .0; features = r5 .0; tabs = r5 .1 }
 
 pub setup-whole : (w : ℕ) (u : Setup) → PossibleSetup w u → setupOk w u ≡ true
 unfolding setupOk
-setup-whole w u h = both-true (h .keys) (both-true (h .attributes) (both-true (h .features) (h .tabs)))
+setup-whole w u h =
+    both-true (h .keys) (both-true (h .labels) (both-true (h .message) (both-true (h .attributes) (both-true (h .features) (h .tabs)))))
 
 pub possible-parts : (s : State) → possible s ≡ true → PossibleState s
 unfolding possible coreOk
 possible-parts s h =
-    let r = both-parts (coreOk (s .core)) _ h in
+    let r = both-parts (coreOk (s .core) (s .gathered)) _ h in
     let r1 = both-parts (narrow (s .core .screen)) _ (r .0) in
     let r2 = both-parts (screenOk (s .core .screen)) _ (r1 .1) in
     let r3 = both-parts (ltb (s .core .bells) 256) _ (r2 .1) in
@@ -94,7 +105,7 @@ possible-parts s h =
       setup = setup-parts (widthOf (s .core .screen)) (s .setup) (r .1);
     }
 
-pub possible-whole : (s : State) → s .core .screen .wide ≡ false → PossibleCore (s .core) → PossibleSetup (widthOf (s .core .screen)) (s .setup) → possible s ≡ true
+pub possible-whole : (s : State) → s .core .screen .wide ≡ false → PossibleCore (s .core) (s .gathered) → PossibleSetup (widthOf (s .core .screen)) (s .setup) → possible s ≡ true
 unfolding possible coreOk
 possible-whole s n c u =
     both-true (both-true (ap not n) (both-true (c .screen) (both-true (lt-ltb (s .core .bells) 256 (c .bells)) (c .pending))))
@@ -125,41 +136,90 @@ unfolding columns noStops
 cleared-tabs true = refl
 cleared-tabs false = refl
 
-pub changed-kept : (wide : Bool) (x : SetupChange) (k : Key) (u : Setup) → changeOk (columns wide) k x ≡ true → PossibleSetup (columns wide) u
-    → PossibleSetup (columns wide) (changed x k u)
+pub changed-kept : (wide : Bool) (x : SetupChange) (u : Setup) → changeOk (columns wide) x ≡ true → PossibleSetup (columns wide) u
+    → PossibleSetup (columns wide) (changed x u)
 unfolding changed changeOk
-changed-kept w SetupChange.Nothing k u e h = h
-changed-kept w (SetupChange.Tab c b) k u e h = record { tabs = rw (drop-set-lt (columns w) (u .tabs) c b (ltb-true c (columns w) e)) (h .tabs); keys = h .keys; attributes = h .attributes; features = h .features }
-changed-kept w SetupChange.ClearTabs k u e h = record { tabs = cleared-tabs w; keys = h .keys; attributes = h .attributes; features = h .features }
-changed-kept w (SetupChange.Attribute n a) k u e h =
-    record {
-      tabs = h .tabs;
-      keys = h .keys;
-      attributes = attributes-set (u .attributes) n a (h .attributes) (both-parts (ltb n 4) (isAttribute a) e .1);
-      features = h .features;
-    }
-changed-kept w (SetupChange.Feature n f) k u e h =
-    record {
-      tabs = h .tabs;
-      keys = h .keys;
-      attributes = h .attributes;
-      features = features-set 0 (u .features) n f (h .features)
-          (omega (arith, eqb-true (featurePlace f) n (both-parts (ltb n 5) (eqb (featurePlace f) n) e .1)));
-    }
-changed-kept w (SetupChange.Key n) k u e h =
-    record {
-      tabs = h .tabs;
-      keys = keys-set (u .keys) n (keyOf (keyText k)) (h .keys) (key-copied k (both-parts (ltb n 32) (keyOk k) e .1));
-      attributes = h .attributes;
-      features = h .features;
-    }
+changed-kept w SetupChange.Nothing u e h = h
+changed-kept w (SetupChange.Tab c b) u e h = record {
+  keys = h .keys;
+  labels = h .labels;
+  message = h .message;
+  attributes = h .attributes;
+  features = h .features;
+  tabs = rw (drop-set-lt (columns w) (u .tabs) c b (ltb-true c (columns w) e)) (h .tabs);
+}
+changed-kept w SetupChange.ClearTabs u e h =
+    record { keys = h .keys; labels = h .labels; message = h .message; attributes = h .attributes; features = h .features; tabs = cleared-tabs w }
+changed-kept w (SetupChange.Attribute n a) u e h = record {
+  keys = h .keys;
+  labels = h .labels;
+  message = h .message;
+  attributes = attributes-set (u .attributes) n a (h .attributes) (both-parts (ltb n 4) (isAttribute a) e .1);
+  features = h .features;
+  tabs = h .tabs;
+}
+changed-kept w (SetupChange.Feature n f) u e h = record {
+  keys = h .keys;
+  labels = h .labels;
+  message = h .message;
+  attributes = h .attributes;
+  features = features-set 0 (u .features) n f (h .features)
+      (omega (arith, eqb-true (featurePlace f) n (both-parts (ltb n 5) (eqb (featurePlace f) n) e .1)));
+  tabs = h .tabs;
+}
+changed-kept w SetupChange.HideLine u e h =
+    record { keys = h .keys; labels = h .labels; message = h .message; attributes = h .attributes; features = h .features; tabs = h .tabs }
+
+-- a slot takes a text that it may hold
+pub stored-kept : (w : ℕ) (x : Slot) (n : ℕ) (g : List ℕ) (u : Setup) → pendingOk (Pending.Text x n) g ≡ true → PossibleSetup w u
+    → PossibleSetup w (stored x (take n g) u)
+unfolding stored pendingOk slotLow slotMost
+stored-kept w (Slot.Key v) n g u e h = record {
+  keys = texts-set 0 (u .keys) (keyPlace v) (shortText (take n g)) (h .keys) (text-taken 0 8 n g (both-parts (slotOk (Slot.Key v)) _ e .1));
+  labels = h .labels;
+  message = h .message;
+  attributes = h .attributes;
+  features = h .features;
+  tabs = h .tabs;
+}
+stored-kept w (Slot.Label v) n g u e h = record {
+  keys = h .keys;
+  labels = texts-set 0x20 (u .labels) (labelPlace v) (shortText (take n g)) (h .labels)
+      (text-taken 0x20 8 n g (both-parts (slotOk (Slot.Label v)) _ e .1));
+  message = h .message;
+  attributes = h .attributes;
+  features = h .features;
+  tabs = h .tabs;
+}
+stored-kept w Slot.Message n g u e h = record {
+  keys = h .keys;
+  labels = h .labels;
+  message = text-taken 0x20 46 n g (both-parts (slotOk Slot.Message) _ e .1);
+  attributes = h .attributes;
+  features = h .features;
+  tabs = h .tabs;
+}
+
+-- a byte's change that fits, g being the bytes gathered
+unfoldable pub effectOk : ℕ → List ℕ → Change → Bool
+effectOk w g (Change.Gather n b) = true
+effectOk w g (Change.Take x n) = pendingOk (Pending.Text x n) g
+effectOk w g (Change.Set x) = changeOk w x
+
+pub setup-kept : (wide : Bool) (x : Change) (g : List ℕ) (u : Setup) → effectOk (columns wide) g x ≡ true → PossibleSetup (columns wide) u
+    → PossibleSetup (columns wide) (setupAfter x g u)
+unfolding setupAfter effectOk
+setup-kept w (Change.Gather n b) g u e h = h
+setup-kept w (Change.Take x n) g u e h = stored-kept (columns w) x n g u e h
+setup-kept w (Change.Set x) g u e h = changed-kept w x u e h
 
 -- ---- the inner step
 
-landed-kept : (g : List Bool) (l : Land) (c : Core) → length g ≡ pageLength (c .screen) → PossibleCore c → GoodLand (c .screen) l → PossibleCore (landed g l c)
+landed-kept : (g : List Bool) (l : Land) (c : Core) (t : List ℕ) → length g ≡ pageLength (c .screen) → PossibleCore c t → GoodLand (c .screen) l
+    → PossibleCore (landed g l c) t
 unfolding landed
-landed-kept g Land.Stay c n h k = h
-landed-kept g (Land.Settle i) c n h k =
+landed-kept g Land.Stay c t n h k = h
+landed-kept g (Land.Settle i) c t n h k =
     let r = in-settled (c .screen) (screen-inside (c .screen) (h .screen)) g n i k in
     record { screen = cursor-kept (c .screen) _ (h .screen) (r .0) (r .1); bells = h .bells; pending = h .pending }
 
@@ -169,63 +229,63 @@ landed-wide g Land.Stay c = refl
 landed-wide g (Land.Settle i) c = refl
 
 -- what holds of the effect of a byte on a good page and core
-pub record EffectKept (c : Core) (e : Effect) : Type 0 where
+pub record EffectKept (c : Core) (g : List ℕ) (e : Effect) : Type 0 where
   pub size : length (e .page) ≡ pageLength (c .screen)
   pub wide : e .core .screen .wide ≡ c .screen .wide
-  pub core : PossibleCore (e .core)
-  pub change : changeOk (widthOf (c .screen)) (c .gathered) (e .change) ≡ true
+  pub core : PossibleCore (e .core) (gatheredAfter (e .change) g)
+  pub change : effectOk (widthOf (c .screen)) g (e .change) ≡ true
 
-idle-kept : (c : Core) → PossibleCore c → PossibleCore (idle c)
+idle-kept : (c : Core) (g : List ℕ) → PossibleCore c g → PossibleCore (idle c) g
 unfolding pendingOk
-idle-kept c h = record { screen = h .screen; bells = h .bells; pending = refl }
+idle-kept c g h = record { screen = h .screen; bells = h .bells; pending = refl }
 
-module _ (p : List ℕ) (c : Core) (n : length p ≡ pageLength (c .screen)) (h : PossibleCore c) where
+module _ (p : List ℕ) (c : Core) (n : length p ≡ pageLength (c .screen)) (g : List ℕ) (h : PossibleCore c g) where
   -- the plan of a command, from the page's own guarded cells
   pub planned-kept : (tabs : List Bool) (d : Command) → PlanKept (commandOk d) (idle c) (planRule (guardedAt (c .modes .protect) p) tabs (idle c) d)
   planned-kept tabs d = plan-kept (idle c) (h .screen) (guardedAt (c .modes .protect) p) (length-guards (c .modes .protect) p ∙ n) tabs d
 
-  next-kept : {t : Bool} {x : Plan} → PlanKept t (idle c) x → PossibleCore (x .next)
+  next-kept : {t : Bool} {x : Plan} → PlanKept t (idle c) x → PossibleCore (x .next) g
   unfolding pendingOk
   next-kept {t} {x} k = record { screen = k .good .screen; bells = k .bells (h .bells); pending = rw (k .pending) }
 
-  pub carried-kept : {t : Bool} (x : Plan) (room : ℕ) → PlanKept t (idle c) x → t ≡ true → EffectKept c (carried p c x room)
-  unfolding carried done changeOk
+  pub carried-kept : {t : Bool} (x : Plan) (room : ℕ) → PlanKept t (idle c) x → t ≡ true → EffectKept c g (carried p c x room)
+  unfolding carried done changeOk effectOk gatheredAfter
   carried-kept x room k good =
-      pick-if (EffectKept c) (leb (length (replyOf (c .modes .protect) p x)) room)
+      pick-if (EffectKept c g) (leb (length (replyOf (c .modes .protect) p x)) room)
       (λ e. let on = c .modes .protect in let q = pageAfter on x p in
       record {
         size = length-after on x p ∙ n;
         wide = landed-wide (guardedAt (x .next .modes .protect) q) (x .land) (x .next) ∙ k .wide;
-        core = landed-kept (guardedAt (x .next .modes .protect) q) (x .land) (x .next)
+        core = landed-kept (guardedAt (x .next .modes .protect) q) (x .land) (x .next) g
             (length-guards (x .next .modes .protect) q ∙ (length-after on x p ∙ (n ∙ ap (λ (b : Bool). 24 * columns b) (sym (k .wide)))))
             (next-kept k) (k .good .place);
-        change = k .change good (c .gathered);
+        change = k .change good;
       })
       (λ e. record { size = n; wide = refl; core = h; change = refl })
 
-  obeyed-kept : (tabs : List Bool) (d : Decoded) (room : ℕ) → decodedOk (c .pending) (c .gathered) d ≡ true → EffectKept c (obeyed p c tabs d room)
-  unfolding obeyed decodedOk changeOk
+  obeyed-kept : (tabs : List Bool) (d : Decoded) (room : ℕ) → decodedOk g d ≡ true → EffectKept c g (obeyed p c tabs d room)
+  unfolding obeyed decodedOk changeOk effectOk gatheredAfter
   obeyed-kept tabs (Decoded.Wait q) room e = record { size = n; wide = refl; core = record { screen = h .screen; bells = h .bells; pending = e }; change = refl }
-  obeyed-kept tabs (Decoded.Gather b) room e = record { size = n; wide = refl; core = record { screen = h .screen; bells = h .bells; pending = e }; change = refl }
-  obeyed-kept tabs (Decoded.Program i) room e = record { size = n; wide = refl; core = idle-kept c h; change = e }
-  obeyed-kept tabs (Decoded.Reject a) room e = record { size = n; wide = refl; core = idle-kept c h; change = refl }
+  obeyed-kept tabs (Decoded.Gather x i b) room e = record { size = n; wide = refl; core = record { screen = h .screen; bells = h .bells; pending = e }; change = refl }
+  obeyed-kept tabs (Decoded.Take x i) room e = record { size = n; wide = refl; core = idle-kept c g h; change = e }
+  obeyed-kept tabs (Decoded.Reject a) room e = record { size = n; wide = refl; core = idle-kept c g h; change = refl }
   obeyed-kept tabs (Decoded.Do d) room e = carried-kept _ room (planned-kept tabs d) e
 
-  pub inner-kept : (tabs : List Bool) (b room : ℕ) → EffectKept c (innerRule p c tabs b room)
-  unfolding innerRule changeOk
+  pub inner-kept : (tabs : List Bool) (b room : ℕ) → EffectKept c g (innerRule p c tabs b room)
+  unfolding innerRule changeOk effectOk gatheredAfter
   inner-kept tabs b room =
-      pick-if (EffectKept c) (ltb b 128)
-      (λ e. obeyed-kept tabs (decodeRule (c .pending) (c .gathered .len) b) room
-      (decoded-ok (c .pending) (c .gathered) b (ltb-true b 128 e) (h .pending)))
+      pick-if (EffectKept c g) (ltb b 128)
+      (λ e. obeyed-kept tabs (decodeRule (c .pending) b) room
+      (decoded-ok (c .pending) g b (ltb-true b 128 e) (h .pending)))
       (λ e. record { size = n; wide = refl; core = h; change = refl })
 
   pub inner-setup : (u : Setup) (b room : ℕ) → PossibleSetup (widthOf (c .screen)) u
-      → PossibleSetup (widthOf (innerRule p c (u .tabs) b room .core .screen)) (changed (innerRule p c (u .tabs) b room .change) (c .gathered) u)
+      → PossibleSetup (widthOf (innerRule p c (u .tabs) b room .core .screen)) (setupAfter (innerRule p c (u .tabs) b room .change) g u)
   inner-setup u b room w =
       let e = innerRule p c (u .tabs) b room in
       let k = inner-kept (u .tabs) b room in
-      subst (λ (t : Bool). PossibleSetup (columns t) (changed (e .change) (c .gathered) u)) (sym (k .wide))
-      (changed-kept (c .screen .wide) (e .change) (c .gathered) u (k .change) w)
+      subst (λ (t : Bool). PossibleSetup (columns t) (setupAfter (e .change) g u)) (sym (k .wide))
+      (setup-kept (c .screen .wide) (e .change) g u (k .change) w)
 
 -- ---- the calls
 
@@ -263,12 +323,12 @@ step-keeps p s b room =
     (λ g.
     let r = good-parts p s g in
     let w = possible-parts s (r .1) in
-    let k = inner-kept p (s .core) (r .0) (w .core) (s .setup .tabs) b room in
+    let k = inner-kept p (s .core) (r .0) (s .gathered) (w .core) (s .setup .tabs) b room in
     record {
       size = k .size ∙ sym (r .0);
       wide = k .wide;
       state = λ h. possible-whole _ (k .wide ∙ w .narrow) (k .core)
-          (inner-setup p (s .core) (r .0) (w .core) (s .setup) b room (w .setup));
+          (inner-setup p (s .core) (r .0) (s .gathered) (w .core) (s .setup) b room (w .setup));
     })
     (λ g. keeps-same)
 
@@ -317,7 +377,7 @@ play-good calls p s h = keeps-good (play-keeps calls p s) h
 -- ---- power-on
 
 pub powerOn-possible : possible powerOn ≡ true
-unfolding possible coreOk setupOk powerOn columns noStops screenOk unsplitOk keysOk keyOk allBelow attributesOk isAttribute featuresOk featurePlace pendingOk
+unfolding possible coreOk setupOk powerOn columns noStops screenOk unsplitOk textsOk textOk allText attributesOk isAttribute featuresOk featurePlace pendingOk
 powerOn-possible = refl
 
 pub powerOn-good : (p : List ℕ) → length p ≡ 1920 → good (powerOnRule p .page) (powerOnRule p .state) ≡ true

@@ -19,7 +19,7 @@ use Rattle.rules.specs.declared.Decoded.{Decoded}
 use Rattle.rules.specs.declared.Decoded.the-variants as Decoded
 use Rattle.rules.specs.Cell.{pick, among}
 use Rattle.rules.specs.Search.{guardedAt}
-use Rattle.rules.specs.State.{number, idle, changed}
+use Rattle.rules.specs.State.{number, idle, changed, gatheredAfter, setupAfter}
 use Rattle.rules.specs.Possible.{pendingOk, good}
 use Rattle.rules.specs.Decode.{decodeRule}
 use Rattle.rules.specs.Carry.{Effect, quiet, applied, replied, replyOf, landed, done, carried}
@@ -43,27 +43,27 @@ module _ (p : List ℕ) (c : Core) where
       pick-if (Ended p c) (leb (length (replyOf (c .modes .protect) p x)) room) (λ t. ends (ap number e)) (λ t. keeps 6 refl (omega arith, λ e. omega (arith, e)))
   carried-ends x room (refuses a e) = rw (leb·zero room) (clears (number a) e)
 
-  module _ (tabs : List Bool) (room : ℕ) where
-    obeyed-ends : (d : Decoded) → decodedOk (c .pending) (c .gathered) d ≡ true → Ended p c (obeyed p c tabs d room)
+  module _ (tabs : List Bool) (g : List ℕ) (room : ℕ) where
+    obeyed-ends : (d : Decoded) → decodedOk g d ≡ true → Ended p c (obeyed p c tabs d room)
     unfolding obeyed decodedOk
     obeyed-ends (Decoded.Wait q) e = ends refl
-    obeyed-ends (Decoded.Gather b) e = ends refl
-    obeyed-ends (Decoded.Program n) e = ends refl
+    obeyed-ends (Decoded.Gather x i b) e = ends refl
+    obeyed-ends (Decoded.Take x i) e = ends refl
     obeyed-ends (Decoded.Reject a) e = clears (number a) e
     obeyed-ends (Decoded.Do d) e = carried-ends _ room (planned (idle c) (guardedAt (c .modes .protect) p) tabs d)
 
-    pub inner-ends : (b : ℕ) → pendingOk (c .pending) (c .gathered) ≡ true → Ended p c (innerRule p c tabs b room)
+    pub inner-ends : (b : ℕ) → pendingOk (c .pending) g ≡ true → Ended p c (innerRule p c tabs b room)
     unfolding innerRule
     inner-ends b h =
         pick-if (Ended p c) (ltb b 128)
-        (λ t. obeyed-ends (decodeRule (c .pending) (c .gathered .len) b) (decoded-ok (c .pending) (c .gathered) b (ltb-true b 128 t) h))
+        (λ t. obeyed-ends (decodeRule (c .pending) b) (decoded-ok (c .pending) g b (ltb-true b 128 t) h))
         (λ t. keeps 1 refl (omega arith, λ e. omega (arith, e)))
 
 -- ---- the step
 
 module _ (p : List ℕ) (s : State) where
   ended-left : {e : Effect} → Ended p (s .core) e → (e .answer ≡ 0 → ⊥) → Left p s (outcomeOf s e)
-  unfolding changed
+  unfolding gatheredAfter setupAfter changed
   ended-left (ends a) n = absurd (n a)
   ended-left (clears m a) n = record { page = refl; state = rw a; reply = refl }
   ended-left (keeps m a l) n = record { page = refl; state = rw a; reply = refl }
@@ -80,7 +80,7 @@ module _ (p : List ℕ) (s : State) where
 
   module _ (b room : ℕ) where
     good-ends : good p s ≡ true → Ended p (s .core) (innerRule p (s .core) (s .setup .tabs) b room)
-    good-ends g = inner-ends p (s .core) (s .setup .tabs) room b (possible-parts s (good-parts p s g .1) .core .pending)
+    good-ends g = inner-ends p (s .core) (s .setup .tabs) (s .gathered) room b (possible-parts s (good-parts p s g .1) .core .pending)
 
     -- an answer other than 0 leaves the page, replies nothing, and leaves of the state what the table says
     pub step-left : (stepRule p s b room .answer ≡ 0 → ⊥) → Left p s (stepRule p s b room)
@@ -109,7 +109,7 @@ module _ (p : List ℕ) (s : State) where
 
     -- a byte of 80h or above changes nothing, whatever is under way
     pub step-high : 128 ≤ b → Unchanged (pick (good p s) 1 7) p s (stepRule p s b room)
-    unfolding stepRule innerRule changed
+    unfolding stepRule innerRule gatheredAfter setupAfter changed
     step-high h = rw (le-ltb b 128 h) (by (good p s))
       where
         by : (t : Bool) → Unchanged (pick t 1 7) p s (pick t (outcomeOf s (quiet 1 (s .core) p))

@@ -12,7 +12,7 @@ pub mod Noninterference
 pub mod Screens
 pub mod Places
 pub mod Good
-pub mod Keys
+pub mod Texts
 pub mod Decoding
 pub mod Kept
 pub mod Bound
@@ -23,3 +23,4 @@ pub mod Press
 pub mod Reach
 pub mod Completed
 pub mod KeyStore
+pub mod ShiftedLine

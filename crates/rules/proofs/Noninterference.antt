@@ -16,8 +16,7 @@ use Rattle.rules.specs.declared.State.{State}
 use Rattle.rules.specs.declared.Plan.{Plan}
 use Rattle.rules.specs.declared.Land.{Land}
 use Rattle.rules.specs.declared.Land.the-variants as Land
-use Rattle.rules.specs.declared.SetupChange.{SetupChange}
-use Rattle.rules.specs.declared.SetupChange.the-variants as SetupChange
+use Rattle.rules.specs.declared.Change.{Change}
 use Rattle.rules.specs.declared.Decoded.{Decoded}
 use Rattle.rules.specs.declared.Decoded.the-variants as Decoded
 use Rattle.rules.specs.Cell.{pick, both, either}
@@ -84,7 +83,7 @@ module _ {p q x y : List ℕ} (h : Related p q x y) (s : State) (on : protects s
   good-agrees = rw (related-length h)
 
   -- an effect that leaves the page
-  untouched : (n : ℕ) (c : Core) (k : SetupChange) → c .modes .protect ≡ true → AgreeFrom s p q (effect n c k x []) (effect n c k y [])
+  untouched : (n : ℕ) (c : Core) (k : Change) → c .modes .protect ≡ true → AgreeFrom s p q (effect n c k x []) (effect n c k y [])
   untouched n c k e = record { page = y; but-page = refl; related = h; on = e }
 
   done-agrees : (k : Plan) → Unrevealing k → AgreeFrom s p q (done (protects s) x k) (done (protects s) y k)
@@ -115,8 +114,8 @@ module _ {p q x y : List ℕ} (h : Related p q x y) (s : State) (on : protects s
       → AgreeFrom s p q (obeyed x (s .core) (s .setup .tabs) d room) (obeyed y (s .core) (s .setup .tabs) d room)
   unfolding obeyed
   obeyed-agrees (Decoded.Wait r) room e = untouched _ _ _ on
-  obeyed-agrees (Decoded.Gather b) room e = untouched _ _ _ on
-  obeyed-agrees (Decoded.Program n) room e = untouched _ _ _ on
+  obeyed-agrees (Decoded.Gather v n b) room e = untouched _ _ _ on
+  obeyed-agrees (Decoded.Take v n) room e = untouched _ _ _ on
   obeyed-agrees (Decoded.Reject a) room e = untouched _ _ _ on
   obeyed-agrees (Decoded.Do d) room e =
       let k = planRule (guardedAt (protects s) x) (s .setup .tabs) (idle (s .core)) d in
@@ -129,8 +128,8 @@ module _ {p q x y : List ℕ} (h : Related p q x y) (s : State) (on : protects s
   unfolding innerRule completes
   inner-agrees b room e =
       pick-agrees (AgreeFrom s p q) (ltb b 128)
-      (λ t. obeyed-agrees (decodeRule (s .core .pending) (s .core .gathered .len) b) room
-      (rw (← (excluded-bytes (s .core .pending) (s .core .gathered .len) b (ltb-true b 128 t)), t) at e))
+      (λ t. obeyed-agrees (decodeRule (s .core .pending) b) room
+      (rw (← (excluded-bytes (s .core .pending) b (ltb-true b 128 t)), t) at e))
       (λ t. untouched _ _ _ on)
 
   step-agrees : (b room : ℕ) → completes s b ((stepRule x s b room) .answer) ≡ false → Agree p q (stepRule x s b room) (stepRule y s b room)

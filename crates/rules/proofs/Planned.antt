@@ -106,6 +106,7 @@ module _ (c : Core) where
   settings Setting.ClearTabs = obeys refl
   settings (Setting.Attribute n a) = obeys refl
   settings (Setting.Feature f) = obeys refl
+  settings Setting.HideLine = obeys refl
 
   sends : (g : List Bool) (x : Send) → Planned c (sendPlan g c x)
   unfolding sendPlan

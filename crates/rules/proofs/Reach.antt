@@ -5,100 +5,103 @@ use mathlib.Core.Path.{_≡_, refl, ap, _∙_}
 use mathlib.Core.Bool.{Bool, true, false}
 use mathlib.Core.List.{List, [], _∷_, _++_, append-nil}
 use Prim.Native.Nat.{ℕ, zero, suc, _+_, _-_, _*_, _/_, _^_, _<_, _≤_}
-use native.Mathlib.Nat.{sub-zero}
+use native.Mathlib.Nat.{sub-zero, zero-add, add-zero}
 use native.Mathlib.Numerals.{add-one}
 use native.Mathlib.Omega.{arith}
-use lib.Dec.{leb, ltb, lit<}
-use lib.Seq.{append-snoc}
-use lib.ListN.{length, replicate, length-append, length-take}
-use borrow.Author.Tests.{ltb-true, leb-true, lt-ltb, le-leb, ne-eqb}
+use lib.Dec.{leb, ltb, eqb, lit<}
+use lib.Seq.{append-snoc, take-suc-set}
+use lib.ListN.{length, take, set, replicate, length-take, length-set}
+use borrow.Author.Tests.{ltb-true, leb-true, lt-ltb, le-leb, le-ltb, lt-leb, ne-eqb}
 use Rattle.rules.specs.declared.State.{State}
-use Rattle.rules.specs.declared.Key.{Key}
+use Rattle.rules.specs.declared.Slot.{Slot}
+use Rattle.rules.specs.declared.Slot.the-variants as Slot
 use Rattle.rules.specs.declared.Pending.{Pending}
 use Rattle.rules.specs.declared.Pending.the-variants as Pending
+use Rattle.rules.specs.declared.Argument.{Argument}
+use Rattle.rules.specs.declared.Argument.the-variants as Argument
 use Rattle.rules.specs.declared.Decoded.{Decoded}
 use Rattle.rules.specs.declared.Decoded.the-variants as Decoded
 use Rattle.rules.specs.Row.{columns}
 use Rattle.rules.specs.Cell.{both, either, among}
-use Rattle.rules.specs.State.{keyText, keyOf, noKey, changed}
-use Rattle.rules.specs.Possible.{powerOn, blank, unsplitOk, screenOk, allBelow, keyOk, keysOk, attributesOk, featuresOk, pendingOk, noStops, coreOk, setupOk, possible, good}
-use Rattle.rules.specs.Arguments.{isAttribute, featurePlace, isKey}
-use Rattle.rules.specs.Decode.{lookup, idleRule, escapeRule, splitRule, digitRule, decimalRowRule, decimalColumnRule, keyValueRule, keyTextRule, decodeRule}
+use Rattle.rules.specs.State.{changed, gatheredAfter, setupAfter}
+use Rattle.rules.specs.Arguments.{isAttribute, featurePlace, isKey, isLabel}
+use Rattle.rules.specs.Slot.{slotOk, slotEnd, slotMost, slotLow, isText, allText, textOk, textsOk}
+use Rattle.rules.specs.Possible.{powerOn, blank, unsplitOk, screenOk, attributesOk, featuresOk, pendingOk, noStops, coreOk, setupOk, possible, good}
+use Rattle.rules.specs.Decode.{lookup, idleRule, escapeRule, splitRule, digitRule, decimalRowRule, decimalColumnRule, slotRule, textRule, argumentRule, decodeRule}
 use Rattle.rules.specs.Carry.{digit}
-use Rattle.rules.specs.Step.{Outcome, grown, obeyed, innerRule, stepRule}
+use Rattle.rules.specs.Step.{Outcome, obeyed, innerRule, stepRule}
 use Rattle.rules.specs.Calls.{Ran, joined, repeated, runRule, play}
-use Rattle.rules.specs.Reach.{digits, bytesFor, UnderWay, Reach}
-use Rattle.rules.proofs.Tests.{both-parts, among-parts}
-use Rattle.rules.proofs.Keys.{text-of, key-parts}
+use Rattle.rules.specs.Reach.{digits, opening, slotBytes, bytesFor, UnderWay, Reach}
+use Rattle.rules.proofs.Tests.{both-parts, both-true, among-parts}
+use Rattle.rules.proofs.Texts.{text-parts}
 use Rattle.rules.proofs.Decoding.{decodedOk, decoded-ok}
 use Rattle.rules.proofs.Kept.{possible-parts, play-keeps, powerOn-possible}
 use Rattle.rules.proofs.Run.{run-done}
 
 -- ---- bytes that a sequence awaits
 
--- power-on with a sequence under way
-abbrev waiting : Pending → Key → State
-waiting q k = record {
-  core = record {
-    screen = powerOn .core .screen;
-    modes = powerOn .core .modes;
-    bells = powerOn .core .bells;
-    pending = q;
-    gathered = k;
-  };
+-- power-on with a sequence under way, and some bytes gathered
+abbrev waiting : Pending → List ℕ → State
+waiting q g = record {
+  core = record { screen = powerOn .core .screen; modes = powerOn .core .modes; bells = powerOn .core .bells; pending = q };
+  gathered = g;
   setup = powerOn .setup;
 }
 
 -- the bytes lead from a sequence to a sequence, each being awaited or gathered
-data Leads : List ℕ → Pending → Key → Pending → Key → Type 0 where
-  stay : {q : Pending} {k : Key} → Leads [] q k q k
-  wait : {b : ℕ} {bs : List ℕ} {q r z : Pending} {k g : Key} → b < 128 → decodeRule q (k .len) b ≡ Decoded.Wait r → Leads bs r noKey z g
-      → Leads (b ∷ bs) q k z g
-  gather : {b : ℕ} {bs : List ℕ} {q z : Pending} {k g : Key} → b < 128 → decodeRule q (k .len) b ≡ Decoded.Gather b → Leads bs q (grown k b) z g
-      → Leads (b ∷ bs) q k z g
+data Leads : List ℕ → Pending → List ℕ → Pending → List ℕ → Type 0 where
+  stay : {q : Pending} {g : List ℕ} → Leads [] q g q g
+  wait : {b : ℕ} {bs : List ℕ} {q r z : Pending} {g h : List ℕ} → b < 128 → decodeRule q b ≡ Decoded.Wait r → Leads bs r g z h → Leads (b ∷ bs) q g z h
+  gather : {b n : ℕ} {bs : List ℕ} {x : Slot} {q z : Pending} {g h : List ℕ} → b < 128 → decodeRule q b ≡ Decoded.Gather x n b
+      → Leads bs (Pending.Text x (n + 1)) (set g n b) z h → Leads (b ∷ bs) q g z h
 
-leads-append : {a b : List ℕ} {q r z : Pending} {k g l : Key} → Leads a q k r g → Leads b r g z l → Leads (a ++ b) q k z l
+leads-append : {a b : List ℕ} {q r z : Pending} {g h l : List ℕ} → Leads a q g r h → Leads b r h z l → Leads (a ++ b) q g z l
 leads-append stay y = y
 leads-append (wait h e x) y = wait h e (leads-append x y)
 leads-append (gather h e x) y = gather h e (leads-append x y)
 
-good-waiting : (q : Pending) (k : Key) → pendingOk q k ≡ true → good blank (waiting q k) ≡ true
-unfolding good possible coreOk setupOk blank powerOn columns noStops screenOk unsplitOk keysOk keyOk allBelow attributesOk isAttribute featuresOk featurePlace
-good-waiting q k e = rw e
+good-waiting : (q : Pending) (g : List ℕ) → pendingOk q g ≡ true → good blank (waiting q g) ≡ true
+unfolding good possible coreOk setupOk blank powerOn columns noStops screenOk unsplitOk textsOk textOk allText attributesOk isAttribute featuresOk featurePlace
+good-waiting q g e = both-true e refl
 
 abbrev quietly : State → Outcome
 quietly s = record { answer = 0; state = s; page = blank; reply = [] }
 
-module _ (q : Pending) (k : Key) (b room : ℕ) (p : pendingOk q k ≡ true) (h : b < 128) where
-  step-waits : {r : Pending} → decodeRule q (k .len) b ≡ Decoded.Wait r → stepRule blank (waiting q k) b room ≡ quietly (waiting r noKey)
-  unfolding stepRule innerRule obeyed changed
-  step-waits e = rw (good-waiting q k p, lt-ltb b 128 h, e)
+module _ (q : Pending) (g : List ℕ) (b room : ℕ) (p : pendingOk q g ≡ true) (h : b < 128) where
+  step-waits : {r : Pending} → decodeRule q b ≡ Decoded.Wait r → stepRule blank (waiting q g) b room ≡ quietly (waiting r g)
+  unfolding stepRule innerRule obeyed gatheredAfter setupAfter changed
+  step-waits e = rw (good-waiting q g p, lt-ltb b 128 h, e)
 
-  step-gathers : decodeRule q (k .len) b ≡ Decoded.Gather b → stepRule blank (waiting q k) b room ≡ quietly (waiting q (grown k b))
-  unfolding stepRule innerRule obeyed changed
-  step-gathers e = rw (good-waiting q k p, lt-ltb b 128 h, e)
+  step-gathers : {x : Slot} {n : ℕ} → decodeRule q b ≡ Decoded.Gather x n b
+      → stepRule blank (waiting q g) b room ≡ quietly (waiting (Pending.Text x (n + 1)) (set g n b))
+  unfolding stepRule innerRule obeyed gatheredAfter setupAfter changed
+  step-gathers e = rw (good-waiting q g p, lt-ltb b 128 h, e)
 
 quiet-byte : (b : ℕ) (bs : List ℕ) (s t : State) (room : ℕ) → stepRule blank s b room ≡ quietly t
     → (repeated (b ∷ bs) blank s room) .state ≡ (repeated bs blank t room) .state
 unfolding repeated joined
 quiet-byte b bs s t room e = rw (e, sub-zero)
 
-leads-run : {a : List ℕ} {q z : Pending} {k g : Key} (room : ℕ) → Leads a q k z g → pendingOk q k ≡ true
-    → (repeated a blank (waiting q k) room) .state ≡ waiting z g
+leads-run : {a : List ℕ} {q z : Pending} {g l : List ℕ} (room : ℕ) → Leads a q g z l → pendingOk q g ≡ true
+    → (repeated a blank (waiting q g) room) .state ≡ waiting z l
 unfolding decodedOk
-leads-run room (stay {q} {k}) p = ap (λ (r : Ran). r .state) (run-done blank (waiting q k) room)
-leads-run room (wait {b} {bs} {q} {r} {z} {k} h e x) p =
-    quiet-byte b bs (waiting q k) (waiting r noKey) room (step-waits q k b room p h e)
-    ∙ leads-run room x (rw e at (decoded-ok q k b h p))
-leads-run room (gather {b} {bs} {q} {z} {k} h e x) p =
-    quiet-byte b bs (waiting q k) (waiting q (grown k b)) room (step-gathers q k b room p h e)
-    ∙ leads-run room x (rw e at (decoded-ok q k b h p))
+leads-run room (stay {q} {g}) p = ap (λ (r : Ran). r .state) (run-done blank (waiting q g) room)
+leads-run room (wait {b} {bs} {q} {r} {z} {g} h e x) p =
+    quiet-byte b bs (waiting q g) (waiting r g) room (step-waits q g b room p h e)
+    ∙ leads-run room x (rw e at (decoded-ok q g b h p))
+leads-run room (gather {b} {n} {bs} {x} {q} {z} {g} h e y) p =
+    quiet-byte b bs (waiting q g) (waiting (Pending.Text x (n + 1)) (set g n b)) room (step-gathers q g b room p h e)
+    ∙ leads-run room y (rw e at (decoded-ok q g b h p))
+
+-- nothing is gathered at power-on
+abbrev none : List ℕ
+none = replicate 46 0
 
 -- ---- the digits of ESC a
 
 module _ (most : ℕ) (next : ℕ → ℕ → Pending)
-    (takes : (n x b : ℕ) → n < most → 0x30 ≤ b → b < 0x3a → decodeRule (next n x) 0 b ≡ Decoded.Wait (next (n + 1) (x * 10 + (b - 0x30)))) where
-  lead-digits : (n x : ℕ) → n ≤ most → x < 10 ^ n → Leads (digits n x) (next 0 0) noKey (next n x) noKey
+    (takes : (n x b : ℕ) → n < most → 0x30 ≤ b → b < 0x3a → decodeRule (next n x) b ≡ Decoded.Wait (next (n + 1) (x * 10 + (b - 0x30)))) where
+  lead-digits : (n x : ℕ) → n ≤ most → x < 10 ^ n → Leads (digits n x) (next 0 0) none (next n x) none
   unfolding digits
   lead-digits zero x h l =
       let e : x ≡ 0 = omega arith in
@@ -115,64 +118,87 @@ module _ (most : ℕ) (next : ℕ → ℕ → Pending)
 is-digit : (n most b : ℕ) → n < most → 0x30 ≤ b → b < 0x3a → both (among 0x30 10 b) (ltb n most) ≡ true
 is-digit n most b h l m = rw (le-leb 0x30 b l, lt-ltb b 0x3a m, lt-ltb n most h)
 
-lead-row : (n x : ℕ) → n ≤ 2 → x < 10 ^ n → Leads (digits n x) (Pending.DecimalRow 0 0) noKey (Pending.DecimalRow n x) noKey
+lead-row : (n x : ℕ) → n ≤ 2 → x < 10 ^ n → Leads (digits n x) (Pending.DecimalRow 0 0) none (Pending.DecimalRow n x) none
 lead-row = lead-digits 2 Pending.DecimalRow takes
   where
-    takes : (n x b : ℕ) → n < 2 → 0x30 ≤ b → b < 0x3a → decodeRule (Pending.DecimalRow n x) 0 b ≡ Decoded.Wait
+    takes : (n x b : ℕ) → n < 2 → 0x30 ≤ b → b < 0x3a → decodeRule (Pending.DecimalRow n x) b ≡ Decoded.Wait
         (Pending.DecimalRow (n + 1) (x * 10 + (b - 0x30)))
     takes n x b h l m = unfold decodeRule decimalRowRule digitRule in rw (ne-eqb b 0x52 (omega arith), is-digit n 2 b h l m)
 
-lead-column : (row n x : ℕ) → n ≤ 3 → x < 10 ^ n → Leads (digits n x) (Pending.DecimalColumn row 0 0) noKey (Pending.DecimalColumn row n x) noKey
+lead-column : (row n x : ℕ) → n ≤ 3 → x < 10 ^ n → Leads (digits n x) (Pending.DecimalColumn row 0 0) none (Pending.DecimalColumn row n x) none
 lead-column row = lead-digits 3 (Pending.DecimalColumn row) takes
   where
     takes : (n x b : ℕ) → n < 3 → 0x30 ≤ b → b < 0x3a
-        → decodeRule (Pending.DecimalColumn row n x) 0 b ≡ Decoded.Wait (Pending.DecimalColumn row (n + 1) (x * 10 + (b - 0x30)))
+        → decodeRule (Pending.DecimalColumn row n x) b ≡ Decoded.Wait (Pending.DecimalColumn row (n + 1) (x * 10 + (b - 0x30)))
     takes n x b h l m = unfold decodeRule decimalColumnRule digitRule in rw (ne-eqb b 0x43 (omega arith), is-digit n 3 b h l m)
 
--- ---- the text of ESC z
+-- ---- texts
 
-text-byte : {z : Pending} {g : Key} (v : ℕ) (a : List ℕ) (b : ℕ) (l : List ℕ) → length a < 8 → b < 0x7f
-    → Leads l (Pending.KeyText v) (keyOf (a ++ b ∷ [])) z g → Leads (b ∷ l) (Pending.KeyText v) (keyOf a) z g
-text-byte {z} {g} v a b l h m x =
-    let k : grown (keyOf a) b ≡ keyOf (a ++ b ∷ []) = ap (λ (t : List ℕ). keyOf (t ++ b ∷ [])) (text-of a (omega arith)) in
-    let y : Leads l (Pending.KeyText v) (grown (keyOf a) b) z g = rw k x in
-    gather {b = b} (omega arith) taken y
+-- the bytes gathered after more of them, behind n
+unfoldable gatheredBy : ℕ → List ℕ → List ℕ → List ℕ
+gatheredBy n [] g = g
+gatheredBy n (b ∷ l) g = gatheredBy (n + 1) l (set g n b)
+
+gathered-text : (n : ℕ) (l g : List ℕ) → n + length l ≤ length g → take (n + length l) (gatheredBy n l g) ≡ take n g ++ l
+unfolding gatheredBy
+gathered-text n [] g h = rw (append-nil, add-zero)
+gathered-text n (b ∷ l) g h =
+    let e : n + suc (length l) ≡ n + 1 + length l = omega arith in
+    let t : take (n + 1) (set g n b) ≡ take n g ++ b ∷ [] = rw (add-one n) (take-suc-set g n b (omega arith)) in
+    rw (e, gathered-text (n + 1) l (set g n b) (omega (arith, length-set g n b)), t, append-snoc)
+
+-- a byte of a kind is below 80h and ends no text of that kind
+text-byte : (x : Slot) (b : ℕ) → isText (slotLow x) b ≡ true → (b < 128) × (eqb b (slotEnd x) ≡ false)
+unfolding isText slotLow slotEnd
+text-byte (Slot.Key v) b e = let r = both-parts (leb 0 b) (ltb b 0x7f) e in let h = ltb-true b 0x7f (r .1) in (omega arith, ne-eqb b 0x7f (omega arith))
+text-byte (Slot.Label v) b e =
+    let r = both-parts (leb 0x20 b) (ltb b 0x7f) e in
+    let h = ltb-true b 0x7f (r .1) in
+    let l = leb-true 0x20 b (r .0) in
+    (omega arith, ne-eqb b 0x0d (omega arith))
+text-byte Slot.Message b e =
+    let r = both-parts (leb 0x20 b) (ltb b 0x7f) e in
+    let h = ltb-true b 0x7f (r .1) in
+    let l = leb-true 0x20 b (r .0) in
+    (omega arith, ne-eqb b 0x0d (omega arith))
+
+lead-text : (x : Slot) (n : ℕ) (l g : List ℕ) → n + length l ≤ slotMost x → allText (slotLow x) l ≡ true
+    → Leads l (Pending.Text x n) g (Pending.Text x (n + length l)) (gatheredBy n l g)
+unfolding allText gatheredBy
+lead-text x n [] g h e = rw add-zero stay
+lead-text x n (b ∷ l) g h e =
+    let r = both-parts (isText (slotLow x) b) (allText (slotLow x) l) e in
+    let t = text-byte x b (r .0) in
+    let m : n + suc (length l) ≡ n + 1 + length l = omega arith in
+    let y : Leads l (Pending.Text x (n + 1)) (set g n b) (Pending.Text x (n + suc (length l))) (gatheredBy (n + 1) l (set g n b)) =
+    rw m (lead-text x (n + 1) l (set g n b) (omega arith) (r .1)) in
+    let w : decodeRule (Pending.Text x n) b ≡ Decoded.Gather x n b =
+    unfold decodeRule textRule in rw (t .1, lt-ltb n (slotMost x) (omega arith), r .0) in
+    gather (t .0) w y
+
+-- the value of a key or a label is below 80h, and no value is both
+value-below : (first second n v : ℕ) → either (among first n v) (among second n v) ≡ true → first + n ≤ 128 → second + n ≤ 128 → v < 128
+value-below first second n v e h k = by (among first n v) refl e
   where
-    taken : decodeRule (Pending.KeyText v) (length a) b ≡ Decoded.Gather b
-    taken = unfold decodeRule keyTextRule in rw (ne-eqb b 0x7f (omega arith), lt-ltb (length a) 8 h)
-
-lead-text : (v : ℕ) (a l : List ℕ) → length a + length l ≤ 8 → allBelow 0x7f l ≡ true
-    → Leads l (Pending.KeyText v) (keyOf a) (Pending.KeyText v) (keyOf (a ++ l))
-unfolding allBelow
-lead-text v a [] h e = rw append-nil stay
-lead-text v a (b ∷ l) h e =
-    let more : length (a ++ b ∷ []) + length l ≤ 8 = omega (arith, length-append a (b ∷ [])) in
-    let r = both-parts (ltb b 0x7f) (allBelow 0x7f l) e in
-    text-byte v a b l (omega arith) (ltb-true b 0x7f (r .0)) (rw (append-snoc a b l) at (lead-text v (a ++ b ∷ []) l more (r .1)))
-
--- the value of a key is below 80h
-key-below : (v : ℕ) → isKey v ≡ true → v < 128
-unfolding isKey
-key-below v e = by (among 0x40 16 v) refl e
-  where
-    by : (s : Bool) → among 0x40 16 v ≡ s → either s (among 0x60 16 v) ≡ true → v < 128
-    by true a e = omega (arith, among-parts 0x40 16 v a)
-    by false a e = omega (arith, among-parts 0x60 16 v e)
+    by : (s : Bool) → among first n v ≡ s → either s (among second n v) ≡ true → v < 128
+    by true a e = omega (arith, among-parts first n v a)
+    by false a e = omega (arith, among-parts second n v e)
 
 -- ---- the bytes of each sequence
 
--- where they lead: to it, and to the key text of k where it gathers one
-data Led (q : Pending) (k : Key) : Type 0 where
-  plain : ((v : ℕ) → q ≡ Pending.KeyText v → _≡_ {A = ℕ} 0 1) → Leads (bytesFor q k) Pending.Idle noKey q noKey → Led q k
-  text : Leads (bytesFor q k) Pending.Idle noKey q (keyOf (keyText k)) → k .len ≤ 8 → Led q k
+-- where they lead: to it, and to the text of g where it gathers one
+data Led (q : Pending) (g : List ℕ) : Type 0 where
+  plain : {l : List ℕ} → ((x : Slot) (n : ℕ) → q ≡ Pending.Text x n → _≡_ {A = ℕ} 0 1) → Leads (bytesFor q g) Pending.Idle none q l → Led q g
+  text : {l : List ℕ} (n : ℕ) → ((x : Slot) (m : ℕ) → q ≡ Pending.Text x m → m ≡ n) → Leads (bytesFor q g) Pending.Idle none q l
+      → take n l ≡ take n g → Led q g
 
-escape : {x : ℕ} {bs : List ℕ} {r z : Pending} {g : Key} → x < 128 → escapeRule x ≡ Decoded.Wait r → Leads bs r noKey z g
-    → Leads (0x1b ∷ x ∷ bs) Pending.Idle noKey z g
+escape : {x : ℕ} {bs : List ℕ} {r z : Pending} {g : List ℕ} → x < 128 → escapeRule x ≡ Decoded.Wait r → Leads bs r none z g
+    → Leads (0x1b ∷ x ∷ bs) Pending.Idle none z g
 unfolding decodeRule idleRule lookup
 escape h e x = wait (lit< tt) refl (wait h e x)
 
 led-column : (row n column : ℕ) → both (ltb row 100) (both (leb n 3) (ltb column (10 ^ n))) ≡ true
-    → Leads (digits 2 row ++ 0x52 ∷ digits n column) (Pending.DecimalRow 0 0) noKey (Pending.DecimalColumn row n column) noKey
+    → Leads (digits 2 row ++ 0x52 ∷ digits n column) (Pending.DecimalRow 0 0) none (Pending.DecimalColumn row n column) none
 unfolding decodeRule decimalRowRule
 led-column row n column e =
     let r = both-parts (ltb row 100) _ e in
@@ -180,105 +206,119 @@ led-column row n column e =
     leads-append (lead-row 2 row (omega arith) (ltb-true row 100 (r .0)))
     (wait (lit< tt) refl (lead-column row n column (leb-true n 3 (d .0)) (ltb-true column (10 ^ n) (d .1))))
 
--- a key's value, and then its text
-led-key : {bs : List ℕ} {z : Pending} {g : Key} (v : ℕ) → isKey v ≡ true → Leads bs (Pending.KeyText v) noKey z g
-    → Leads (0x1b ∷ 0x7a ∷ v ∷ bs) Pending.Idle noKey z g
-unfolding decodeRule escapeRule lookup keyValueRule
-led-key v e x = escape (lit< tt) refl (wait (key-below v e) (rw e) x)
+-- ESC z and its value, or ESC F, and then the text
+not-key : (v : ℕ) → isLabel v ≡ true → isKey v ≡ false
+unfolding isKey isLabel
+not-key v e = by (among 0x30 8 v) refl e
+  where
+    unfold-both : (t : Bool) → either (both t false) false ≡ false
+    unfold-both true = refl
+    unfold-both false = refl
 
-led-text : (v : ℕ) (k : Key) → isKey v ≡ true → keyOk k ≡ true
-    → Leads ((0x1b ∷ 0x7a ∷ v ∷ []) ++ keyText k) Pending.Idle noKey (Pending.KeyText v) (keyOf (keyText k))
-led-text v k e h =
-    let r = key-parts k h in
-    led-key v e (lead-text v [] (keyText k) (omega (arith, length-take (k .len) (k .bytes))) (r .1))
+    by : (s : Bool) → among 0x30 8 v ≡ s → either s (among 0x50 8 v) ≡ true → either (among 0x40 16 v) (among 0x60 16 v) ≡ false
+    by true a e =
+        let r = among-parts 0x30 8 v a in
+        rw (lt-leb 0x40 v (omega arith), lt-leb 0x60 v (omega arith))
+    by false a e =
+        let r = among-parts 0x50 8 v e in
+        rw (le-ltb v 0x50 (omega arith), lt-leb 0x60 v (omega arith)) (unfold-both (leb 0x40 v))
 
-led-over : (v : ℕ) → isKey v ≡ true → Leads ((0x1b ∷ 0x7a ∷ v ∷ []) ++ replicate 9 0) Pending.Idle noKey (Pending.KeyOver v) noKey
-unfolding decodeRule keyTextRule allBelow
-led-over v e = led-key v e (leads-append (lead-text v [] (replicate 8 0) (omega arith) refl) (wait (lit< tt) refl stay))
+led-slot : {bs : List ℕ} {z : Pending} {g : List ℕ} (x : Slot) → slotOk x ≡ true → Leads bs (Pending.Text x 0) none z g
+    → Leads (0x1b ∷ (slotBytes x ++ bs)) Pending.Idle none z g
+unfolding slotBytes slotOk decodeRule argumentRule escapeRule lookup slotRule isKey isLabel
+led-slot (Slot.Key v) e x = escape (lit< tt) refl (wait (value-below 0x40 0x60 16 v e (omega arith) (omega arith)) (rw e) x)
+led-slot (Slot.Label v) e x =
+    escape (lit< tt) refl (wait (value-below 0x30 0x50 8 v e (omega arith) (omega arith)) (rw (not-key v e, e)) x)
+led-slot Slot.Message e x = escape (lit< tt) refl x
 
-led : (q : Pending) (k : Key) → pendingOk q k ≡ true → Led q k
-unfolding bytesFor pendingOk decodeRule idleRule escapeRule lookup splitRule
-led Pending.Idle k e = plain (λ v x. cc) stay
-led Pending.Escape k e = plain (λ v x. cc) (wait (lit< tt) refl stay)
-led Pending.Address k e = plain (λ v x. cc) (escape (lit< tt) refl stay)
-led (Pending.AddressRow r) k e = plain (λ v x. cc) (escape (lit< tt) refl (wait (ltb-true r 128 e) refl stay))
-led Pending.Segment k e = plain (λ v x. cc) (escape (lit< tt) refl stay)
-led (Pending.SegmentNumber n) k e = plain (λ v x. cc) (escape (lit< tt) refl (wait (ltb-true n 128 e) refl stay))
-led (Pending.SegmentRow n r) k e =
+most-fits : (x : Slot) → slotMost x ≤ 46
+unfolding slotMost
+most-fits (Slot.Key v) = omega arith
+most-fits (Slot.Label v) = omega arith
+most-fits Slot.Message = omega arith
+
+led-text : (x : Slot) (n : ℕ) (g : List ℕ) → length g ≡ 46 → pendingOk (Pending.Text x n) g ≡ true → Led (Pending.Text x n) g
+unfolding pendingOk bytesFor
+led-text x n g k e =
+    let r = both-parts (slotOk x) _ e in
+    let t = text-parts (slotLow x) (slotMost x) n g (r .1) in
+    let m : n ≤ 46 = omega (arith, t .0, most-fits x) in
+    let size : length (take n g) ≡ n = omega (arith, length-take n g) in
+    let y : Leads (take n g) (Pending.Text x 0) none (Pending.Text x n) (gatheredBy 0 (take n g) none) =
+    rw (zero-add (length (take n g)), size) at (lead-text x 0 (take n g) none (omega arith) (t .1)) in
+    let w : take n (gatheredBy 0 (take n g) none) ≡ take n g = rw (zero-add (length (take n g)), size) at (gathered-text 0 (take n g) none (omega arith)) in
+    text n (λ z m q. cc) (led-slot x (r .0) y) w
+
+-- spaces, one too many
+spaces : (x : Slot)
+    → Leads (replicate (slotMost x + 1) 0x20) (Pending.Text x 0) none (Pending.Spoilt x) (gatheredBy 0 (replicate (slotMost x) 0x20) none)
+unfolding slotMost slotLow slotEnd isText allText decodeRule textRule
+spaces (Slot.Key v) = leads-append (lead-text (Slot.Key v) 0 (replicate 8 0x20) none (omega arith) refl) (wait (lit< tt) refl stay)
+spaces (Slot.Label v) = leads-append (lead-text (Slot.Label v) 0 (replicate 8 0x20) none (omega arith) refl) (wait (lit< tt) refl stay)
+spaces Slot.Message = leads-append (lead-text Slot.Message 0 (replicate 46 0x20) none (omega arith) refl) (wait (lit< tt) refl stay)
+
+led-argument : (a : Argument) → Leads (0x1b ∷ opening a) Pending.Idle none (Pending.Awaits a) none
+unfolding opening decodeRule argumentRule idleRule escapeRule lookup splitRule
+led-argument Argument.Address = escape (lit< tt) refl stay
+led-argument Argument.Segment = escape (lit< tt) refl stay
+led-argument Argument.Split = escape (lit< tt) refl stay
+led-argument Argument.SplitRow = escape (lit< tt) refl (wait (lit< tt) refl stay)
+led-argument Argument.Attribute = escape (lit< tt) refl stay
+led-argument Argument.Graphic = escape (lit< tt) refl stay
+led-argument Argument.FillAttribute = escape (lit< tt) refl stay
+led-argument Argument.FillCode = escape (lit< tt) refl stay
+led-argument Argument.Feature = escape (lit< tt) refl stay
+led-argument Argument.FieldAttribute = escape (lit< tt) refl stay
+led-argument Argument.Slot = escape (lit< tt) refl stay
+
+led : (q : Pending) (g : List ℕ) → length g ≡ 46 → pendingOk q g ≡ true → Led q g
+unfolding bytesFor pendingOk decodeRule argumentRule idleRule escapeRule lookup
+led Pending.Idle g k e = plain (λ x n z. cc) stay
+led Pending.Escape g k e = plain (λ x n z. cc) (wait (lit< tt) refl stay)
+led (Pending.Awaits a) g k e = plain (λ x n z. cc) (led-argument a)
+led (Pending.AddressRow r) g k e = plain (λ x n z. cc) (escape (lit< tt) refl (wait (ltb-true r 128 e) refl stay))
+led (Pending.SegmentNumber n) g k e = plain (λ x n z. cc) (escape (lit< tt) refl (wait (ltb-true n 128 e) refl stay))
+led (Pending.SegmentRow n r) g k e =
     let d = both-parts (ltb n 128) (ltb r 128) e in
-    plain (λ v x. cc) (escape (lit< tt) refl (wait (ltb-true n 128 (d .0)) refl (wait (ltb-true r 128 (d .1)) refl stay)))
-led (Pending.DecimalRow n row) k e =
+    plain (λ x n z. cc) (escape (lit< tt) refl (wait (ltb-true n 128 (d .0)) refl (wait (ltb-true r 128 (d .1)) refl stay)))
+led (Pending.DecimalRow n row) g k e =
     let d = both-parts (leb n 2) (ltb row (10 ^ n)) e in
-    plain (λ v x. cc) (escape (lit< tt) refl (lead-row n row (leb-true n 2 (d .0)) (ltb-true row (10 ^ n) (d .1))))
-led (Pending.DecimalColumn row n column) k e = plain (λ v x. cc) (escape (lit< tt) refl (led-column row n column e))
-led Pending.Split k e = plain (λ v x. cc) (escape (lit< tt) refl stay)
-led Pending.SplitRow k e = plain (λ v x. cc) (escape (lit< tt) refl (wait (lit< tt) refl stay))
-led Pending.Attribute k e = plain (λ v x. cc) (escape (lit< tt) refl stay)
-led Pending.Graphic k e = plain (λ v x. cc) (escape (lit< tt) refl stay)
-led Pending.FillAttribute k e = plain (λ v x. cc) (escape (lit< tt) refl stay)
-led Pending.FillCode k e = plain (λ v x. cc) (escape (lit< tt) refl stay)
-led Pending.Feature k e = plain (λ v x. cc) (escape (lit< tt) refl stay)
-led Pending.FieldAttribute k e = plain (λ v x. cc) (escape (lit< tt) refl stay)
-led (Pending.FieldNumber n) k e = plain (λ v x. cc) (escape (lit< tt) refl (wait (ltb-true n 128 e) refl stay))
-led Pending.KeyValue k e = plain (λ v x. cc) (escape (lit< tt) refl stay)
-led (Pending.KeyText v) k e =
-    let d = both-parts (isKey v) (keyOk k) e in
-    text (led-text v k (d .0) (d .1)) (key-parts k (d .1) .0)
-led (Pending.KeyOver v) k e = plain (λ v x. cc) (led-over v e)
+    plain (λ x n z. cc) (escape (lit< tt) refl (lead-row n row (leb-true n 2 (d .0)) (ltb-true row (10 ^ n) (d .1))))
+led (Pending.DecimalColumn row n column) g k e = plain (λ x n z. cc) (escape (lit< tt) refl (led-column row n column e))
+led (Pending.FieldNumber n) g k e = plain (λ x n z. cc) (escape (lit< tt) refl (wait (ltb-true n 128 e) refl stay))
+led (Pending.Text x n) g k e = led-text x n g k e
+led (Pending.Spoilt x) g k e = plain (λ y n z. cc) (led-slot x e (spaces x))
 
-run-leads : {q : Pending} {g : Key} (bytes : List ℕ) → Leads bytes Pending.Idle noKey q g → (runRule blank powerOn bytes 1944) .state ≡ waiting q g
+run-leads : {q : Pending} {g : List ℕ} (bytes : List ℕ) → Leads bytes Pending.Idle none q g → (runRule blank powerOn bytes 1944) .state ≡ waiting q g
 unfolding runRule powerOn pendingOk
-run-leads bytes x = rw (good-waiting Pending.Idle noKey refl) (leads-run 1944 x refl)
+run-leads bytes x = rw (good-waiting Pending.Idle none refl) (leads-run 1944 x refl)
 
-led-under-way : (q : Pending) (k : Key) → length (k .bytes) ≡ 8 → Led q k → UnderWay q k ((runRule blank powerOn (bytesFor q k) 1944) .state .core)
-led-under-way q k n (plain h x) =
-    rw (run-leads (bytesFor q k) x) (record {
-      pending = refl;
-      size = λ v e. absurd (omega (arith, h v e));
-      text = λ v e. absurd
-          (omega (arith, h v e));
-    })
-led-under-way q k n (text x h) =
-    let few : length (keyText k) ≤ 8 = omega (arith, length-take (k .len) (k .bytes)) in
-    rw (run-leads (bytesFor q k) x)
-    (record { pending = refl; size = λ v e. omega (arith, length-take (k .len) (k .bytes)); text = λ v e. text-of (keyText k) few })
+led-under-way : (q : Pending) (g : List ℕ) → Led q g → UnderWay q g ((runRule blank powerOn (bytesFor q g) 1944) .state)
+led-under-way q g (plain h x) = rw (run-leads (bytesFor q g) x) (record { pending = refl; text = λ y n e. absurd (omega (arith, h y n e)) })
+led-under-way q g (text n h x t) = rw (run-leads (bytesFor q g) x) (record { pending = refl; text = λ y m e. rw (h y m e) t })
 
 -- ---- and no other
 
 -- the text of k makes it possible as the text gathered does
-same-text : (q : Pending) (g k : Key) → pendingOk q g ≡ true
-    → ((v : ℕ) → q ≡ Pending.KeyText v → g .len ≡ k .len) → ((v : ℕ) → q ≡ Pending.KeyText v → keyText g ≡ keyText k) → pendingOk q k ≡ true
-unfolding pendingOk keyOk
-same-text Pending.Idle g k h n t = h
-same-text Pending.Escape g k h n t = h
-same-text Pending.Address g k h n t = h
-same-text (Pending.AddressRow r) g k h n t = h
-same-text Pending.Segment g k h n t = h
-same-text (Pending.SegmentNumber m) g k h n t = h
-same-text (Pending.SegmentRow m r) g k h n t = h
-same-text (Pending.DecimalRow m row) g k h n t = h
-same-text (Pending.DecimalColumn row m column) g k h n t = h
-same-text Pending.Split g k h n t = h
-same-text Pending.SplitRow g k h n t = h
-same-text Pending.Attribute g k h n t = h
-same-text Pending.Graphic g k h n t = h
-same-text Pending.FillAttribute g k h n t = h
-same-text Pending.FillCode g k h n t = h
-same-text Pending.Feature g k h n t = h
-same-text Pending.FieldAttribute g k h n t = h
-same-text (Pending.FieldNumber m) g k h n t = h
-same-text Pending.KeyValue g k h n t = h
-same-text (Pending.KeyText v) g k h n t =
-    let few : leb (g .len) 8 ≡ leb (k .len) 8 = ap (λ (m : ℕ). leb m 8) (n v refl) in
-    let low : allBelow 0x7f (keyText g) ≡ allBelow 0x7f (keyText k) = ap (allBelow 0x7f) (t v refl) in
-    rw (few, low) at h
-same-text (Pending.KeyOver v) g k h n t = h
+same-text : (q : Pending) (g k : List ℕ) → pendingOk q g ≡ true → ((x : Slot) (n : ℕ) → q ≡ Pending.Text x n → take n g ≡ take n k) → pendingOk q k ≡ true
+unfolding pendingOk textOk
+same-text Pending.Idle g k h t = h
+same-text Pending.Escape g k h t = h
+same-text (Pending.Awaits a) g k h t = h
+same-text (Pending.AddressRow r) g k h t = h
+same-text (Pending.SegmentNumber m) g k h t = h
+same-text (Pending.SegmentRow m r) g k h t = h
+same-text (Pending.DecimalRow m row) g k h t = h
+same-text (Pending.DecimalColumn row m column) g k h t = h
+same-text (Pending.FieldNumber m) g k h t = h
+same-text (Pending.Text x n) g k h t = rw (t x n refl) at h
+same-text (Pending.Spoilt x) g k h t = h
 
 pub reach : Reach
 reach = record {
-  possible-reached = λ q k n h. led-under-way q k n (led q k h);
-  reached-possible = λ calls q k u.
+  possible-reached = λ q g n h. led-under-way q g (led q g n h);
+  reached-possible = λ calls q g u.
       let s : State = play calls blank powerOn .state in
       let h = possible-parts s (play-keeps calls blank powerOn .state powerOn-possible) .core .pending in
-      same-text q (s .core .gathered) k (rw (u .pending) at h) (u .size) (u .text);
+      same-text q (s .gathered) g (rw (u .pending) at h) (u .text);
 }

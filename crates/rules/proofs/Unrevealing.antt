@@ -163,6 +163,7 @@ module _ (g tabs : List Bool) (c : Core) (on : c .modes .protect ≡ true) where
   setting Setting.ClearTabs = search forms
   setting (Setting.Attribute n a) = search forms
   setting (Setting.Feature f) = search forms
+  setting Setting.HideLine = search forms
 
   send : (x : Send) → Unrevealing (sendPlan g c x)
   unfolding sendPlan

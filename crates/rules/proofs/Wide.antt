@@ -3,10 +3,11 @@ use mathlib.Core.Path.{refl}
 use Rattle.rules.specs.Row.{columns, rowEnd}
 use Rattle.rules.specs.Search.{marksBy, others, startsFrom, firstIn, lastIn, around, aroundBack}
 use Rattle.rules.specs.Change.{within, filled, shiftLeft, shiftRight, editShifted, rowsShifted, columnFilled}
-use Rattle.rules.specs.State.{segmentTop, segmentBottom, cursorOf, withCursor, withMode, changed}
-use Rattle.rules.specs.Possible.{powerOn, blank, unsplitOk, splitOk, screenOk, allBelow, keyOk, keysOk, attributesOk, featuresOk, pendingOk, noStops, coreOk, setupOk, possible, good}
-use Rattle.rules.specs.Arguments.{isAttribute, featurePlace, isKey}
-use Rattle.rules.specs.Decode.{lookup, idleRule, escapeRule, judged, attributeContents, featureRule, fieldRule, splitRule, digitRule, decimalRowRule, decimalColumnRule, keyValueRule, keyTextRule, keyOverRule, decodeRule}
+use Rattle.rules.specs.State.{segmentTop, segmentBottom, cursorOf, withCursor, withMode, changed, stored, gatheredAfter, setupAfter}
+use Rattle.rules.specs.Possible.{powerOn, blank, unsplitOk, splitOk, screenOk, attributesOk, featuresOk, pendingOk, noStops, coreOk, setupOk, possible, good}
+use Rattle.rules.specs.Arguments.{isAttribute, featurePlace, isKey, isLabel}
+use Rattle.rules.specs.Slot.{slotOk, slotEnd, slotMost, slotLow, isText, allText, textOk, textsOk}
+use Rattle.rules.specs.Decode.{lookup, idleRule, escapeRule, judged, attributeContents, featureRule, fieldRule, splitRule, digitRule, decimalRowRule, decimalColumnRule, slotRule, textRule, spoiltRule, argumentRule, decodeRule}
 use Rattle.rules.specs.Plan.{unlessGuarded, scrolls, nextCell, atTop, upCell, reversePlan, downPlan, tabCell, backTabCell, addressPlan, movePlan, activate, isSegment, windowPlan, storing, advancing, storePlan, rowEditPlan, editPlan, clearPlan, settingPlan, sendPlan, excludedPlan, planRule}
 use Rattle.rules.specs.Carry.{applied, separator, openCell, textFrom, replied, landed, done, carried}
 use Rattle.rules.specs.Step.{obeyed, innerRule}
@@ -17,10 +18,10 @@ use Rattle.rules.specs.Wide.{wideHold, wideTable, WideList}
 
 pub wide-cases : WideList
 unfolding same replies answers holds allHold esc goTo labelled typed wideHold wideTable columns rowEnd marksBy others startsFrom firstIn lastIn around aroundBack
-    within filled shiftLeft shiftRight editShifted rowsShifted columnFilled segmentTop segmentBottom cursorOf withCursor withMode changed
-    powerOn blank unsplitOk splitOk screenOk allBelow keyOk keysOk isAttribute attributesOk featurePlace featuresOk isKey pendingOk
+    within filled shiftLeft shiftRight editShifted rowsShifted columnFilled segmentTop segmentBottom cursorOf withCursor withMode changed stored gatheredAfter setupAfter
+    powerOn blank unsplitOk splitOk screenOk isLabel slotOk slotEnd slotMost slotLow isText allText textOk textsOk isAttribute attributesOk featurePlace featuresOk isKey pendingOk
     noStops coreOk setupOk possible good lookup idleRule escapeRule judged attributeContents featureRule fieldRule splitRule digitRule decimalRowRule
-    decimalColumnRule keyValueRule keyTextRule keyOverRule decodeRule unlessGuarded scrolls nextCell atTop upCell reversePlan downPlan
+    decimalColumnRule slotRule textRule spoiltRule argumentRule decodeRule unlessGuarded scrolls nextCell atTop upCell reversePlan downPlan
     tabCell backTabCell addressPlan movePlan activate isSegment windowPlan storing advancing storePlan rowEditPlan editPlan clearPlan
     settingPlan sendPlan excludedPlan planRule applied separator openCell textFrom replied landed done carried obeyed
     innerRule ofStep after

@@ -15,6 +15,9 @@ featurePlace f =
     pick (among 0x30 2 f) 0 (pick (among 0x32 4 f) 1 (pick (either (among 0x36 2 f) (eqb f 0x41)) 2
     (pick (among 0x38 2 f) 3 (pick (among 0x3c 5 f) 4 5))))
 
--- value of ESC z: 40h to 4Fh or 60h to 6Fh
+-- value of ESC z: a key is 40h to 4Fh or 60h to 6Fh, a label 30h to 37h or 50h to 57h (document 02, A1)
 unfoldable pub isKey : ℕ → Bool
 isKey v = either (among 0x40 16 v) (among 0x60 16 v)
+
+unfoldable pub isLabel : ℕ → Bool
+isLabel v = either (among 0x30 8 v) (among 0x50 8 v)

@@ -1,15 +1,15 @@
 -- The bench list's marked cases (document 01, "The bench list"): one table, one statement.
 use mathlib.Core.Path.{_≡_}
-use mathlib.Core.Bool.{Bool, true, false}
+use mathlib.Core.Bool.{Bool, true, false, not}
 use mathlib.Core.List.{List, [], _∷_, _++_, map}
 use Prim.Native.Nat.{ℕ, suc}
 use lib.Dec.{eqb}
-use lib.ListN.{getD, replicate}
+use lib.ListN.{getD, take, replicate}
 use Rattle.rules.specs.declared.State.{State}
 use Rattle.rules.specs.declared.Screen.{Screen}
 use Rattle.rules.specs.declared.Modes.{Modes}
 use Rattle.rules.specs.Cell.{pick, both}
-use Rattle.rules.specs.State.{cursorOf}
+use Rattle.rules.specs.State.{cursorOf, shortBytes, labelPlace}
 use Rattle.rules.specs.Possible.{powerOn, blank}
 use Rattle.rules.specs.Calls.{Call, Step, Press, Given, Played, play}
 
@@ -31,6 +31,10 @@ pub data Claim : Type 0 where
   FieldAttributes : List ℕ → Claim
   Features : List ℕ → Claim
   Bells : ℕ → Claim
+  -- the host message, the label of a value of ESC z, whether the shifted line is on
+  Message : List ℕ → Claim
+  Label : ℕ → List ℕ → Claim
+  Shifted : Bool → Claim
 
 unfoldable pub same : List ℕ → List ℕ → Bool
 same [] [] = true
@@ -81,6 +85,9 @@ holds r (TabStops l) = same (stopsFrom 0 (r .state .setup .tabs)) l
 holds r (FieldAttributes l) = same (r .state .setup .attributes) l
 holds r (Features l) = same (r .state .setup .features) l
 holds r (Bells n) = eqb (r .state .core .bells) n
+holds r (Message l) = same (take (r .state .setup .message .len) (r .state .setup .message .bytes)) l
+holds r (Label v l) = same (shortBytes (getD (r .state .setup .labels) (labelPlace v) record { len = 0; bytes = [] })) l
+holds r (Shifted b) = pick b (r .state .setup .shifted) (not (r .state .setup .shifted))
 
 unfoldable pub allHold : Played → List Claim → Bool
 allHold r [] = true

@@ -47,11 +47,11 @@ digitBytes = span 0x30 10
 unfoldable pub attributeBytes : List ℕ
 attributeBytes = 0x20 ∷ span 0x30 16 ++ span 0x70 15
 
--- the 57 bytes that may follow ESC: SPACE ! " # & ' ( ) * + , - . / 0 1 2 4 5 6 7 : ; = ? A E G H I J K M N O Q R T V W Y ] ` a b i j k l q r t x
+-- the 58 bytes that may follow ESC: SPACE ! " # & ' ( ) * + , - . / 0 1 2 4 5 6 7 : ; = ? A E F G H I J K M N O Q R T V W Y ] ` a b i j k l q r t x
 -- y z { }
 unfoldable pub escapeBytes : List ℕ
 escapeBytes =
-    span 0x20 4 ++ span 0x26 13 ++ span 0x34 4 ++ 0x3a ∷ 0x3b ∷ 0x3d ∷ 0x3f ∷ 0x41 ∷ 0x45 ∷ [] ++ span 0x47 5 ++ span 0x4d 3
+    span 0x20 4 ++ span 0x26 13 ++ span 0x34 4 ++ 0x3a ∷ 0x3b ∷ 0x3d ∷ 0x3f ∷ 0x41 ∷ [] ++ span 0x45 7 ++ span 0x4d 3
     ++ 0x51 ∷ 0x52 ∷ 0x54 ∷ 0x56 ∷ 0x57 ∷ 0x59 ∷ 0x5d ∷ [] ++ span 0x60 3 ++ span 0x69 4
     ++ 0x71 ∷ 0x72 ∷ 0x74 ∷ 0x78 ∷ 0x79 ∷ 0x7a ∷ 0x7b ∷ 0x7d ∷ []
 
@@ -78,8 +78,18 @@ argumentBytes =
     -- ESC A n attr
     ∷ takes (esc 0x41) low (0x30 ∷ []) 3 (span 0x30 4)
     ∷ takes (esc 0x41 ++ 0x33 ∷ []) low [] 3 attributeBytes
-    -- ESC z value: no message or label fields
-    ∷ takes (esc 0x7a) low [] 3 (span 0x40 16 ++ span 0x60 16)
+    -- ESC z: keys, the fields of labels, DEL
+    ∷ takes (esc 0x7a) low [] 3 (span 0x30 8 ++ span 0x40 24 ++ span 0x60 16 ++ 0x7f ∷ [])
+    -- the bytes of a text, judged by its CR: 20h to 7Eh, and CR itself, after which CR is a move; DEL ends no label
+    ∷ takes (esc 0x46) low (0x0d ∷ []) 3 (0x0d ∷ span 0x20 95)
+    ∷ takes (esc 0x7a ++ 0x30 ∷ []) low (0x0d ∷ []) 3 (0x0d ∷ span 0x20 95)
+    ∷ takes (esc 0x7a ++ 0x57 ∷ []) low (0x0d ∷ []) 3 (0x0d ∷ span 0x20 95)
+    -- a key takes all below DEL, CR too; DEL after DEL does nothing
+    ∷ takes (esc 0x7a ++ 0x40 ∷ []) low (0x7f ∷ []) 3 low
+    -- 80h and above inside a text
+    ∷ takes (esc 0x46) high [] 1 []
+    ∷ takes (esc 0x46 ++ 0x00 ∷ []) high [] 1 []
+    ∷ takes (esc 0x7a ++ 0x50 ∷ []) high [] 1 []
     -- ESC x; ESC x 1 r: rows 2 to 24
     ∷ takes (esc 0x78) low [] 3 (0x30 ∷ 0x31 ∷ [])
     ∷ takes (esc 0x78 ++ 0x31 ∷ []) low [] 3 (span 0x21 23)

@@ -59,7 +59,7 @@ callCases =
     ∷ from-power-on (host (0x1b ∷ 0x7a ∷ 0x6f ∷ 0x61 ∷ 0x62 ∷ 0x7f ∷ 0x1b ∷ 0x7a ∷ 0x6f ∷ 0x63 ∷ 0x7f ∷ []) ++ Press 0x6f 8 ∷ []) (Replies (0x63 ∷ []) ∷ [])
     ∷ from-power-on (host (0x1b ∷ 0x7a ∷ 0x6f ∷ 0x61 ∷ 0x7f ∷ 0x1b ∷ 0x7a ∷ 0x6f ∷ 0x7f ∷ []) ++ Press 0x6f 8 ∷ [])
     (Answers (replicate 10 0) ∷ Replies (0x01 ∷ 0x6f ∷ 0x0d ∷ []) ∷ [])
-    ∷ refuses 3 (0x1b ∷ 0x7a ∷ 0x50 ∷ []) (Cursor 0 ∷ [])
+    ∷ refuses 3 (0x1b ∷ 0x7a ∷ 0x58 ∷ []) (Cursor 0 ∷ [])
     -- a key press: 8 before 3, 3 before 6; it works during a sequence, and its 3 clears nothing
     ∷ from-power-on (host (0x0f ∷ []) ++ Press 0x40 8 ∷ Press 0x50 8 ∷ []) (Answers (0 ∷ 8 ∷ 8 ∷ []) ∷ Replies [] ∷ [])
     ∷ from-power-on (Press 0x50 0 ∷ Press 0x40 2 ∷ Press 0x40 3 ∷ []) (Answers (3 ∷ 6 ∷ 0 ∷ []) ∷ Replies (0x01 ∷ 0x40 ∷ 0x0d ∷ []) ∷ Counts (0 ∷ 0 ∷ 3 ∷ []) ∷ [])

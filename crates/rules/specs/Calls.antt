@@ -5,10 +5,10 @@ use Prim.Native.Nat.{ℕ, suc, _+_, _-_}
 use lib.Dec.{leb, eqb}
 use lib.ListN.{length, getD}
 use Rattle.rules.specs.declared.State.{State}
-use Rattle.rules.specs.declared.Key.{Key}
+use Rattle.rules.specs.declared.ShortText.{ShortText}
 use Rattle.rules.specs.Cell.{pick, among}
 use Rattle.rules.specs.Row.{narrowCells}
-use Rattle.rules.specs.State.{keyText, keyPlace, noKey}
+use Rattle.rules.specs.State.{shortBytes, keyPlace}
 use Rattle.rules.specs.Possible.{powerOn, blank, good}
 use Rattle.rules.specs.Arguments.{isKey}
 use Rattle.rules.specs.Step.{Outcome, stepRule}
@@ -68,10 +68,10 @@ pub record Pressed : Type 0 where
 abbrev pub pressed : ℕ → List ℕ → Pressed
 pressed n r = record { answer = n; reply = r }
 
-unfoldable pub keySends : Key → ℕ → List ℕ
-keySends k v = pick (eqb (k .len) 0) (0x01 ∷ v ∷ 0x0d ∷ []) (keyText k)
+unfoldable pub keySends : ShortText → ℕ → List ℕ
+keySends k v = pick (eqb (k .len) 0) (0x01 ∷ v ∷ 0x0d ∷ []) (shortBytes k)
 
-abbrev pub keyAt : State → ℕ → Key
+abbrev pub keyAt : State → ℕ → ShortText
 keyAt s v = getD (s .setup .keys) (keyPlace v) record { len = 0; bytes = [] }
 
 unfoldable pub pressRule : List ℕ → State → ℕ → ℕ → Pressed

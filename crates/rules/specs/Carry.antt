@@ -8,8 +8,8 @@ use Rattle.rules.specs.declared.Core.{Core}
 use Rattle.rules.specs.declared.Plan.{Plan}
 use Rattle.rules.specs.declared.Write.{Write}
 use Rattle.rules.specs.declared.Write.the-variants as Write
-use Rattle.rules.specs.declared.SetupChange.{SetupChange}
-use Rattle.rules.specs.declared.SetupChange.the-variants as SetupChange
+use Rattle.rules.specs.declared.Change.{Change}
+use Rattle.rules.specs.declared.Change.the-variants as Change
 use Rattle.rules.specs.declared.Reply.{Reply}
 use Rattle.rules.specs.declared.Reply.the-variants as Reply
 use Rattle.rules.specs.declared.Land.{Land}
@@ -17,7 +17,7 @@ use Rattle.rules.specs.declared.Land.the-variants as Land
 use Rattle.rules.specs.Cell.{pick, both, guarded, sent}
 use Rattle.rules.specs.Search.{guardedAt, settled}
 use Rattle.rules.specs.Change.{within, filled, columnFilled, editShifted, rowsShifted}
-use Rattle.rules.specs.State.{number, widthOf, segmentStart, segmentEnd, withCursor, withScreen}
+use Rattle.rules.specs.State.{number, widthOf, segmentStart, segmentEnd, withCursor, withScreen, unchanged}
 
 -- the page after a write, w being its width
 unfoldable pub applied : ℕ → Bool → Write → List ℕ → List ℕ
@@ -63,20 +63,20 @@ unfoldable pub landed : List Bool → Land → Core → Core
 landed g Land.Stay c = c
 landed g (Land.Settle i) c = withScreen c (withCursor (c .screen) (settled g (segmentStart (c .screen)) (segmentEnd (c .screen)) i))
 
--- what a byte comes to. The set-up is not handed through, only its change
+-- what a byte comes to. The gathered bytes and the set-up are not handed through, only their change
 pub record Effect : Type 0 where
   pub answer : ℕ
   pub core : Core
-  pub change : SetupChange
+  pub change : Change
   pub page : List ℕ
   pub reply : List ℕ
 
-abbrev pub effect : ℕ → Core → SetupChange → List ℕ → List ℕ → Effect
+abbrev pub effect : ℕ → Core → Change → List ℕ → List ℕ → Effect
 effect n c x p r = record { answer = n; core = c; change = x; page = p; reply = r }
 
 -- only the answer and the core
 abbrev pub quiet : ℕ → Core → List ℕ → Effect
-quiet n c p = effect n c SetupChange.Nothing p []
+quiet n c p = effect n c unchanged p []
 
 -- the width of the page that a plan is for: no plan changes it
 abbrev pub planWidth : Plan → ℕ
@@ -91,7 +91,7 @@ replyOf on p x = replied (planWidth x) on p (x .reply)
 -- written, replied, and settled over the page as it then is, with protect mode as it then is
 unfoldable pub done : Bool → List ℕ → Plan → Effect
 done on p x =
-    effect (number (x .answer)) (landed (guardedAt (x .next .modes .protect) (pageAfter on x p)) (x .land) (x .next)) (x .change)
+    effect (number (x .answer)) (landed (guardedAt (x .next .modes .protect) (pageAfter on x p)) (x .land) (x .next)) (Change.Set (x .change))
     (pageAfter on x p) (replyOf on p x)
 
 -- a reply longer than the room answers 6, and nothing has changed

@@ -12,6 +12,7 @@ use Rattle.rules.specs.MovingCases.{movingCases}
 use Rattle.rules.specs.WritingCases.{writingCases}
 use Rattle.rules.specs.ReplyCases.{replyCases}
 use Rattle.rules.specs.CallCases.{callCases}
+use Rattle.rules.specs.LabelCases.{labelCases}
 use Rattle.rules.specs.ByteCases.{bytesHold, firstBytes, argumentBytes, addressBytes, decimalBytes}
 use Rattle.rules.specs.PossibleCases.{possibleStates, impossibleStates, allPossible, nonePossible}
 
@@ -20,6 +21,7 @@ pub record CaseList : Type 0 where
   pub writing : casesHold writingCases ≡ true
   pub replying : casesHold replyCases ≡ true
   pub calling : casesHold callCases ≡ true
+  pub labels : casesHold labelCases ≡ true
   -- which bytes, tried with all of them
   pub first : bytesHold firstBytes ≡ true
   pub argument : bytesHold argumentBytes ≡ true

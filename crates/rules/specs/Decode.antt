@@ -4,11 +4,15 @@ use mathlib.Core.List.{List, [], _∷_}
 use mathlib.Core.Bool.{Bool, true, false}
 use lib.Dec.{ltb, leb, eqb}
 use Rattle.rules.specs.Cell.{pick, both, either, among}
-use Rattle.rules.specs.State.{keyPlace}
-use Rattle.rules.specs.Arguments.{isAttribute, featurePlace, isKey}
+use Rattle.rules.specs.Arguments.{isAttribute, featurePlace, isKey, isLabel}
+use Rattle.rules.specs.Slot.{slotEnd, slotMost, slotLow, isText}
 use Rattle.rules.specs.declared.Answer.the-variants as Answer
+use Rattle.rules.specs.declared.Slot.{Slot}
+use Rattle.rules.specs.declared.Slot.the-variants as Slot
 use Rattle.rules.specs.declared.Pending.{Pending}
 use Rattle.rules.specs.declared.Pending.the-variants as Pending
+use Rattle.rules.specs.declared.Argument.{Argument}
+use Rattle.rules.specs.declared.Argument.the-variants as Argument
 use Rattle.rules.specs.declared.Contents.{Contents}
 use Rattle.rules.specs.declared.Contents.the-variants as Contents
 use Rattle.rules.specs.declared.Move.the-variants as Move
@@ -48,11 +52,11 @@ controls =
     ∷ (0x1f, Decoded.Do (Command.Go Move.NextLine))
     ∷ []
 
--- the byte after ESC: 57 in the rules
+-- the byte after ESC: 58 in the rules
 abbrev pub escapes : List (ℕ × Decoded)
 escapes =
     (0x20, Decoded.Do (Command.Send Send.Identity))
-    ∷ (0x21, Decoded.Wait Pending.FillAttribute)
+    ∷ (0x21, Decoded.Wait (Pending.Awaits Argument.FillAttribute))
     ∷ (0x22, Decoded.Do (Command.Turn Mode.Lock false))
     ∷ (0x23, Decoded.Do (Command.Turn Mode.Lock true))
     ∷ (0x26, Decoded.Do Command.ProtectOn)
@@ -62,8 +66,8 @@ escapes =
     ∷ (0x2a, Decoded.Do (Command.Excluded Excluded.ClearNulls))
     ∷ (0x2b, Decoded.Do (Command.Excluded Excluded.ClearSpaces))
     ∷ (0x2c, Decoded.Do (Command.Excluded Excluded.ClearProtected))
-    ∷ (0x2d, Decoded.Wait Pending.Segment)
-    ∷ (0x2e, Decoded.Wait Pending.FillCode)
+    ∷ (0x2d, Decoded.Wait (Pending.Awaits Argument.Segment))
+    ∷ (0x2e, Decoded.Wait (Pending.Awaits Argument.FillCode))
     ∷ (0x2f, Decoded.Do (Command.Send Send.SegmentCursor))
     ∷ (0x30, Decoded.Do (Command.Set Setting.ClearTabs))
     ∷ (0x31, Decoded.Do (Command.Set (Setting.Tab true)))
@@ -74,12 +78,13 @@ escapes =
     ∷ (0x37, Decoded.Do (Command.Excluded Excluded.SendSegment))
     ∷ (0x3a, Decoded.Do (Command.Clear (Clear.Segment (Contents.Text 0))))
     ∷ (0x3b, Decoded.Do (Command.Clear (Clear.Segment (Contents.Text 0x20))))
-    ∷ (0x3d, Decoded.Wait Pending.Address)
+    ∷ (0x3d, Decoded.Wait (Pending.Awaits Argument.Address))
     ∷ (0x3f, Decoded.Do (Command.Send Send.Cursor))
-    ∷ (0x41, Decoded.Wait Pending.FieldAttribute)
+    ∷ (0x41, Decoded.Wait (Pending.Awaits Argument.FieldAttribute))
     ∷ (0x45, Decoded.Do (Command.Edit Edit.InsertRow))
-    ∷ (0x47, Decoded.Wait Pending.Attribute)
-    ∷ (0x48, Decoded.Wait Pending.Graphic)
+    ∷ (0x46, Decoded.Wait (Pending.Text Slot.Message 0))
+    ∷ (0x47, Decoded.Wait (Pending.Awaits Argument.Attribute))
+    ∷ (0x48, Decoded.Wait (Pending.Awaits Argument.Graphic))
     ∷ (0x49, Decoded.Do (Command.Go Move.BackTab))
     ∷ (0x4a, Decoded.Do (Command.Window Window.Other))
     ∷ (0x4b, Decoded.Do (Command.Window Window.Other))
@@ -93,7 +98,7 @@ escapes =
     ∷ (0x57, Decoded.Do (Command.Edit Edit.DeleteCell))
     ∷ (0x59, Decoded.Do (Command.Clear (Clear.Rest (Contents.Text 0x20))))
     ∷ (0x5d, Decoded.Do (Command.Window Window.First))
-    ∷ (0x60, Decoded.Wait Pending.Feature)
+    ∷ (0x60, Decoded.Wait (Pending.Awaits Argument.Feature))
     ∷ (0x61, Decoded.Wait (Pending.DecimalRow 0 0))
     ∷ (0x62, Decoded.Do (Command.Send Send.DecimalCursor))
     ∷ (0x69, Decoded.Do (Command.Go Move.Tab))
@@ -103,9 +108,9 @@ escapes =
     ∷ (0x71, Decoded.Do (Command.Turn Mode.Insert true))
     ∷ (0x72, Decoded.Do (Command.Turn Mode.Insert false))
     ∷ (0x74, Decoded.Do (Command.Clear (Clear.Row (Contents.Text 0))))
-    ∷ (0x78, Decoded.Wait Pending.Split)
+    ∷ (0x78, Decoded.Wait (Pending.Awaits Argument.Split))
     ∷ (0x79, Decoded.Do (Command.Clear (Clear.Rest (Contents.Text 0))))
-    ∷ (0x7a, Decoded.Wait Pending.KeyValue)
+    ∷ (0x7a, Decoded.Wait (Pending.Awaits Argument.Slot))
     ∷ (0x7b, Decoded.Do (Command.Go Move.Home))
     ∷ (0x7d, Decoded.Do (Command.Window Window.Second))
     ∷ []
@@ -139,7 +144,7 @@ fieldRule n a = judged (both (among 0x30 4 n) (isAttribute a)) (Command.Set (Set
 unfoldable pub splitRule : ℕ → Decoded
 splitRule b =
     pick (eqb b 0x30) (Decoded.Do (Command.Window Window.Unsplit))
-    (pick (eqb b 0x31) (Decoded.Wait Pending.SplitRow) (Decoded.Reject Answer.BadArgument))
+    (pick (eqb b 0x31) (Decoded.Wait (Pending.Awaits Argument.SplitRow)) (Decoded.Reject Answer.BadArgument))
 
 -- ESC a: 1 or 2 digits, R, 1 to 3 digits, C; a byte that breaks this grammar answers 3. n digits so far make a number, and up to `most` may come
 unfoldable pub digitRule : ℕ → ℕ → ℕ → Pending → Decoded
@@ -155,37 +160,46 @@ decimalColumnRule row n column b =
     pick (both (eqb b 0x43) (ltb 0 n)) (Decoded.Do (Command.Go (Move.Decimal row column)))
     (digitRule 3 n b (Pending.DecimalColumn row (n + 1) (column * 10 + (b - 0x30))))
 
--- ESC z value bytes DEL: any other value answers 3 at once; more than 8 bytes are swallowed up to DEL, then 3
-unfoldable pub keyValueRule : ℕ → Decoded
-keyValueRule v = pick (isKey v) (Decoded.Wait (Pending.KeyText v)) (Decoded.Reject Answer.BadArgument)
+-- ESC z: a key or a label, whose text begins, or DEL, the shifted line off; any other byte answers 3 at once
+unfoldable pub slotRule : ℕ → Decoded
+slotRule v =
+    pick (isKey v) (Decoded.Wait (Pending.Text (Slot.Key v) 0))
+    (pick (isLabel v) (Decoded.Wait (Pending.Text (Slot.Label v) 0))
+    (judged (eqb v 0x7f) (Command.Set Setting.HideLine)))
 
-unfoldable pub keyTextRule : ℕ → ℕ → ℕ → Decoded
-keyTextRule v n b =
-    pick (eqb b 0x7f) (Decoded.Program (keyPlace v)) (pick (ltb n 8) (Decoded.Gather b) (Decoded.Wait (Pending.KeyOver v)))
+-- a text of n bytes so far: it is complete, it goes on, or one byte too many or a bad one spoils it. A spoilt text is swallowed to its end, then 3
+unfoldable pub textRule : Slot → ℕ → ℕ → Decoded
+textRule x n b =
+    pick (eqb b (slotEnd x)) (Decoded.Take x n)
+    (pick (both (ltb n (slotMost x)) (isText (slotLow x) b)) (Decoded.Gather x n b) (Decoded.Wait (Pending.Spoilt x)))
 
-unfoldable pub keyOverRule : ℕ → ℕ → Decoded
-keyOverRule v b = pick (eqb b 0x7f) (Decoded.Reject Answer.BadArgument) (Decoded.Wait (Pending.KeyOver v))
+unfoldable pub spoiltRule : Slot → ℕ → Decoded
+spoiltRule x b = pick (eqb b (slotEnd x)) (Decoded.Reject Answer.BadArgument) (Decoded.Wait (Pending.Spoilt x))
 
--- the byte b after the sequence, n bytes of a key's text gathered. An awaited argument takes any byte below 80h
-unfoldable pub decodeRule : Pending → ℕ → ℕ → Decoded
-decodeRule Pending.Idle n b = idleRule b
-decodeRule Pending.Escape n b = escapeRule b
-decodeRule Pending.Address n b = Decoded.Wait (Pending.AddressRow b)
-decodeRule (Pending.AddressRow r) n b = Decoded.Do (Command.Go (Move.Address r b))
-decodeRule Pending.Segment n b = Decoded.Wait (Pending.SegmentNumber b)
-decodeRule (Pending.SegmentNumber s) n b = Decoded.Wait (Pending.SegmentRow s b)
-decodeRule (Pending.SegmentRow s r) n b = Decoded.Do (Command.Window (Window.Place s r b))
-decodeRule (Pending.DecimalRow k row) n b = decimalRowRule k row b
-decodeRule (Pending.DecimalColumn row k column) n b = decimalColumnRule row k column b
-decodeRule Pending.Split n b = splitRule b
-decodeRule Pending.SplitRow n b = Decoded.Do (Command.Window (Window.Split b))
-decodeRule Pending.Attribute n b = judged (isAttribute b) (Command.Store (attributeContents b))
-decodeRule Pending.Graphic n b = judged (among 0x30 16 b) (Command.Store (Contents.Graphic b))
-decodeRule Pending.FillAttribute n b = judged (isAttribute b) (Command.Clear (Clear.Segment (attributeContents b)))
-decodeRule Pending.FillCode n b = judged (either (eqb b 0) (among 0x20 95 b)) (Command.Clear (Clear.Segment (Contents.Text b)))
-decodeRule Pending.Feature n b = featureRule b
-decodeRule Pending.FieldAttribute n b = Decoded.Wait (Pending.FieldNumber b)
-decodeRule (Pending.FieldNumber f) n b = fieldRule f b
-decodeRule Pending.KeyValue n b = keyValueRule b
-decodeRule (Pending.KeyText v) n b = keyTextRule v n b
-decodeRule (Pending.KeyOver v) n b = keyOverRule v b
+-- an awaited argument takes any byte below 80h
+unfoldable pub argumentRule : Argument → ℕ → Decoded
+argumentRule Argument.Address b = Decoded.Wait (Pending.AddressRow b)
+argumentRule Argument.Segment b = Decoded.Wait (Pending.SegmentNumber b)
+argumentRule Argument.Split b = splitRule b
+argumentRule Argument.SplitRow b = Decoded.Do (Command.Window (Window.Split b))
+argumentRule Argument.Attribute b = judged (isAttribute b) (Command.Store (attributeContents b))
+argumentRule Argument.Graphic b = judged (among 0x30 16 b) (Command.Store (Contents.Graphic b))
+argumentRule Argument.FillAttribute b = judged (isAttribute b) (Command.Clear (Clear.Segment (attributeContents b)))
+argumentRule Argument.FillCode b = judged (either (eqb b 0) (among 0x20 95 b)) (Command.Clear (Clear.Segment (Contents.Text b)))
+argumentRule Argument.Feature b = featureRule b
+argumentRule Argument.FieldAttribute b = Decoded.Wait (Pending.FieldNumber b)
+argumentRule Argument.Slot b = slotRule b
+
+-- the byte b after the sequence
+unfoldable pub decodeRule : Pending → ℕ → Decoded
+decodeRule Pending.Idle b = idleRule b
+decodeRule Pending.Escape b = escapeRule b
+decodeRule (Pending.Awaits a) b = argumentRule a b
+decodeRule (Pending.AddressRow r) b = Decoded.Do (Command.Go (Move.Address r b))
+decodeRule (Pending.SegmentNumber s) b = Decoded.Wait (Pending.SegmentRow s b)
+decodeRule (Pending.SegmentRow s r) b = Decoded.Do (Command.Window (Window.Place s r b))
+decodeRule (Pending.DecimalRow k row) b = decimalRowRule k row b
+decodeRule (Pending.DecimalColumn row k column) b = decimalColumnRule row k column b
+decodeRule (Pending.FieldNumber f) b = fieldRule f b
+decodeRule (Pending.Text x n) b = textRule x n b
+decodeRule (Pending.Spoilt x) b = spoiltRule x b

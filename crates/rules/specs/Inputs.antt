@@ -4,7 +4,7 @@ use mathlib.Core.List.{List, [], _∷_, _++_}
 use Prim.Native.Nat.{ℕ, _+_, _-_}
 use lib.ListN.{length, take, replicate}
 use Rattle.rules.specs.declared.State.{State}
-use Rattle.rules.specs.State.{withCursor, withScreen, withModes, withProtect, withBells}
+use Rattle.rules.specs.State.{withCursor, withScreen, withModes, withProtect, withBells, withKeys}
 use Rattle.rules.specs.Possible.{powerOn, blank}
 use Rattle.rules.specs.Step.{outcomeOf, innerRule}
 use Rattle.rules.specs.Calls.{Played, ofStep, after}
@@ -42,12 +42,13 @@ pageOf l = take 1920 (l ++ blank)
 
 -- the power-on state, but with the cursor at a cell
 unfoldable pub cursorAt : ℕ → State
-cursorAt n = record { core = withScreen (powerOn .core) (withCursor (powerOn .core .screen) n); setup = powerOn .setup }
+cursorAt n = record { core = withScreen (powerOn .core) (withCursor (powerOn .core .screen) n); gathered = powerOn .gathered; setup = powerOn .setup }
 
 -- and with protect mode on
 unfoldable pub protectAt : ℕ → State
 protectAt n = record {
   core = withModes (cursorAt n .core) (withProtect (powerOn .core .modes) true);
+  gathered = powerOn .gathered;
   setup = powerOn .setup;
 }
 
@@ -55,29 +56,27 @@ protectAt n = record {
 unfoldable pub upperAt : ℕ → State
 upperAt n = record {
   core = withScreen (powerOn .core) record { wide = false; active = 0; split = 13; cursor0 = n; cursor1 = 960 };
+  gathered = powerOn .gathered;
   setup = powerOn .setup;
 }
 
 unfoldable pub lowerAt : ℕ → State
 lowerAt n = record {
   core = withScreen (powerOn .core) record { wide = false; active = 1; split = 13; cursor0 = 0; cursor1 = n };
+  gathered = powerOn .gathered;
   setup = powerOn .setup;
 }
 
 -- the power-on state with some bells counted
 unfoldable pub belled : ℕ → State
-belled n = record { core = withBells (powerOn .core) n; setup = powerOn .setup }
+belled n = record { core = withBells (powerOn .core) n; gathered = powerOn .gathered; setup = powerOn .setup }
 
 -- the power-on state with 8 bytes in every key
 unfoldable pub fullKeys : State
 fullKeys = record {
   core = powerOn .core;
-  setup = record {
-    tabs = powerOn .setup .tabs;
-    attributes = powerOn .setup .attributes;
-    features = powerOn .setup .features;
-    keys = replicate 32 record { len = 8; bytes = replicate 8 0x61 };
-  };
+  gathered = powerOn .gathered;
+  setup = withKeys (powerOn .setup) (replicate 32 record { len = 8; bytes = replicate 8 0x61 });
 }
 
 -- bytes worked by the rule of a byte on a good page, each with a room of 3,192

@@ -4,16 +4,17 @@ use mathlib.Core.Path.{_≡_}
 use mathlib.Core.Bool.{true}
 use mathlib.Core.List.{List, [], _∷_}
 use Prim.Native.Nat.{ℕ, _+_, _≤_}
-use lib.ListN.{length}
+use lib.ListN.{length, take}
 use Rattle.rules.specs.declared.State.{State}
-use Rattle.rules.specs.declared.Key.{Key}
-use Rattle.rules.specs.declared.SetupChange.the-variants as SetupChange
-use Rattle.rules.specs.State.{changed}
-use Rattle.rules.specs.Possible.{keyOk, possible}
+use Rattle.rules.specs.declared.ShortText.{ShortText}
+use Rattle.rules.specs.declared.Slot.the-variants as Slot
+use Rattle.rules.specs.State.{stored}
+use Rattle.rules.specs.Slot.{textOk}
+use Rattle.rules.specs.Possible.{possible}
 use Rattle.rules.specs.Step.{stepRule}
 
 -- the key bytes in all
-unfoldable pub keyBytes : List Key → ℕ
+unfoldable pub keyBytes : List ShortText → ℕ
 keyBytes [] = 0
 keyBytes (k ∷ ks) = k .len + keyBytes ks
 
@@ -22,7 +23,7 @@ pub record KeyStore (s : State) : Type 0 where
   -- its key bytes
   pub total : keyBytes (s .setup .keys) ≤ 256
   -- and those after any key is programmed with any text that a key can gather
-  pub programmed : (n : ℕ) (k : Key) → keyOk k ≡ true → keyBytes (changed (SetupChange.Key n) k (s .setup) .keys) ≤ 256
+  pub programmed : (v n : ℕ) (g : List ℕ) → textOk 0 8 n g ≡ true → keyBytes (stored (Slot.Key v) (take n g) (s .setup) .keys) ≤ 256
 
 abbrev pub KeyStores : Type 0
 KeyStores = (s : State) → length (s .setup .keys) ≡ 32 → possible s ≡ true → KeyStore s

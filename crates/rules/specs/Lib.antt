@@ -4,6 +4,7 @@ pub mod Search
 pub mod Change
 pub mod State
 pub mod Arguments
+pub mod Slot
 pub mod Possible
 pub mod Decode
 pub mod Plan
@@ -27,5 +28,7 @@ pub mod ReplyCases
 pub mod CallCases
 pub mod ByteCases
 pub mod PossibleCases
+pub mod LabelCases
 pub mod Cases
 pub mod Wide
+pub mod ShiftedLine

@@ -28,25 +28,15 @@ pub record Alike (p q : List ℕ) (s t : State) : Type 0 where
 abbrev pub afterEscape : Pending → Bool
 afterEscape Pending.Idle = false
 afterEscape Pending.Escape = true
-afterEscape Pending.Address = false
+afterEscape (Pending.Awaits a) = false
 afterEscape (Pending.AddressRow r) = false
-afterEscape Pending.Segment = false
 afterEscape (Pending.SegmentNumber n) = false
 afterEscape (Pending.SegmentRow n r) = false
 afterEscape (Pending.DecimalRow n row) = false
 afterEscape (Pending.DecimalColumn row n column) = false
-afterEscape Pending.Split = false
-afterEscape Pending.SplitRow = false
-afterEscape Pending.Attribute = false
-afterEscape Pending.Graphic = false
-afterEscape Pending.FillAttribute = false
-afterEscape Pending.FillCode = false
-afterEscape Pending.Feature = false
-afterEscape Pending.FieldAttribute = false
 afterEscape (Pending.FieldNumber n) = false
-afterEscape Pending.KeyValue = false
-afterEscape (Pending.KeyText v) = false
-afterEscape (Pending.KeyOver v) = false
+afterEscape (Pending.Text x n) = false
+afterEscape (Pending.Spoilt x) = false
 
 abbrev pub anyOf : List ℕ → ℕ → Bool
 anyOf [] b = false

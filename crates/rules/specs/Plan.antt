@@ -213,6 +213,7 @@ settingPlan c (Setting.Tab b) = changing c (SetupChange.Tab (columnOf (widthOf (
 settingPlan c Setting.ClearTabs = changing c SetupChange.ClearTabs
 settingPlan c (Setting.Attribute n a) = changing c (SetupChange.Attribute n a)
 settingPlan c (Setting.Feature f) = changing c (SetupChange.Feature (featurePlace f) f)
+settingPlan c Setting.HideLine = changing c SetupChange.HideLine
 
 -- the cursor's row from the segment's top, and its column, from 0
 abbrev pub cursorRow : Screen → ℕ

@@ -8,13 +8,15 @@ use Rattle.rules.specs.declared.Core.{Core}
 use Rattle.rules.specs.declared.Setup.{Setup}
 use Rattle.rules.specs.declared.State.{State}
 use Rattle.rules.specs.declared.Screen.{Screen}
-use Rattle.rules.specs.declared.Key.{Key}
+use Rattle.rules.specs.declared.Core.{Core}
+use Rattle.rules.specs.declared.Setup.{Setup}
 use Rattle.rules.specs.declared.Pending.{Pending}
 use Rattle.rules.specs.declared.Pending.the-variants as Pending
 use Rattle.rules.specs.Cell.{pick, both, either, among}
 use Rattle.rules.specs.Row.{height, narrowCells}
-use Rattle.rules.specs.State.{widthOf, pageLength, keyText, noKey}
-use Rattle.rules.specs.Arguments.{isAttribute, featurePlace, isKey}
+use Rattle.rules.specs.State.{widthOf, pageLength, noText, noLong}
+use Rattle.rules.specs.Arguments.{isAttribute, featurePlace}
+use Rattle.rules.specs.Slot.{slotOk, slotLow, slotMost, textOk, textsOk}
 
 unfoldable pub powerOn : State
 powerOn = record {
@@ -23,13 +25,16 @@ powerOn = record {
     modes = record { protect = false; mark = false; insert = false; autoscroll = true; locked = false; local = false };
     bells = 0;
     pending = Pending.Idle;
-    gathered = noKey;
   };
+  gathered = replicate 46 0;
   setup = record {
     tabs = replicate 132 false;
     attributes = replicate 4 0x30;
     features = 0x31 ∷ 0x35 ∷ 0x37 ∷ 0x39 ∷ 0x40 ∷ [];
-    keys = replicate 32 noKey;
+    keys = replicate 32 noText;
+    labels = replicate 16 noText;
+    message = noLong;
+    shifted = false;
   };
 }
 
@@ -51,18 +56,6 @@ splitOk x =
 unfoldable pub screenOk : Screen → Bool
 screenOk x = pick (eqb (x .split) 0) (unsplitOk x) (splitOk x)
 
-unfoldable pub allBelow : ℕ → List ℕ → Bool
-allBelow n [] = true
-allBelow n (x ∷ l) = both (ltb x n) (allBelow n l)
-
--- at most 8 bytes below 80h and not 7Fh
-unfoldable pub keyOk : Key → Bool
-keyOk k = both (leb (k .len) 8) (allBelow 0x7f (keyText k))
-
-unfoldable pub keysOk : List Key → Bool
-keysOk [] = true
-keysOk (k ∷ ks) = both (keyOk k) (keysOk ks)
-
 unfoldable pub attributesOk : List ℕ → Bool
 attributesOk [] = true
 attributesOk (a ∷ l) = both (isAttribute a) (attributesOk l)
@@ -80,43 +73,36 @@ noStops (b ∷ l) = both (not b) (noStops l)
 abbrev pub tabsOk : ℕ → List Bool → Bool
 tabsOk w tabs = noStops (drop w tabs)
 
--- a sequence that some bytes fed from power-on leave under way; k is the key text gathered
-unfoldable pub pendingOk : Pending → Key → Bool
-pendingOk Pending.Idle k = true
-pendingOk Pending.Escape k = true
-pendingOk Pending.Address k = true
-pendingOk (Pending.AddressRow r) k = ltb r 128
-pendingOk Pending.Segment k = true
-pendingOk (Pending.SegmentNumber n) k = ltb n 128
-pendingOk (Pending.SegmentRow n r) k = both (ltb n 128) (ltb r 128)
-pendingOk (Pending.DecimalRow n row) k = both (leb n 2) (ltb row (10 ^ n))
-pendingOk (Pending.DecimalColumn row n column) k = both (ltb row 100) (both (leb n 3) (ltb column (10 ^ n)))
-pendingOk Pending.Split k = true
-pendingOk Pending.SplitRow k = true
-pendingOk Pending.Attribute k = true
-pendingOk Pending.Graphic k = true
-pendingOk Pending.FillAttribute k = true
-pendingOk Pending.FillCode k = true
-pendingOk Pending.Feature k = true
-pendingOk Pending.FieldAttribute k = true
-pendingOk (Pending.FieldNumber n) k = ltb n 128
-pendingOk Pending.KeyValue k = true
-pendingOk (Pending.KeyText v) k = both (isKey v) (keyOk k)
-pendingOk (Pending.KeyOver v) k = isKey v
+-- a sequence that some bytes fed from power-on leave under way; g are the bytes gathered
+unfoldable pub pendingOk : Pending → List ℕ → Bool
+pendingOk Pending.Idle g = true
+pendingOk Pending.Escape g = true
+pendingOk (Pending.Awaits a) g = true
+pendingOk (Pending.AddressRow r) g = ltb r 128
+pendingOk (Pending.SegmentNumber n) g = ltb n 128
+pendingOk (Pending.SegmentRow n r) g = both (ltb n 128) (ltb r 128)
+pendingOk (Pending.DecimalRow n row) g = both (leb n 2) (ltb row (10 ^ n))
+pendingOk (Pending.DecimalColumn row n column) g = both (ltb row 100) (both (leb n 3) (ltb column (10 ^ n)))
+pendingOk (Pending.FieldNumber n) g = ltb n 128
+pendingOk (Pending.Text x n) g = both (slotOk x) (textOk (slotLow x) (slotMost x) n g)
+pendingOk (Pending.Spoilt x) g = slotOk x
 
 -- document 01 has narrow pages only; the rules are said over both widths, and no wide screen is possible until request A11 lands
 abbrev pub narrow : Screen → Bool
 narrow x = not (x .wide)
 
--- the term "possible": of the core, and of the set-up, w being the width of the page
-unfoldable pub coreOk : Core → Bool
-coreOk c = both (narrow (c .screen)) (both (screenOk (c .screen)) (both (ltb (c .bells) 256) (pendingOk (c .pending) (c .gathered))))
+-- the term "possible": of the core with the bytes gathered, and of the set-up, w being the width of the page
+unfoldable pub coreOk : Core → List ℕ → Bool
+coreOk c g = both (narrow (c .screen)) (both (screenOk (c .screen)) (both (ltb (c .bells) 256) (pendingOk (c .pending) g)))
 
+-- keys of any bytes below 7Fh; labels and message of 20h to 7Eh (document 02, A1)
 unfoldable pub setupOk : ℕ → Setup → Bool
-setupOk w u = both (keysOk (u .keys)) (both (attributesOk (u .attributes)) (both (featuresOk 0 (u .features)) (tabsOk w (u .tabs))))
+setupOk w u =
+    both (textsOk 0 (u .keys)) (both (textsOk 0x20 (u .labels)) (both (textOk 0x20 46 (u .message .len) (u .message .bytes))
+    (both (attributesOk (u .attributes)) (both (featuresOk 0 (u .features)) (tabsOk w (u .tabs))))))
 
 unfoldable pub possible : State → Bool
-possible s = both (coreOk (s .core)) (setupOk (widthOf (s .core .screen)) (s .setup))
+possible s = both (coreOk (s .core) (s .gathered)) (setupOk (widthOf (s .core .screen)) (s .setup))
 
 -- a page of the state's own length, and a possible state
 unfoldable pub good : List ℕ → State → Bool

@@ -1,12 +1,15 @@
--- Which states are possible, at the edges of each part of "Possible means exactly": one table. The sequence under way is in Reach.
+-- Which states are possible, at the edges of each part of "Possible means exactly": one table. Which sequences are possible is in Reach too.
 use mathlib.Core.Bool.{Bool, true, false, not}
 use mathlib.Core.List.{List, [], _∷_, _++_}
 use Prim.Native.Nat.{ℕ, _-_}
 use lib.ListN.{replicate, set}
-use Rattle.rules.specs.declared.Key.{Key}
 use Rattle.rules.specs.declared.State.{State}
+use Rattle.rules.specs.declared.Setup.{Setup}
+use Rattle.rules.specs.declared.Pending.{Pending}
+use Rattle.rules.specs.declared.Pending.the-variants as Pending
+use Rattle.rules.specs.declared.Slot.the-variants as Slot
 use Rattle.rules.specs.Cell.{both}
-use Rattle.rules.specs.State.{withScreen, noKey}
+use Rattle.rules.specs.State.{withScreen, awaiting, withTabs, withAttributes, withFeatures, withKeys, withLabels, withMessage, withShifted}
 use Rattle.rules.specs.Possible.{powerOn, possible}
 use Rattle.rules.specs.Inputs.{belled}
 
@@ -14,43 +17,39 @@ use Rattle.rules.specs.Inputs.{belled}
 unfoldable pub placed : ℕ → ℕ → ℕ → ℕ → State
 placed a s c d = record {
   core = withScreen (powerOn .core) record { wide = false; active = a; split = s; cursor0 = c; cursor1 = d };
+  gathered = powerOn .gathered;
   setup = powerOn .setup;
 }
 
--- with a key of n bytes, which are given, at a place; with field attributes; with features; with a tab stop
+-- with another set-up
+abbrev pub settled : Setup → State
+settled u = record { core = powerOn .core; gathered = powerOn .gathered; setup = u }
+
+-- with a key of n bytes, which are given, at a place; a label; a message; field attributes; features; a tab stop; the shifted line on
 unfoldable pub keyed : ℕ → ℕ → List ℕ → State
-keyed place n bytes = record {
-  core = powerOn .core;
-  setup = record {
-    tabs = powerOn .setup .tabs;
-    attributes = powerOn .setup .attributes;
-    features = powerOn .setup .features;
-    keys = set (powerOn .setup .keys) place record { len = n; bytes = bytes };
-  };
-}
+keyed place n bytes = settled (withKeys (powerOn .setup) (set (powerOn .setup .keys) place record { len = n; bytes = bytes }))
+
+unfoldable pub labelledAt : ℕ → ℕ → List ℕ → State
+labelledAt place n bytes = settled (withLabels (powerOn .setup) (set (powerOn .setup .labels) place record { len = n; bytes = bytes }) false)
+
+unfoldable pub messaged : ℕ → List ℕ → State
+messaged n bytes = settled (withMessage (powerOn .setup) record { len = n; bytes = bytes })
 
 unfoldable pub attributed : List ℕ → State
-attributed l = record {
-  core = powerOn .core;
-  setup = record { tabs = powerOn .setup .tabs; attributes = l; features = powerOn .setup .features; keys = powerOn .setup .keys };
-}
+attributed l = settled (withAttributes (powerOn .setup) l)
 
 unfoldable pub featured : List ℕ → State
-featured l = record {
-  core = powerOn .core;
-  setup = record { tabs = powerOn .setup .tabs; attributes = powerOn .setup .attributes; features = l; keys = powerOn .setup .keys };
-}
+featured l = settled (withFeatures (powerOn .setup) l)
 
 unfoldable pub stopped : ℕ → State
-stopped column = record {
-  core = powerOn .core;
-  setup = record {
-    tabs = set (powerOn .setup .tabs) column true;
-    attributes = powerOn .setup .attributes;
-    features = powerOn .setup .features;
-    keys = powerOn .setup .keys;
-  };
-}
+stopped column = settled (withTabs (powerOn .setup) (set (powerOn .setup .tabs) column true))
+
+unfoldable pub shiftedOn : State
+shiftedOn = settled (withShifted (powerOn .setup) true)
+
+-- with a text under way, or a spoilt one, of which the bytes gathered are given
+unfoldable pub gathering : Pending → List ℕ → State
+gathering q g = record { core = awaiting (powerOn .core) q; gathered = g; setup = powerOn .setup }
 
 unfoldable pub possibleStates : List State
 possibleStates =
@@ -65,6 +64,21 @@ possibleStates =
     ∷ keyed 0 8 (replicate 8 0x7e)
     ∷ keyed 31 8 (replicate 8 0)
     ∷ keyed 5 1 (0x61 ∷ replicate 7 0xff)
+    -- a label: at most 8 of 20h to 7Eh; the message: at most 46 of them
+    ∷ labelledAt 0 8 (0x20 ∷ replicate 7 0x7e)
+    ∷ labelledAt 15 1 (0x61 ∷ replicate 7 0xff)
+    ∷ messaged 46 (replicate 46 0x7e)
+    ∷ messaged 1 (0x20 ∷ replicate 45 0)
+    -- the line on with all labels empty, and off with one set
+    ∷ shiftedOn
+    ∷ labelledAt 8 1 (0x61 ∷ replicate 7 0)
+    -- a text under way: the same bytes; what lies behind them, or while no text is under way, is not looked at
+    ∷ gathering (Pending.Text Slot.Message 46) (replicate 46 0x20)
+    ∷ gathering (Pending.Text Slot.Message 1) (0x61 ∷ replicate 45 0xff)
+    ∷ gathering (Pending.Text (Slot.Label 0x57) 8) (replicate 46 0x7e)
+    ∷ gathering (Pending.Text (Slot.Key 0x6f) 8) (replicate 46 0)
+    ∷ gathering (Pending.Spoilt (Slot.Label 0x30)) (replicate 46 0xff)
+    ∷ gathering Pending.Idle (replicate 46 0xff)
     -- attributes and features from their lists
     ∷ attributed (0x20 ∷ 0x3f ∷ 0x70 ∷ 0x7e ∷ [])
     ∷ featured (0x30 ∷ 0x32 ∷ 0x36 ∷ 0x38 ∷ 0x3c ∷ [])
@@ -88,6 +102,21 @@ impossibleStates =
     ∷ keyed 0 9 (replicate 8 0x61)
     ∷ keyed 0 1 (0x7f ∷ replicate 7 0)
     ∷ keyed 31 8 (replicate 7 0 ++ 0x80 ∷ [])
+    ∷ labelledAt 0 9 (replicate 8 0x61)
+    ∷ labelledAt 15 1 (0x1f ∷ replicate 7 0)
+    ∷ labelledAt 0 8 (replicate 7 0x61 ++ 0x7f ∷ [])
+    ∷ messaged 47 (replicate 46 0x61)
+    ∷ messaged 1 (0x0d ∷ replicate 45 0)
+    ∷ messaged 46 (replicate 45 0x61 ++ 0x80 ∷ [])
+    ∷ gathering (Pending.Text Slot.Message 47) (replicate 46 0x61)
+    ∷ gathering (Pending.Text Slot.Message 1) (replicate 46 0x1f)
+    ∷ gathering (Pending.Text (Slot.Label 0x50) 9) (replicate 46 0x61)
+    ∷ gathering (Pending.Text (Slot.Label 0x58) 0) (replicate 46 0x61)
+    ∷ gathering (Pending.Text (Slot.Label 0x38) 0) (replicate 46 0x61)
+    ∷ gathering (Pending.Text (Slot.Key 0x40) 9) (replicate 46 0x61)
+    ∷ gathering (Pending.Text (Slot.Key 0x40) 1) (replicate 46 0x7f)
+    ∷ gathering (Pending.Text (Slot.Key 0x50) 0) (replicate 46 0x61)
+    ∷ gathering (Pending.Spoilt (Slot.Label 0x40)) (replicate 46 0)
     ∷ attributed (0x21 ∷ 0x30 ∷ 0x30 ∷ 0x30 ∷ [])
     ∷ attributed (0x30 ∷ 0x2f ∷ 0x30 ∷ 0x30 ∷ [])
     ∷ attributed (0x30 ∷ 0x30 ∷ 0x6f ∷ 0x30 ∷ [])

@@ -5,7 +5,7 @@ use mathlib.Core.List.{List, [], _∷_}
 use Prim.Native.Nat.{ℕ, _<_, _≤_}
 use lib.ListN.{length}
 use Rattle.rules.specs.declared.State.{State}
-use Rattle.rules.specs.State.{keyText}
+use Rattle.rules.specs.State.{shortBytes}
 use Rattle.rules.specs.Possible.{good}
 use Rattle.rules.specs.Arguments.{isKey}
 use Rattle.rules.specs.Calls.{Called, keyAt}
@@ -22,7 +22,7 @@ pub record Ready (p : List ℕ) (s : State) (v : ℕ) : Type 0 where
 
 -- the bytes that the key v sends: its own, and 01h value 0Dh if it is not programmed
 pub record Sends (s : State) (v : ℕ) (sent : List ℕ) : Type 0 where
-  pub own : 0 < keyAt s v .len → sent ≡ keyText (keyAt s v)
+  pub own : 0 < keyAt s v .len → sent ≡ shortBytes (keyAt s v)
   pub unprogrammed : keyAt s v .len ≡ 0 → sent ≡ 0x01 ∷ v ∷ 0x0d ∷ []
 
 -- what the press of the key v gives, `sent` being the bytes that it sends

@@ -2,7 +2,7 @@
 use mathlib.Core.Bool.{Bool, true, false}
 use mathlib.Core.List.{List, [], _∷_, _++_}
 use Prim.Native.Nat.{ℕ, zero, suc, _+_, _-_, _*_, _<_, _≤_}
-use lib.Dec.{eqb}
+use lib.Dec.{eqb, ltb, leb}
 use lib.ListN.{length, take, set, replicate}
 use Rattle.rules.specs.declared.Answer.{Answer}
 use Rattle.rules.specs.declared.Answer.the-variants as Answer
@@ -10,7 +10,12 @@ use Rattle.rules.specs.declared.Screen.{Screen}
 use Rattle.rules.specs.declared.Modes.{Modes}
 use Rattle.rules.specs.declared.Mode.{Mode}
 use Rattle.rules.specs.declared.Mode.the-variants as Mode
-use Rattle.rules.specs.declared.Key.{Key}
+use Rattle.rules.specs.declared.ShortText.{ShortText}
+use Rattle.rules.specs.declared.LongText.{LongText}
+use Rattle.rules.specs.declared.Slot.{Slot}
+use Rattle.rules.specs.declared.Slot.the-variants as Slot
+use Rattle.rules.specs.declared.Change.{Change}
+use Rattle.rules.specs.declared.Change.the-variants as Change
 use Rattle.rules.specs.declared.Setup.{Setup}
 use Rattle.rules.specs.declared.SetupChange.{SetupChange}
 use Rattle.rules.specs.declared.SetupChange.the-variants as SetupChange
@@ -18,7 +23,7 @@ use Rattle.rules.specs.declared.Core.{Core}
 use Rattle.rules.specs.declared.State.{State}
 use Rattle.rules.specs.declared.Pending.{Pending}
 use Rattle.rules.specs.declared.Pending.the-variants as Pending
-use Rattle.rules.specs.Cell.{pick}
+use Rattle.rules.specs.Cell.{pick, both, either}
 use Rattle.rules.specs.Row.{columns, height, Placed}
 
 -- document 01, "Numbers that come back"; 5 is unused (A4)
@@ -79,35 +84,45 @@ pub record Inside (x : Screen) : Type 0 where
   pub below : cursorOf x < segmentEnd x
   pub placed : Placed (widthOf x) (segmentTop x) (segmentBottom x) (cursorOf x)
 
--- a key's bytes, and the key that holds some bytes, with zeros behind them
-abbrev pub keyText : Key → List ℕ
-keyText k = take (k .len) (k .bytes)
+-- a text's bytes, and the text that holds some bytes, with zeros behind them
+abbrev pub shortBytes : ShortText → List ℕ
+shortBytes t = take (t .len) (t .bytes)
 
-abbrev pub keyOf : List ℕ → Key
-keyOf l = record { len = length l; bytes = take 8 (l ++ replicate 8 0) }
+abbrev pub padded : ℕ → List ℕ → List ℕ
+padded most l = take most (l ++ replicate most 0)
 
-abbrev pub noKey : Key
-noKey = record { len = 0; bytes = replicate 8 0 }
+abbrev pub shortText : List ℕ → ShortText
+shortText l = record { len = length l; bytes = padded 8 l }
+
+abbrev pub longText : List ℕ → LongText
+longText l = record { len = length l; bytes = padded 46 l }
+
+abbrev pub noText : ShortText
+noText = record { len = 0; bytes = replicate 8 0 }
+
+abbrev pub noLong : LongText
+noLong = record { len = 0; bytes = replicate 46 0 }
 
 -- keys 40h to 4Fh and 60h to 6Fh are the places 0 to 15 and 16 to 31
 abbrev pub keyPlace : ℕ → ℕ
-keyPlace v = pick (lib.Dec.ltb v 0x60) (v - 0x40) (v - 0x50)
+keyPlace v = pick (ltb v 0x60) (v - 0x40) (v - 0x50)
+
+-- labels 30h to 37h and 50h to 57h are the places 0 to 7 and 8 to 15
+abbrev pub labelPlace : ℕ → ℕ
+labelPlace v = pick (ltb v 0x50) (v - 0x30) (v - 0x48)
 
 abbrev pub withScreen : Core → Screen → Core
-withScreen c x = record { screen = x; modes = c .modes; bells = c .bells; pending = c .pending; gathered = c .gathered }
+withScreen c x = record { screen = x; modes = c .modes; bells = c .bells; pending = c .pending }
 
 abbrev pub withModes : Core → Modes → Core
-withModes c m = record { screen = c .screen; modes = m; bells = c .bells; pending = c .pending; gathered = c .gathered }
+withModes c m = record { screen = c .screen; modes = m; bells = c .bells; pending = c .pending }
 
 abbrev pub withBells : Core → ℕ → Core
-withBells c n = record { screen = c .screen; modes = c .modes; bells = n; pending = c .pending; gathered = c .gathered }
+withBells c n = record { screen = c .screen; modes = c .modes; bells = n; pending = c .pending }
 
-abbrev pub withGathered : Core → Key → Core
-withGathered c k = record { screen = c .screen; modes = c .modes; bells = c .bells; pending = c .pending; gathered = k }
-
--- another sequence is under way; nothing is gathered
+-- another sequence is under way
 abbrev pub awaiting : Core → Pending → Core
-awaiting c q = record { screen = c .screen; modes = c .modes; bells = c .bells; pending = q; gathered = noKey }
+awaiting c q = record { screen = c .screen; modes = c .modes; bells = c .bells; pending = q }
 
 -- the sequence is cleared
 abbrev pub idle : Core → Core
@@ -123,11 +138,54 @@ withMode m Mode.Autoscroll b = record { protect = m .protect; mark = m .mark; in
 withMode m Mode.Lock b = record { protect = m .protect; mark = m .mark; insert = m .insert; autoscroll = m .autoscroll; locked = b; local = m .local }
 withMode m Mode.LocalEdit b = record { protect = m .protect; mark = m .mark; insert = m .insert; autoscroll = m .autoscroll; locked = m .locked; local = b }
 
--- the set-up after a change; k is the key text gathered
-unfoldable pub changed : SetupChange → Key → Setup → Setup
-changed SetupChange.Nothing k u = u
-changed (SetupChange.Tab c b) k u = record { tabs = set (u .tabs) c b; attributes = u .attributes; features = u .features; keys = u .keys }
-changed SetupChange.ClearTabs k u = record { tabs = replicate 132 false; attributes = u .attributes; features = u .features; keys = u .keys }
-changed (SetupChange.Attribute n a) k u = record { tabs = u .tabs; attributes = set (u .attributes) n a; features = u .features; keys = u .keys }
-changed (SetupChange.Feature n f) k u = record { tabs = u .tabs; attributes = u .attributes; features = set (u .features) n f; keys = u .keys }
-changed (SetupChange.Key n) k u = record { tabs = u .tabs; attributes = u .attributes; features = u .features; keys = set (u .keys) n (keyOf (keyText k)) }
+abbrev pub withTabs : Setup → List Bool → Setup
+withTabs u x = record { tabs = x; attributes = u .attributes; features = u .features; keys = u .keys; labels = u .labels; message = u .message; shifted = u .shifted }
+
+abbrev pub withAttributes : Setup → List ℕ → Setup
+withAttributes u x = record { tabs = u .tabs; attributes = x; features = u .features; keys = u .keys; labels = u .labels; message = u .message; shifted = u .shifted }
+
+abbrev pub withFeatures : Setup → List ℕ → Setup
+withFeatures u x = record { tabs = u .tabs; attributes = u .attributes; features = x; keys = u .keys; labels = u .labels; message = u .message; shifted = u .shifted }
+
+abbrev pub withKeys : Setup → List ShortText → Setup
+withKeys u x = record { tabs = u .tabs; attributes = u .attributes; features = u .features; keys = x; labels = u .labels; message = u .message; shifted = u .shifted }
+
+abbrev pub withLabels : Setup → List ShortText → Bool → Setup
+withLabels u l s = record { tabs = u .tabs; attributes = u .attributes; features = u .features; keys = u .keys; labels = l; message = u .message; shifted = s }
+
+abbrev pub withMessage : Setup → LongText → Setup
+withMessage u x = record { tabs = u .tabs; attributes = u .attributes; features = u .features; keys = u .keys; labels = u .labels; message = x; shifted = u .shifted }
+
+abbrev pub withShifted : Setup → Bool → Setup
+withShifted u x = record { tabs = u .tabs; attributes = u .attributes; features = u .features; keys = u .keys; labels = u .labels; message = u .message; shifted = x }
+
+-- the set-up after a command's change
+unfoldable pub changed : SetupChange → Setup → Setup
+changed SetupChange.Nothing u = u
+changed (SetupChange.Tab c b) u = withTabs u (set (u .tabs) c b)
+changed SetupChange.ClearTabs u = withTabs u (replicate 132 false)
+changed (SetupChange.Attribute n a) u = withAttributes u (set (u .attributes) n a)
+changed (SetupChange.Feature n f) u = withFeatures u (set (u .features) n f)
+changed SetupChange.HideLine u = withShifted u false
+
+-- a slot takes a text. A label of 50h to 57h that is set, not cleared, turns the shifted line on
+unfoldable pub stored : Slot → List ℕ → Setup → Setup
+stored (Slot.Key v) l u = withKeys u (set (u .keys) (keyPlace v) (shortText l))
+stored (Slot.Label v) l u =
+    withLabels u (set (u .labels) (labelPlace v) (shortText l)) (either (both (leb 0x50 v) (ltb 0 (length l))) (u .shifted))
+stored Slot.Message l u = withMessage u (longText l)
+
+-- nothing changes beside the core
+abbrev pub unchanged : Change
+unchanged = Change.Set SetupChange.Nothing
+
+-- the gathered bytes g, and the set-up, after a byte's change
+unfoldable pub gatheredAfter : Change → List ℕ → List ℕ
+gatheredAfter (Change.Gather n b) g = set g n b
+gatheredAfter (Change.Take x n) g = g
+gatheredAfter (Change.Set x) g = g
+
+unfoldable pub setupAfter : Change → List ℕ → Setup → Setup
+setupAfter (Change.Gather n b) g u = u
+setupAfter (Change.Take x n) g u = stored x (take n g) u
+setupAfter (Change.Set x) g u = changed x u

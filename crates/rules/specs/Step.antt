@@ -2,37 +2,33 @@
 -- 3 or 4 from planning, and 6.
 use mathlib.Core.Bool.{Bool, true, false}
 use mathlib.Core.List.{List, [], _∷_, _++_}
-use Prim.Native.Nat.{ℕ}
+use Prim.Native.Nat.{ℕ, _+_}
 use lib.Dec.{ltb}
 use Rattle.rules.specs.declared.Core.{Core}
-use Rattle.rules.specs.declared.Key.{Key}
 use Rattle.rules.specs.declared.State.{State}
 use Rattle.rules.specs.declared.Decoded.{Decoded}
 use Rattle.rules.specs.declared.Decoded.the-variants as Decoded
-use Rattle.rules.specs.declared.SetupChange.the-variants as SetupChange
+use Rattle.rules.specs.declared.Change.the-variants as Change
+use Rattle.rules.specs.declared.Pending.the-variants as Pending
 use Rattle.rules.specs.Cell.{pick}
 use Rattle.rules.specs.Search.{guardedAt}
-use Rattle.rules.specs.State.{number, keyText, keyOf, awaiting, idle, withGathered, changed}
+use Rattle.rules.specs.State.{number, awaiting, idle, gatheredAfter, setupAfter}
 use Rattle.rules.specs.Possible.{good}
 use Rattle.rules.specs.Decode.{decodeRule}
 use Rattle.rules.specs.Plan.{planRule}
 use Rattle.rules.specs.Carry.{Effect, effect, quiet, carried}
 
--- one byte more of a key's text
-abbrev pub grown : Key → ℕ → Key
-grown k b = keyOf (keyText k ++ b ∷ [])
-
--- what a byte comes to over the core and the tab stops; a change of the set-up is data
+-- what a byte comes to over the core and the tab stops; what changes beside the core is data
 unfoldable pub obeyed : List ℕ → Core → List Bool → Decoded → ℕ → Effect
 obeyed p c tabs (Decoded.Wait q) room = quiet 0 (awaiting c q) p
-obeyed p c tabs (Decoded.Gather b) room = quiet 0 (withGathered c (grown (c .gathered) b)) p
-obeyed p c tabs (Decoded.Program n) room = effect 0 (idle c) (SetupChange.Key n) p []
+obeyed p c tabs (Decoded.Gather x n b) room = effect 0 (awaiting c (Pending.Text x (n + 1))) (Change.Gather n b) p []
+obeyed p c tabs (Decoded.Take x n) room = effect 0 (idle c) (Change.Take x n) p []
 obeyed p c tabs (Decoded.Reject a) room = quiet (number a) (idle c) p
 obeyed p c tabs (Decoded.Do d) room = carried p c (planRule (guardedAt (c .modes .protect) p) tabs (idle c) d) room
 
 -- a byte on a good page and state; 80h and above answers 1
 unfoldable pub innerRule : List ℕ → Core → List Bool → ℕ → ℕ → Effect
-innerRule p c tabs b room = pick (ltb b 128) (obeyed p c tabs (decodeRule (c .pending) (c .gathered .len) b) room) (quiet 1 c p)
+innerRule p c tabs b room = pick (ltb b 128) (obeyed p c tabs (decodeRule (c .pending) b) room) (quiet 1 c p)
 
 -- what a step gives and leaves
 pub record Outcome : Type 0 where
@@ -41,11 +37,15 @@ pub record Outcome : Type 0 where
   pub page : List ℕ
   pub reply : List ℕ
 
--- the effect with its change of the set-up made
+-- the effect with its change made
 abbrev pub outcomeOf : State → Effect → Outcome
 outcomeOf s e = record {
   answer = e .answer;
-  state = record { core = e .core; setup = changed (e .change) (s .core .gathered) (s .setup) };
+  state = record {
+    core = e .core;
+    gathered = gatheredAfter (e .change) (s .gathered);
+    setup = setupAfter (e .change) (s .gathered) (s .setup);
+  };
   page = e .page;
   reply = e .reply;
 }

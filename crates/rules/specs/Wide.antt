@@ -20,8 +20,8 @@ widePowerOn = record {
     modes = powerOn .core .modes;
     bells = 0;
     pending = powerOn .core .pending;
-    gathered = powerOn .core .gathered;
   };
+  gathered = powerOn .gathered;
   setup = powerOn .setup;
 }
 

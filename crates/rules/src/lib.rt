@@ -20,64 +20,84 @@ pub struct Modes {
     pub local: bool,
 }
 
-// A function key's bytes: the first `len` of `bytes`.
-pub struct Key {
+// A short text, a key's or a label's, and a long one, the host message: the first `len` of `bytes`.
+pub struct ShortText {
     pub len: u8,
     pub bytes: [u8; 8],
 }
 
+pub struct LongText {
+    pub len: u8,
+    pub bytes: [u8; 46],
+}
+
 // Features: cursor shown, cursor style, protected look, screen shown, scrolling.
-// Keys: 40h to 4Fh, then 60h to 6Fh.
+// Keys: 40h to 4Fh, then 60h to 6Fh. Labels: 30h to 37h, then 50h to 57h, the shifted line's; `shifted` says whether that line is on.
 pub struct Setup {
     pub tabs: [bool; 132],
     pub attributes: [u8; 4],
     pub features: [u8; 5],
-    pub keys: [Key; 32],
+    pub keys: [ShortText; 32],
+    pub labels: [ShortText; 16],
+    pub message: LongText,
+    pub shifted: bool,
+}
+
+// Where a text goes when it is complete: the key or the label of a value of ESC z, or the host message of ESC F.
+pub enum Slot {
+    Key(u8),
+    Label(u8),
+    Message,
+}
+
+// An argument that is awaited, nothing but its command having come: after ESC =, ESC -, ESC x, ESC x 1, ESC G, ESC H, ESC !, ESC ., ESC `,
+// ESC A, ESC z.
+pub enum Argument {
+    Address,
+    Segment,
+    Split,
+    SplitRow,
+    Attribute,
+    Graphic,
+    FillAttribute,
+    FillCode,
+    Feature,
+    FieldAttribute,
+    Slot,
 }
 
 // The sequence under way: which bytes have come since ESC.
 pub enum Pending {
     Idle,
     Escape,
-    // ESC =, and its row code
-    Address,
+    Awaits(Argument),
+    // ESC = and its row code
     AddressRow(u8),
-    // ESC -, its segment code, and its row code
-    Segment,
+    // ESC - and its segment code; and its row code
     SegmentNumber(u8),
     SegmentRow(u8, u8),
     // ESC a: digits so far and the number that they make; after R also the row
     DecimalRow(u8, u8),
     DecimalColumn(u8, u8, u16),
-    // ESC x, ESC x 1
-    Split,
-    SplitRow,
-    // ESC G, ESC H, ESC !, ESC ., ESC `
-    Attribute,
-    Graphic,
-    FillAttribute,
-    FillCode,
-    Feature,
-    // ESC A, and its field
-    FieldAttribute,
+    // ESC A and its field
     FieldNumber(u8),
-    // ESC z; its key while the text is gathered; its key once there were too many bytes
-    KeyValue,
-    KeyText(u8),
-    KeyOver(u8),
+    // ESC z value, ESC F: how many bytes of the text are gathered; or there were too many, or a bad one
+    Text(Slot, u8),
+    Spoilt(Slot),
 }
 
-// What the bytes of the host change most; `gathered` holds the key text under way.
+// What the bytes of the host change most.
 pub struct Core {
     pub screen: Screen,
     pub modes: Modes,
     pub bells: u8,
     pub pending: Pending,
-    pub gathered: Key,
 }
 
+// `gathered` holds the bytes of a text under way.
 pub struct State {
     pub core: Core,
+    pub gathered: [u8; 46],
     pub setup: Setup,
 }
 
@@ -165,6 +185,8 @@ pub enum Setting {
     // field, attribute
     Attribute(u8, u8),
     Feature(u8),
+    // the shifted line off
+    HideLine,
 }
 
 pub enum Send {
@@ -203,12 +225,12 @@ pub enum Command {
     Excluded(Excluded),
 }
 
-// What a byte comes to after the sequence under way: more is awaited, a byte of a key's text, the key's text is complete (the key counted
-// from 0), a refusal, or a command.
+// What a byte comes to after the sequence under way: more is awaited; the byte of a text, to be gathered at a place; a text of so many bytes is
+// complete; a refusal; or a command.
 pub enum Decoded {
     Wait(Pending),
-    Gather(u8),
-    Program(u8),
+    Gather(Slot, u8, u8),
+    Take(Slot, u8),
     Reject(Answer),
     Do(Command),
 }
@@ -247,14 +269,22 @@ pub enum Write {
     },
 }
 
-// What changes in the set-up. Key takes the text gathered.
+// What a command changes in the set-up.
 pub enum SetupChange {
     Nothing,
     Tab(u16, bool),
     ClearTabs,
     Attribute(u8, u8),
     Feature(u8, u8),
-    Key(u8),
+    HideLine,
+}
+
+// What a byte changes beside the core: a byte of a text is gathered at a place, a slot takes the first so many bytes gathered, or a command's
+// change of the set-up.
+pub enum Change {
+    Gather(u8, u8),
+    Take(Slot, u8),
+    Set(SetupChange),
 }
 
 // What is replied.
@@ -291,7 +321,7 @@ pub struct CoreResult {
     pub answer: Answer,
     pub replied: usize,
     pub core: Core,
-    pub change: SetupChange,
+    pub change: Change,
 }
 
 pub struct PowerOn {

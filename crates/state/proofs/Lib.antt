@@ -1,5 +1,5 @@
 pub mod Tests
 pub mod Lists
 pub mod Segments
-pub mod KeyText
+pub mod Gathered
 pub mod Sequences

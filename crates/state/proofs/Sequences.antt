@@ -11,12 +11,10 @@ use lib.Dec.{ltb, leb}
 use Rattle.rules.specs.Cell.{both}
 use Rattle.rules.specs.Decode.{lookup}
 use Rattle.rules.specs.declared.Decoded.{Decoded}
-use Rattle.rules.specs.Possible.{keyOk, pendingOk}
-use Rattle.rules.specs.Arguments.{isKey}
-use Rattle.rules.specs.declared.Key.{Key}
+use Rattle.rules.specs.Possible.{pendingOk}
 use Rattle.rules.specs.declared.Pending.{Pending}
 use Rattle.rules.specs.declared.Pending.the-variants as Pending
-use Rattle.state.proofs.Tests.{pick-false, both-left, both-right}
+use Rattle.state.proofs.Tests.{pick-false, both-right}
 
 -- what the last arm of a `match` on a number knows: the number is none of the keys, the last key outermost
 abbrev pub NoneOf : Type 0 → ℕ → List (ℕ × Decoded) → Type 0
@@ -34,8 +32,8 @@ none acc b (r ∷ t) other h =
 pub smaller : (most : ℕ) {n v : ℕ} → n < suc most → v < 10 ^ n → v < 10 ^ most
 smaller most {n} {v} h k = omega (arith, pow-le-pow-right {n = 10} (omega arith) {i = n} {j = most} (omega arith))
 
--- a possible sequence's number can be made by its digits, and its key is one
-module _ {q : Pending} (k : Key) (h : pendingOk q k ≡ true) where
+-- a possible sequence's number can be made by its digits
+module _ {q : Pending} (g : List ℕ) (h : pendingOk q g ≡ true) where
   pub row-digits : {n row : ℕ} → q ≡ Pending.DecimalRow n row → row < 10 ^ n
   unfolding pendingOk
   row-digits {n} {row} e = ltb-true row (10 ^ n) (both-right (leb n 2) (ltb row (10 ^ n)) (rw e at h))
@@ -45,7 +43,3 @@ module _ {q : Pending} (k : Key) (h : pendingOk q k ≡ true) where
   column-digits {row} {n} {column} e =
       let r = both-right (ltb row 100) (both (leb n 3) (ltb column (10 ^ n))) (rw e at h) in
       ltb-true column (10 ^ n) (both-right (leb n 3) (ltb column (10 ^ n)) r)
-
-  pub text-key : {v : ℕ} → q ≡ Pending.KeyText v → isKey v ≡ true
-  unfolding pendingOk
-  text-key {v} e = both-left (isKey v) (keyOk k) (rw e at h)

@@ -1,9 +1,8 @@
 // Setters of the core.
 ghost use mathlib.Core.Path.{_≡_};
 ghost use Prim.Native.Nat.{_+_, _%_};
-ghost use Rattle.rules.specs.State.{withScreen, withModes, withBells, withGathered, awaiting, idle, withProtect, withMode};
+ghost use Rattle.rules.specs.State.{withScreen, withModes, withBells, awaiting, idle, withProtect, withMode};
 use rules::Core;
-use rules::Key;
 use rules::Mode;
 use rules::Modes;
 use rules::Pending;
@@ -33,27 +32,17 @@ pub fn with_bells(c: Core, n: u8) -> Core
     t
 }
 
-pub fn with_gathered(c: Core, k: Key) -> Core
-    ensures { λ r. ⌜ r ≡ withGathered c k ⌝ }
-{
-    let mut t = c;
-    t.gathered = k;
-    t
-}
-
-// Another sequence is under way; nothing is gathered.
+// Another sequence is under way.
 pub fn awaiting(c: Core, q: Pending) -> Core
     ensures { λ r. ⌜ r ≡ awaiting c q ⌝ }
 {
     let screen = c.screen;
     let modes = c.modes;
-    let none = crate::keys::no_key();
     Core {
         screen: screen,
         modes: modes,
         bells: c.bells,
         pending: q,
-        gathered: none,
     }
 }
 

@@ -1,21 +1,25 @@
 // What a byte below 80h comes to after the sequence under way.
 ghost use mathlib.Core.Path.{_≡_};
 ghost use mathlib.Core.Bool.{true};
-ghost use Prim.Native.Nat.{_<_, _^_};
-ghost use Rattle.rules.specs.Decode.{lookup, controls, idleRule, escapeRule, judged, attributeContents, featureRule, fieldRule, splitRule, decimalRowRule, decimalColumnRule, keyValueRule, keyTextRule, keyOverRule, decodeRule};
+ghost use mathlib.Core.List.{List};
+ghost use Prim.Native.Nat.{ℕ, _<_, _^_};
+ghost use Rattle.rules.specs.Decode.{lookup, controls, idleRule, escapeRule, judged, attributeContents, featureRule, fieldRule, splitRule, decimalRowRule, decimalColumnRule, slotRule, textRule, spoiltRule, argumentRule, decodeRule};
 ghost use Rattle.rules.specs.Possible.{pendingOk};
-ghost use Rattle.rules.specs.Arguments.{isKey};
-ghost use Rattle.rules.specs.declared.Key.{Key};
 ghost use Rattle.rules.specs.declared.Command.the-variants as Command;
 ghost use Rattle.rules.specs.declared.Decoded.the-variants as Decoded;
-use crate::keys::is_key;
-use crate::keys::key_place;
 use crate::logic::among;
 use crate::logic::and;
 use crate::logic::or;
 use crate::possible::feature_place;
 use crate::possible::is_attribute;
+use crate::texts::is_key;
+use crate::texts::is_label;
+use crate::texts::is_text;
+use crate::texts::slot_end;
+use crate::texts::slot_low;
+use crate::texts::slot_most;
 use rules::Answer;
+use rules::Argument;
 use rules::Clear;
 use rules::Command;
 use rules::Contents;
@@ -27,6 +31,7 @@ use rules::Move;
 use rules::Pending;
 use rules::Send;
 use rules::Setting;
+use rules::Slot;
 use rules::Window;
 
 fn control(b: u8) -> Decoded
@@ -70,7 +75,7 @@ fn escape(b: u8) -> Decoded
 {
     match b {
         0x20 => Decoded::Do(Command::Send(Send::Identity)),
-        0x21 => Decoded::Wait(Pending::FillAttribute),
+        0x21 => Decoded::Wait(Pending::Awaits(Argument::FillAttribute)),
         0x22 => Decoded::Do(Command::Turn(Mode::Lock, false)),
         0x23 => Decoded::Do(Command::Turn(Mode::Lock, true)),
         0x26 => Decoded::Do(Command::ProtectOn),
@@ -80,8 +85,8 @@ fn escape(b: u8) -> Decoded
         0x2a => Decoded::Do(Command::Excluded(Excluded::ClearNulls)),
         0x2b => Decoded::Do(Command::Excluded(Excluded::ClearSpaces)),
         0x2c => Decoded::Do(Command::Excluded(Excluded::ClearProtected)),
-        0x2d => Decoded::Wait(Pending::Segment),
-        0x2e => Decoded::Wait(Pending::FillCode),
+        0x2d => Decoded::Wait(Pending::Awaits(Argument::Segment)),
+        0x2e => Decoded::Wait(Pending::Awaits(Argument::FillCode)),
         0x2f => Decoded::Do(Command::Send(Send::SegmentCursor)),
         0x30 => Decoded::Do(Command::Set(Setting::ClearTabs)),
         0x31 => Decoded::Do(Command::Set(Setting::Tab(true))),
@@ -92,12 +97,13 @@ fn escape(b: u8) -> Decoded
         0x37 => Decoded::Do(Command::Excluded(Excluded::SendSegment)),
         0x3a => Decoded::Do(Command::Clear(Clear::Segment(Contents::Text(0)))),
         0x3b => Decoded::Do(Command::Clear(Clear::Segment(Contents::Text(0x20)))),
-        0x3d => Decoded::Wait(Pending::Address),
+        0x3d => Decoded::Wait(Pending::Awaits(Argument::Address)),
         0x3f => Decoded::Do(Command::Send(Send::Cursor)),
-        0x41 => Decoded::Wait(Pending::FieldAttribute),
+        0x41 => Decoded::Wait(Pending::Awaits(Argument::FieldAttribute)),
         0x45 => Decoded::Do(Command::Edit(Edit::InsertRow)),
-        0x47 => Decoded::Wait(Pending::Attribute),
-        0x48 => Decoded::Wait(Pending::Graphic),
+        0x46 => Decoded::Wait(Pending::Text(Slot::Message, 0)),
+        0x47 => Decoded::Wait(Pending::Awaits(Argument::Attribute)),
+        0x48 => Decoded::Wait(Pending::Awaits(Argument::Graphic)),
         0x49 => Decoded::Do(Command::Go(Move::BackTab)),
         0x4a => Decoded::Do(Command::Window(Window::Other)),
         0x4b => Decoded::Do(Command::Window(Window::Other)),
@@ -111,7 +117,7 @@ fn escape(b: u8) -> Decoded
         0x57 => Decoded::Do(Command::Edit(Edit::DeleteCell)),
         0x59 => Decoded::Do(Command::Clear(Clear::Rest(Contents::Text(0x20)))),
         0x5d => Decoded::Do(Command::Window(Window::First)),
-        0x60 => Decoded::Wait(Pending::Feature),
+        0x60 => Decoded::Wait(Pending::Awaits(Argument::Feature)),
         0x61 => Decoded::Wait(Pending::DecimalRow(0, 0)),
         0x62 => Decoded::Do(Command::Send(Send::DecimalCursor)),
         0x69 => Decoded::Do(Command::Go(Move::Tab)),
@@ -121,9 +127,9 @@ fn escape(b: u8) -> Decoded
         0x71 => Decoded::Do(Command::Turn(Mode::Insert, true)),
         0x72 => Decoded::Do(Command::Turn(Mode::Insert, false)),
         0x74 => Decoded::Do(Command::Clear(Clear::Row(Contents::Text(0)))),
-        0x78 => Decoded::Wait(Pending::Split),
+        0x78 => Decoded::Wait(Pending::Awaits(Argument::Split)),
         0x79 => Decoded::Do(Command::Clear(Clear::Rest(Contents::Text(0)))),
-        0x7a => Decoded::Wait(Pending::KeyValue),
+        0x7a => Decoded::Wait(Pending::Awaits(Argument::Slot)),
         0x7b => Decoded::Do(Command::Go(Move::Home)),
         0x7d => Decoded::Do(Command::Window(Window::Second)),
         _ => Decoded::Reject(Answer::Unknown),
@@ -183,7 +189,7 @@ fn split(b: u8) -> Decoded
         return Decoded::Do(Command::Window(Window::Unsplit));
     }
     if b == 0x31 {
-        return Decoded::Wait(Pending::SplitRow);
+        return Decoded::Wait(Pending::Awaits(Argument::SplitRow));
     }
     Decoded::Reject(Answer::BadArgument)
 }
@@ -230,71 +236,82 @@ fn decimal_column(row: u8, n: u8, column: u16, b: u8) -> Decoded
 }
 
 // ESC z.
-fn key_value(v: u8) -> Decoded
-    ensures { λ r. ⌜ r ≡ keyValueRule v ⌝ }
+fn slot(v: u8) -> Decoded
+    ensures { λ r. ⌜ r ≡ slotRule v ⌝ }
 {
     if is_key(v) {
-        return Decoded::Wait(Pending::KeyText(v));
+        return Decoded::Wait(Pending::Text(Slot::Key(v), 0));
     }
-    Decoded::Reject(Answer::BadArgument)
+    if is_label(v) {
+        return Decoded::Wait(Pending::Text(Slot::Label(v), 0));
+    }
+    judged(v == 0x7f, Command::Set(Setting::HideLine))
 }
 
-// A byte of the text of key v, of which n bytes are gathered.
-fn key_text(v: u8, n: u8, b: u8) -> Decoded
-    requires { ⌜ isKey v ≡ true ⌝ }
-    ensures { λ r. ⌜ r ≡ keyTextRule v n b ⌝ }
+// A byte of a text, of which n are gathered.
+fn text(x: Slot, n: u8, b: u8) -> Decoded
+    ensures { λ r. ⌜ r ≡ textRule x n b ⌝ }
 {
-    if b == 0x7f {
-        return Decoded::Program(key_place(v));
+    if b == slot_end(x) {
+        return Decoded::Take(x, n);
     }
-    if n < 8 {
-        return Decoded::Gather(b);
+    if and(n < slot_most(x), is_text(slot_low(x), b)) {
+        return Decoded::Gather(x, n, b);
     }
-    Decoded::Wait(Pending::KeyOver(v))
+    Decoded::Wait(Pending::Spoilt(x))
 }
 
-// More than 8 bytes are swallowed up to DEL.
-fn key_over(v: u8, b: u8) -> Decoded
-    ensures { λ r. ⌜ r ≡ keyOverRule v b ⌝ }
+// A spoilt text is swallowed to its end.
+fn spoilt(x: Slot, b: u8) -> Decoded
+    ensures { λ r. ⌜ r ≡ spoiltRule x b ⌝ }
 {
-    if b == 0x7f {
+    if b == slot_end(x) {
         return Decoded::Reject(Answer::BadArgument);
     }
-    Decoded::Wait(Pending::KeyOver(v))
+    Decoded::Wait(Pending::Spoilt(x))
 }
 
-// The byte b after the sequence p, n bytes of a key's text gathered.
-pub fn decode(p: Pending, n: u8, b: u8) -> Decoded
-    requires { ⌜ ((k : Key) × (pendingOk p k ≡ true)) ⌝ }
-    ensures { λ r. ⌜ r ≡ decodeRule p n b ⌝ }
+// An awaited argument.
+fn argument(a: Argument, b: u8) -> Decoded
+    ensures { λ r. ⌜ r ≡ argumentRule a b ⌝ }
+{
+    match a {
+        Argument::Address => Decoded::Wait(Pending::AddressRow(b)),
+        Argument::Segment => Decoded::Wait(Pending::SegmentNumber(b)),
+        Argument::Split => split(b),
+        Argument::SplitRow => Decoded::Do(Command::Window(Window::Split(b))),
+        Argument::Attribute => judged(is_attribute(b), Command::Store(attribute_contents(b))),
+        Argument::Graphic => judged(among(0x30, 16, b), Command::Store(Contents::Graphic(b))),
+        Argument::FillAttribute => judged(
+            is_attribute(b),
+            Command::Clear(Clear::Segment(attribute_contents(b))),
+        ),
+        Argument::FillCode => judged(
+            or(b == 0, among(0x20, 95, b)),
+            Command::Clear(Clear::Segment(Contents::Text(b))),
+        ),
+        Argument::Feature => feature(b),
+        Argument::FieldAttribute => Decoded::Wait(Pending::FieldNumber(b)),
+        Argument::Slot => slot(b),
+    }
+}
+
+// The byte b after the sequence p.
+pub fn decode(p: Pending, b: u8) -> Decoded
+    requires { ⌜ ((g : List ℕ) × (pendingOk p g ≡ true)) ⌝ }
+    ensures { λ r. ⌜ r ≡ decodeRule p b ⌝ }
 {
     match p {
         Pending::Idle => idle(b),
         Pending::Escape => escape(b),
-        Pending::Address => Decoded::Wait(Pending::AddressRow(b)),
+        Pending::Awaits(a) => argument(a, b),
         Pending::AddressRow(r) => Decoded::Do(Command::Go(Move::Address(r, b))),
-        Pending::Segment => Decoded::Wait(Pending::SegmentNumber(b)),
         Pending::SegmentNumber(s) => Decoded::Wait(Pending::SegmentRow(s, b)),
         Pending::SegmentRow(s, r) => Decoded::Do(Command::Window(Window::Place(s, r, b))),
         Pending::DecimalRow(k, row) => decimal_row(k, row, b),
         Pending::DecimalColumn(row, k, column) => decimal_column(row, k, column, b),
-        Pending::Split => split(b),
-        Pending::SplitRow => Decoded::Do(Command::Window(Window::Split(b))),
-        Pending::Attribute => judged(is_attribute(b), Command::Store(attribute_contents(b))),
-        Pending::Graphic => judged(among(0x30, 16, b), Command::Store(Contents::Graphic(b))),
-        Pending::FillAttribute => judged(
-            is_attribute(b),
-            Command::Clear(Clear::Segment(attribute_contents(b))),
-        ),
-        Pending::FillCode => judged(
-            or(b == 0, among(0x20, 95, b)),
-            Command::Clear(Clear::Segment(Contents::Text(b))),
-        ),
-        Pending::Feature => feature(b),
-        Pending::FieldAttribute => Decoded::Wait(Pending::FieldNumber(b)),
         Pending::FieldNumber(f) => field(f, b),
-        Pending::KeyValue => key_value(b),
-        Pending::KeyText(v) => key_text(v, n, b),
-        Pending::KeyOver(v) => key_over(v, b),
+        Pending::Text(x, n) => text(x, n, b),
+        Pending::Spoilt(x) => spoilt(x, b),
     }
 }

@@ -3,8 +3,9 @@ pub mod logic; // tests on numbers, and how they are joined
 pub mod width; // the width of a page
 pub mod screen; // the active segment and its cursor
 pub mod core; // the other parts of the core
-pub mod keys; // function keys
-pub mod setup; // the set-up's changes
+pub mod texts; // slots, the bytes gathered, and texts
+pub mod keys; // function keys and labels
+pub mod setup; // changes of the set-up and of the gathered bytes
 pub mod possible; // which states are possible
 pub mod decode; // what a byte comes to after the sequence under way
 
@@ -38,7 +39,8 @@ pub fn answer_number(a: Answer) -> u8
 pub fn power_on_state() -> State
     ensures { λ r. ⌜ r ≡ powerOn ⌝ }
 {
-    let none = keys::no_key();
+    let none = texts::no_text();
+    let message = texts::no_long();
     State {
         core: Core {
             screen: Screen {
@@ -58,13 +60,16 @@ pub fn power_on_state() -> State
             },
             bells: 0,
             pending: Pending::Idle,
-            gathered: none,
         },
+        gathered: [0; 46],
         setup: Setup {
             tabs: [false; 132],
             attributes: [0x30; 4],
             features: [0x31, 0x35, 0x37, 0x39, 0x40],
             keys: [none; 32],
+            labels: [none; 16],
+            message: message,
+            shifted: false,
         },
     }
 }

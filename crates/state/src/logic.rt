@@ -1,6 +1,6 @@
 // Tests on numbers, and how they are joined.
 ghost use mathlib.Core.Path.{_≡_};
-ghost use Prim.Native.Nat.{_+_, _<_};
+ghost use Prim.Native.Nat.{_+_, _-_, _<_};
 ghost use Rattle.rules.specs.Cell.{both, either, among};
 
 pub fn and(a: bool, b: bool) -> bool
@@ -21,4 +21,11 @@ pub fn among(first: u8, n: u8, v: u8) -> bool
     ensures { λ r. ⌜ r ≡ among first n v ⌝ }
 {
     and(first <= v, v < first + n)
+}
+
+// The difference, or 0.
+pub fn minus(a: u8, b: u8) -> u8
+    ensures { λ r. ⌜ r ≡ a - b ⌝ }
+{
+    if a < b { 0 } else { a - b }
 }

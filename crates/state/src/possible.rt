@@ -2,21 +2,27 @@
 ghost use mathlib.Core.Path.{_≡_};
 ghost use Prim.Native.Nat.{_^_, _≤_};
 ghost use lib.Dec.{leb, ltb};
-ghost use lib.ListN.{take};
+ghost use lib.ListN.{length, take};
 ghost use Rattle.rules.specs.Cell.{both};
-ghost use Rattle.rules.specs.Possible.{unsplitOk, splitOk, screenOk, allBelow, keyOk, keysOk, attributesOk, featuresOk, pendingOk, tabsOk, coreOk, setupOk, possible};
+ghost use Rattle.rules.specs.Possible.{unsplitOk, splitOk, screenOk, attributesOk, featuresOk, pendingOk, tabsOk, coreOk, setupOk, possible};
 ghost use Rattle.rules.specs.Arguments.{isAttribute, featurePlace};
-use crate::keys::is_key;
+ghost use Rattle.rules.specs.Slot.{slotMost, slotLow, allText, textOk, textsOk};
 use crate::logic::among;
 use crate::logic::and;
 use crate::logic::or;
+use crate::texts::is_text;
+use crate::texts::slot_low;
+use crate::texts::slot_most;
+use crate::texts::slot_ok;
 use crate::width::cells;
 use crate::width::columns;
 use rules::Core;
-use rules::Key;
+use rules::LongText;
 use rules::Pending;
 use rules::Screen;
 use rules::Setup;
+use rules::ShortText;
+use rules::Slot;
 use rules::State;
 
 fn unsplit_ok(x: Screen) -> bool
@@ -50,15 +56,15 @@ pub fn screen_ok(x: Screen) -> bool
     }
 }
 
-// Whether each of the first n bytes is below 7Fh.
-fn text_ok(bytes: [u8; 8], n: u8) -> bool
-    requires { ⌜ n ≤ 8 ⌝ }
-    ensures { λ r. ⌜ r ≡ allBelow 0x7f (take n bytes) ⌝ }
+// Whether each of the first n bytes is from `low` to 7Eh.
+fn text_ok(bytes: &[u8], n: u8, low: u8) -> bool
+    requires { ⌜ n ≤ length (now bytes) ⌝ }
+    ensures { λ r. ⌜ r ≡ allText low (take n (now (bytes .entry))) ⌝ }
 {
     let end = n as usize;
     let mut i = 0;
     while i < end {
-        if 0x7f <= bytes[i] {
+        if !is_text(low, bytes[i]) {
             return false;
         }
         i += 1;
@@ -66,23 +72,47 @@ fn text_ok(bytes: [u8; 8], n: u8) -> bool
     true
 }
 
-pub fn key_ok(k: Key) -> bool
-    ensures { λ r. ⌜ r ≡ keyOk k ⌝ }
+fn short_ok(t: ShortText, low: u8) -> bool
+    ensures { λ r. ⌜ r ≡ textOk low 8 (t .len) (t .bytes) ⌝ }
 {
-    let bytes = k.bytes;
-    if 8 < k.len {
+    let bytes = t.bytes;
+    if 8 < t.len {
         return false;
     }
-    text_ok(bytes, k.len)
+    text_ok(&bytes, t.len, low)
 }
 
-pub fn keys_ok(keys: [Key; 32]) -> bool
-    ensures { λ r. ⌜ r ≡ keysOk keys ⌝ }
+fn message_ok(t: LongText) -> bool
+    ensures { λ r. ⌜ r ≡ textOk 0x20 46 (t .len) (t .bytes) ⌝ }
+{
+    let bytes = t.bytes;
+    if 46 < t.len {
+        return false;
+    }
+    text_ok(&bytes, t.len, 0x20)
+}
+
+fn keys_ok(keys: [ShortText; 32]) -> bool
+    ensures { λ r. ⌜ r ≡ textsOk 0 keys ⌝ }
 {
     let mut i = 0;
     while i < 32 {
         let k = keys[i];
-        if !key_ok(k) {
+        if !short_ok(k, 0) {
+            return false;
+        }
+        i += 1;
+    }
+    true
+}
+
+fn labels_ok(labels: [ShortText; 16]) -> bool
+    ensures { λ r. ⌜ r ≡ textsOk 0x20 labels ⌝ }
+{
+    let mut i = 0;
+    while i < 16 {
+        let k = labels[i];
+        if !short_ok(k, 0x20) {
             return false;
         }
         i += 1;
@@ -158,32 +188,32 @@ fn digits_ok(most: u8, n: u8, number: u16) -> bool
     number < power_of_ten(n)
 }
 
-// A sequence that some bytes fed from power-on leave under way; k is the key text gathered.
-pub fn pending_ok(p: Pending, k: Key) -> bool
-    ensures { λ r. ⌜ r ≡ pendingOk p k ⌝ }
+// At most as many bytes of a text as its slot takes, and these of its kind.
+fn gathered_ok(x: Slot, n: u8, gathered: [u8; 46]) -> bool
+    ensures { λ r. ⌜ r ≡ textOk (slotLow x) (slotMost x) n gathered ⌝ }
+{
+    if slot_most(x) < n {
+        return false;
+    }
+    text_ok(&gathered, n, slot_low(x))
+}
+
+// A sequence that some bytes fed from power-on leave under way.
+pub fn pending_ok(p: Pending, gathered: [u8; 46]) -> bool
+    ensures { λ r. ⌜ r ≡ pendingOk p gathered ⌝ }
 {
     match p {
         Pending::Idle => true,
         Pending::Escape => true,
-        Pending::Address => true,
+        Pending::Awaits(_) => true,
         Pending::AddressRow(r) => r < 128,
-        Pending::Segment => true,
         Pending::SegmentNumber(n) => n < 128,
         Pending::SegmentRow(n, r) => and(n < 128, r < 128),
         Pending::DecimalRow(n, row) => digits_ok(2, n, row as u16),
         Pending::DecimalColumn(row, n, column) => and(row < 100, digits_ok(3, n, column)),
-        Pending::Split => true,
-        Pending::SplitRow => true,
-        Pending::Attribute => true,
-        Pending::Graphic => true,
-        Pending::FillAttribute => true,
-        Pending::FillCode => true,
-        Pending::Feature => true,
-        Pending::FieldAttribute => true,
         Pending::FieldNumber(n) => n < 128,
-        Pending::KeyValue => true,
-        Pending::KeyText(v) => and(is_key(v), key_ok(k)),
-        Pending::KeyOver(v) => is_key(v),
+        Pending::Text(x, n) => and(slot_ok(x), gathered_ok(x, n, gathered)),
+        Pending::Spoilt(x) => slot_ok(x),
     }
 }
 
@@ -207,12 +237,11 @@ fn tabs_ok(tabs: [bool; 132], width: u16) -> bool
     none
 }
 
-pub fn core_ok(core: Core) -> bool
-    ensures { λ r. ⌜ r ≡ coreOk core ⌝ }
+pub fn core_ok(core: Core, gathered: [u8; 46]) -> bool
+    ensures { λ r. ⌜ r ≡ coreOk core gathered ⌝ }
 {
     let screen = core.screen;
     let pending = core.pending;
-    let gathered = core.gathered;
     let sequence = and(bells_ok(core.bells), pending_ok(pending, gathered));
     let narrow = !screen.wide;
     and(narrow, and(screen_ok(screen), sequence))
@@ -222,18 +251,25 @@ pub fn setup_ok(setup: Setup, width: u16) -> bool
     ensures { λ r. ⌜ r ≡ setupOk width setup ⌝ }
 {
     let keys = setup.keys;
+    let labels = setup.labels;
+    let message = setup.message;
     let attributes = setup.attributes;
     let features = setup.features;
     let tabs = setup.tabs;
     let stops = tabs_ok(tabs, width);
     let lists = and(attributes_ok(attributes), and(features_ok(features), stops));
-    and(keys_ok(keys), lists)
+    let texts = and(labels_ok(labels), and(message_ok(message), lists));
+    and(keys_ok(keys), texts)
 }
 
 pub fn possible(s: State) -> bool
     ensures { λ r. ⌜ r ≡ possible s ⌝ }
 {
     let core = s.core;
+    let gathered = s.gathered;
     let setup = s.setup;
-    and(core_ok(core), setup_ok(setup, columns(core.screen.wide)))
+    and(
+        core_ok(core, gathered),
+        setup_ok(setup, columns(core.screen.wide)),
+    )
 }

@@ -1,12 +1,20 @@
-// The set-up's changes. A place past the end changes nothing.
+// The changes of the set-up and of the gathered bytes. A place past the end changes nothing.
 ghost use mathlib.Core.Path.{_≡_};
-ghost use lib.ListN.{set};
-ghost use Rattle.rules.specs.State.{changed};
-use crate::keys::clean_key;
+ghost use lib.ListN.{set, take};
+ghost use Rattle.rules.specs.State.{changed, stored, gatheredAfter, setupAfter};
+use crate::keys::key_place;
+use crate::keys::label_place;
 use crate::keys::set_key;
-use rules::Key;
+use crate::keys::set_label;
+use crate::logic::and;
+use crate::logic::or;
+use crate::texts::gather;
+use crate::texts::long_text;
+use crate::texts::short_text;
+use rules::Change;
 use rules::Setup;
 use rules::SetupChange;
+use rules::Slot;
 
 pub fn set_tab(tabs: [bool; 132], n: u16, b: bool) -> [bool; 132]
     ensures { λ r. ⌜ r ≡ set tabs n b ⌝ }
@@ -41,9 +49,9 @@ pub fn set_feature(features: [u8; 5], n: u8, f: u8) -> [u8; 5]
     t
 }
 
-// The set-up after a change; `gathered` is the key text gathered.
-pub fn changed(x: SetupChange, gathered: Key, u: Setup) -> Setup
-    ensures { λ r. ⌜ r ≡ changed x gathered u ⌝ }
+// The set-up after a command's change.
+pub fn changed(x: SetupChange, u: Setup) -> Setup
+    ensures { λ r. ⌜ r ≡ changed x u ⌝ }
 {
     let mut t = u;
     match x {
@@ -70,11 +78,59 @@ pub fn changed(x: SetupChange, gathered: Key, u: Setup) -> Setup
             t.features = s;
             t
         }
-        SetupChange::Key(n) => {
+        SetupChange::HideLine => {
+            t.shifted = false;
+            t
+        }
+    }
+}
+
+// A slot takes the first n bytes gathered. A label of 50h to 57h that is set, not cleared, turns the shifted line on.
+pub fn stored(x: Slot, gathered: [u8; 46], n: u8, u: Setup) -> Setup
+    ensures { λ r. ⌜ r ≡ stored x (take n gathered) u ⌝ }
+{
+    let mut t = u;
+    match x {
+        Slot::Key(v) => {
             let keys = u.keys;
-            let s = set_key(keys, n, clean_key(gathered));
+            let s = set_key(keys, key_place(v), short_text(gathered, n));
             t.keys = s;
             t
         }
+        Slot::Label(v) => {
+            let labels = u.labels;
+            let k = short_text(gathered, n);
+            let on = or(and(0x50 <= v, 0 < k.len), u.shifted);
+            let s = set_label(labels, label_place(v), k);
+            t.labels = s;
+            t.shifted = on;
+            t
+        }
+        Slot::Message => {
+            let s = long_text(gathered, n);
+            t.message = s;
+            t
+        }
+    }
+}
+
+// The gathered bytes and the set-up after a byte's change.
+pub fn gathered_after(x: Change, gathered: [u8; 46]) -> [u8; 46]
+    ensures { λ r. ⌜ r ≡ gatheredAfter x gathered ⌝ }
+{
+    match x {
+        Change::Gather(n, b) => gather(gathered, n, b),
+        Change::Take(_, _) => gathered,
+        Change::Set(_) => gathered,
+    }
+}
+
+pub fn setup_after(x: Change, gathered: [u8; 46], u: Setup) -> Setup
+    ensures { λ r. ⌜ r ≡ setupAfter x gathered u ⌝ }
+{
+    match x {
+        Change::Gather(_, _) => u,
+        Change::Take(slot, n) => stored(slot, gathered, n, u),
+        Change::Set(d) => changed(d, u),
     }
 }

@@ -18,21 +18,22 @@ use lib.Seq.{take-all, drop-cons, set-at, take-suc, append-snoc, length-take-le}
 use borrow.Author.Tests.{eqb-true, leb-true, ne-eqb}
 use Rattle.rules.specs.declared.Answer.{Answer}
 use Rattle.rules.specs.declared.Answer.the-variants as Answer
-use Rattle.rules.specs.declared.Key.{Key}
+use Rattle.rules.specs.declared.ShortText.{ShortText}
 use Rattle.rules.specs.declared.State.{State}
 use Rattle.rules.specs.declared.RunResult.{RunResult}
 use Rattle.rules.specs.declared.PressResult.{PressResult}
 use Rattle.rules.specs.Cell.{pick}
 use Rattle.rules.specs.Change.{within, filled}
-use Rattle.rules.specs.State.{number, keyText, keyPlace}
-use Rattle.rules.specs.Possible.{powerOn, blank, allBelow, keyOk, good}
+use Rattle.rules.specs.State.{number, shortBytes, keyPlace}
 use Rattle.rules.specs.Arguments.{isKey}
+use Rattle.rules.specs.Slot.{allText, textOk}
+use Rattle.rules.specs.Possible.{powerOn, blank, good}
 use Rattle.rules.specs.Step.{Outcome, stepRule}
 use Rattle.rules.specs.Calls.{powerOnRule, Ran, runRule, pressed, joined, repeated, keySends, keyAt, pressRule}
 use Rattle.rules.specs.Left.{leaves}
 use Rattle.rules.specs.Room.{over}
 use Rattle.rules.proofs.Tests.{pick-if}
-use Rattle.rules.proofs.Keys.{key-parts, keys-at}
+use Rattle.rules.proofs.Texts.{text-parts, texts-at}
 use Rattle.rules.proofs.Kept.{good-parts, possible-parts}
 use Rattle.rules.proofs.Left.{step-left}
 use Rattle.terminal.specs.Promise.{PoweredOn, Stepped, Completed, sending, Sent}
@@ -151,12 +152,12 @@ text-refused l w w′ t e r h =
     rw fit (record { answer = refl; replied = refl; room = r ∙ rw h (over-none w); fits = omega arith })
 
 -- an unprogrammed key, and any other
-module _ (k : Key) (v : ℕ) {r : PressResult} {w w′ : List ℕ} where
+module _ (k : ShortText) (v : ℕ) {r : PressResult} {w w′ : List ℕ} where
   pub unprogrammed : k .len ≡ 0 → Sent (sending (0x01 ∷ v ∷ 0x0d ∷ []) (length w)) r w w′ → Sent (sending (keySends k v) (length w)) r w w′
   unfolding keySends
   unprogrammed e h = rw e h
 
-  pub programmed : (k .len ≡ 0 → ⊥) → Sent (sending (keyText k) (length w)) r w w′ → Sent (sending (keySends k v) (length w)) r w w′
+  pub programmed : (k .len ≡ 0 → ⊥) → Sent (sending (shortBytes k) (length w)) r w w′ → Sent (sending (keySends k v) (length w)) r w w′
   unfolding keySends
   programmed e h = rw (ne-eqb (k .len) 0 e) h
 
@@ -179,16 +180,16 @@ module _ (p : List ℕ) (s : State) (v : ℕ) (w : List ℕ) where
       unfolding pressRule
       press-unknown i = rw (g, l, i) (press-refused Answer.BadArgument w)
 
-      pub press-sends : isKey v ≡ true → {k : Key} → k ≡ keyAt s v → {r : PressResult} {w′ : List ℕ}
+      pub press-sends : isKey v ≡ true → {k : ShortText} → k ≡ keyAt s v → {r : PressResult} {w′ : List ℕ}
           → Sent (sending (keySends k v) (length w)) r w w′ → Sent (pressRule p s v (length w)) r w w′
       unfolding pressRule
       press-sends i e h = rw (g, l, i, sym e) h
 
 -- a key of a good state holds 8 bytes at most
-pub key-size : (p : List ℕ) (s : State) (v : ℕ) → good p s ≡ true → {k : Key} → k ≡ keyAt s v → k .len ≤ 8
-unfolding keyOk allBelow
+pub key-size : (p : List ℕ) (s : State) (v : ℕ) → good p s ≡ true → {k : ShortText} → k ≡ keyAt s v → k .len ≤ 8
+unfolding textOk allText
 key-size p s v g e =
-    rw e (key-parts _ (keys-at (s .setup .keys) (keyPlace v) _ (possible-parts s (good-parts p s g .1) .setup .keys) refl) .0)
+    rw e (text-parts 0 8 _ _ (texts-at 0 (s .setup .keys) (keyPlace v) _ (possible-parts s (good-parts p s g .1) .setup .keys) refl) .0)
 
 -- ---- the room
 

@@ -16,7 +16,7 @@ use Rattle.rules.specs.declared.Core.{Core}
 use Rattle.rules.specs.declared.CoreResult.{CoreResult}
 use Rattle.rules.specs.declared.Decoded.{Decoded}
 use Rattle.rules.specs.declared.Plan.{Plan}
-use Rattle.rules.specs.declared.SetupChange.{SetupChange}
+use Rattle.rules.specs.declared.Change.{Change}
 use Rattle.rules.specs.Row.{columns}
 use Rattle.rules.specs.Search.{guardedAt}
 use Rattle.rules.specs.State.{number, pageLength, idle}
@@ -25,8 +25,8 @@ use Rattle.rules.specs.Good.{GoodPlan}
 use Rattle.rules.specs.Decode.{decodeRule}
 use Rattle.rules.specs.Plan.{planRule}
 use Rattle.rules.specs.Carry.{Effect, effect, quiet, carried}
-use Rattle.rules.specs.Room.{over}
 use Rattle.rules.specs.Step.{obeyed, innerRule}
+use Rattle.rules.specs.Room.{over}
 use Rattle.rules.proofs.Marks.{length-guards}
 use Rattle.rules.proofs.Good.{plan-kept}
 use Rattle.carry.specs.Carried.{Carried}
@@ -36,7 +36,7 @@ pub over-none : (w : List ℕ) → w ≡ over [] w
 unfolding over
 over-none w = refl
 
-pub quiet-carried : (a : Answer) (c : Core) (x : SetupChange) (p w : List ℕ)
+pub quiet-carried : (a : Answer) (c : Core) (x : Change) (p w : List ℕ)
     → Carried (effect (number a) c x p []) (record { answer = a; replied = 0; core = c; change = x }) p w w
 quiet-carried a c x p w = record {
   answer = refl;
@@ -50,7 +50,7 @@ quiet-carried a c x p w = record {
 
 module _ (p : List ℕ) (c : Core) (tabs : List Bool) (b room : ℕ) where
   -- a byte below 80h
-  pub below : b < 128 → {d d′ : Decoded} → d ≡ decodeRule (c .pending) (c .gathered .len) b → d ≡ d′
+  pub below : b < 128 → {d d′ : Decoded} → d ≡ decodeRule (c .pending) b → d ≡ d′
       → innerRule p c tabs b room ≡ obeyed p c tabs d′ room
   unfolding innerRule
   below h i j = rw (lt-ltb b 128 h) (ap (λ (x : Decoded). obeyed p c tabs x room) (sym i ∙ j))
@@ -61,7 +61,7 @@ module _ (p : List ℕ) (c : Core) (tabs : List Bool) (b room : ℕ) where
   above h = rw (le-ltb b 128 h)
 
 -- a byte whose effect is o; e is the core that the code made of the one before
-pub quietly : {o : Effect} {a : ℕ} {e e′ : Core} {x : SetupChange} {p w : List ℕ} {r : CoreResult} → o ≡ effect a e′ x p [] → e ≡ e′
+pub quietly : {o : Effect} {a : ℕ} {e e′ : Core} {x : Change} {p w : List ℕ} {r : CoreResult} → o ≡ effect a e′ x p [] → e ≡ e′
     → ((p w : List ℕ) → Carried (effect a e x p []) r p w w) → Carried o r p w w
 quietly {a = a} {x = x} {p = p} {w = w} h e q = carried-is (h ∙ ap (λ (y : Core). effect a y x p []) (sym e)) (q p w)
 

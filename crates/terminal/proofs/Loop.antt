@@ -22,13 +22,13 @@ use Rattle.rules.specs.declared.Answer.{Answer}
 use Rattle.rules.specs.declared.Answer.the-variants as Answer
 use Rattle.rules.specs.declared.Core.{Core}
 use Rattle.rules.specs.declared.CoreResult.{CoreResult}
-use Rattle.rules.specs.declared.Key.{Key}
+use Rattle.rules.specs.declared.Change.{Change}
+use Rattle.rules.specs.declared.Change.the-variants as Change
 use Rattle.rules.specs.declared.Setup.{Setup}
 use Rattle.rules.specs.declared.State.{State}
-use Rattle.rules.specs.declared.SetupChange.{SetupChange}
 use Rattle.rules.specs.declared.SetupChange.the-variants as SetupChange
 use Rattle.rules.specs.Cell.{among}
-use Rattle.rules.specs.State.{number, pageLength, changed}
+use Rattle.rules.specs.State.{number, pageLength, changed, gatheredAfter, setupAfter}
 use Rattle.rules.specs.Possible.{screenOk, pendingOk, good}
 use Rattle.rules.specs.Carry.{Effect}
 use Rattle.rules.specs.Step.{Outcome, innerRule, stepRule}
@@ -47,27 +47,30 @@ use Rattle.terminal.proofs.Carrying.{over-none}
 
 -- ---- the step of the rules, by the effect of the inner step
 
-pub record Made (c : Core) (u : Setup) (e : Effect) (o : Outcome) : Type 0 where
+pub record Made (g : List ℕ) (u : Setup) (e : Effect) (o : Outcome) : Type 0 where
   pub answer : o .answer ≡ e .answer
   pub core : o .state .core ≡ e .core
-  pub setup : o .state .setup ≡ changed (e .change) (c .gathered) u
+  pub gathered : o .state .gathered ≡ gatheredAfter (e .change) g
+  pub setup : o .state .setup ≡ setupAfter (e .change) g u
   pub page : o .page ≡ e .page
   pub reply : o .reply ≡ e .reply
 
-pub step-made : (p : List ℕ) (c : Core) (u : Setup) (b room : ℕ) → good p (stateOf c u) ≡ true
-    → Made c u (innerRule p c (u .tabs) b room) (stepRule p (stateOf c u) b room)
+pub step-made : (p : List ℕ) (c : Core) (g : List ℕ) (u : Setup) (b room : ℕ) → good p (stateOf c g u) ≡ true
+    → Made g u (innerRule p c (u .tabs) b room) (stepRule p (stateOf c g u) b room)
 unfolding stepRule
-step-made p c u b room g = rw g (record { answer = refl; core = refl; setup = refl; page = refl; reply = refl })
+step-made p c g u b room h = rw h (record { answer = refl; core = refl; gathered = refl; setup = refl; page = refl; reply = refl })
 
--- a change of nothing leaves the set-up
-pub nothing-made : (x : SetupChange) (k : Key) (u : Setup) → isNothing x ≡ true → u ≡ changed x k u
-unfolding changed
-nothing-made SetupChange.Nothing k u e = refl
-nothing-made (SetupChange.Tab i b) k u e = absurd (false≢true e)
-nothing-made SetupChange.ClearTabs k u e = absurd (false≢true e)
-nothing-made (SetupChange.Attribute i a) k u e = absurd (false≢true e)
-nothing-made (SetupChange.Feature i f) k u e = absurd (false≢true e)
-nothing-made (SetupChange.Key i) k u e = absurd (false≢true e)
+-- a change of nothing leaves the gathered bytes and the set-up
+pub nothing-made : (x : Change) (g : List ℕ) (u : Setup) → isNothing x ≡ true → (g ≡ gatheredAfter x g) × (u ≡ setupAfter x g u)
+unfolding gatheredAfter setupAfter changed
+nothing-made (Change.Gather n b) g u e = absurd (false≢true e)
+nothing-made (Change.Take x n) g u e = absurd (false≢true e)
+nothing-made (Change.Set SetupChange.Nothing) g u e = (refl, refl)
+nothing-made (Change.Set (SetupChange.Tab i b)) g u e = absurd (false≢true e)
+nothing-made (Change.Set SetupChange.ClearTabs) g u e = absurd (false≢true e)
+nothing-made (Change.Set (SetupChange.Attribute i a)) g u e = absurd (false≢true e)
+nothing-made (Change.Set (SetupChange.Feature i f)) g u e = absurd (false≢true e)
+nothing-made (Change.Set SetupChange.HideLine) g u e = absurd (false≢true e)
 
 refusal-one : (n : ℕ) → refusal n ≤ 1
 refusal-one n = pick-if (λ (k : ℕ). k ≤ 1) (among 1 4 n) (λ e. omega arith) (λ e. omega arith)
@@ -123,41 +126,41 @@ looped-is : {p : List ℕ} {s : State} {l w p′ w′ : List ℕ} {r r′ : Ende
 looped-is {p} {s} {l} {w} {p′} {w′} e h = subst (λ (x : Ended). Looped p s l w x p′ w′) (sym e) h
 
 -- s₀ and p₀ are the state and the page at the start, w₀ the room; i bytes are taken, n bytes replied, f bytes refused, and a is the last answer
-pub record Running (p₀ : List ℕ) (s₀ : State) (input w₀ p w : List ℕ) (c : Core) (u : Setup) (a : Answer) (i n f : ℕ) : Type 0 where
+pub record Running (p₀ : List ℕ) (s₀ : State) (input w₀ p w : List ℕ) (c : Core) (g : List ℕ) (u : Setup) (a : Answer) (i n f : ℕ) : Type 0 where
   pub within : i ≤ length input
   pub used : n ≤ length w₀
   pub few : f ≤ i
-  pub fine : good p (stateOf c u) ≡ true
+  pub fine : good p (stateOf c g u) ≡ true
   pub long : length p ≡ length p₀
   pub size : length w ≡ length w₀
   pub untouched : drop n w ≡ drop n w₀
-  pub same : repeated input p₀ s₀ (length w₀) ≡ preceded i f (take n w) (repeated (drop i input) p (stateOf c u) (length w₀ - n))
-  pub last : lastAnswer input p₀ s₀ (length w₀) 0 ≡ lastAnswer (drop i input) p (stateOf c u) (length w₀ - n) (number a)
+  pub same : repeated input p₀ s₀ (length w₀) ≡ preceded i f (take n w) (repeated (drop i input) p (stateOf c g u) (length w₀ - n))
+  pub last : lastAnswer input p₀ s₀ (length w₀) 0 ≡ lastAnswer (drop i input) p (stateOf c g u) (length w₀ - n) (number a)
 
-pub begin : (p : List ℕ) (c : Core) (u : Setup) (input w : List ℕ) → good p (stateOf c u) ≡ true
-    → Running p (stateOf c u) input w p w c u Answer.Done 0 0 0
-begin p c u input w g = record {
+pub begin : (p : List ℕ) (c : Core) (g : List ℕ) (u : Setup) (input w : List ℕ) → good p (stateOf c g u) ≡ true
+    → Running p (stateOf c g u) input w p w c g u Answer.Done 0 0 0
+begin p c g u input w k = record {
   within = zero-le;
   used = zero-le;
   few = zero-le;
-  fine = g;
+  fine = k;
   long = refl;
   size = refl;
   untouched = refl;
-  same = rw sub-zero (preceded-none (repeated input p (stateOf c u) (length w)));
+  same = rw sub-zero (preceded-none (repeated input p (stateOf c g u) (length w)));
   last = rw sub-zero;
 }
 
-module _ {p₀ : List ℕ} {s₀ : State} {input w₀ p w : List ℕ} {c : Core} {u : Setup} {a : Answer} {i n f : ℕ}
-    (R : Running p₀ s₀ input w₀ p w c u a i n f) where
+module _ {p₀ : List ℕ} {s₀ : State} {input w₀ p w : List ℕ} {c : Core} {g : List ℕ} {u : Setup} {a : Answer} {i n f : ℕ}
+    (R : Running p₀ s₀ input w₀ p w c g u a i n f) where
   abbrev s : State
-  s = stateOf c u
+  s = stateOf c g u
 
-  pub ready : (length p ≡ pageLength (c .screen)) × ((screenOk (c .screen) ≡ true) × (pendingOk (c .pending) (c .gathered) ≡ true))
+  pub ready : (length p ≡ pageLength (c .screen)) × ((screenOk (c .screen) ≡ true) × ((t : List ℕ) × (pendingOk (c .pending) t ≡ true)))
   ready =
-      let g = good-parts p s (R .fine) in
-      let k = possible-parts s (g .1) .core in
-      (g .0, (k .screen, k .pending))
+      let h = good-parts p s (R .fine) in
+      let k = possible-parts s (h .1) .core in
+      (h .0, (k .screen, (g, k .pending)))
 
   pub room-size : n ≤ length w
   room-size = omega (arith, R .used, R .size)
@@ -192,7 +195,7 @@ module _ {p₀ : List ℕ} {s₀ : State} {input w₀ p w : List ℕ} {c : Core}
       })
 
   pub finish : {z : Ended} → length input ≤ i
-      → z ≡ record { answer = Answer.Done; last = a; taken = i; replied = n; refused = f; core = c; setup = u } → Looped p₀ s₀ input w₀ z p w
+      → z ≡ record { answer = Answer.Done; last = a; taken = i; replied = n; refused = f; core = c; gathered = g; setup = u } → Looped p₀ s₀ input w₀ z p w
   unfolding lastAnswer
   finish h result =
       let e : drop i input ≡ [] = drop-of-length-le input h in
@@ -225,15 +228,15 @@ module _ {p₀ : List ℕ} {s₀ : State} {input w₀ p w : List ℕ} {c : Core}
     left : length (drop n w) ≡ length w₀ - n
     left = length-drop n w ∙ ap (λ (k : ℕ). k - n) (R .size)
 
-    made : Made c u e o
-    made = rw (sym left) (step-made p c u b (length (drop n w)) (R .fine))
+    made : Made g u e o
+    made = rw (sym left) (step-made p c g u b (length (drop n w)) (R .fine))
 
     cons : drop i input ≡ b ∷ drop (suc i) input
     cons = drop-cons input i 0 h
 
     -- it answers 6: the loop stops before it
     pub stop : {z : Ended} → eqb (number (r .answer)) 6 ≡ true
-        → z ≡ record { answer = Answer.NoRoom; last = r .answer; taken = i; replied = n; refused = f; core = c; setup = u }
+        → z ≡ record { answer = Answer.NoRoom; last = r .answer; taken = i; replied = n; refused = f; core = c; gathered = g; setup = u }
         → Looped p₀ s₀ input w₀ z p′ w′
     unfolding lastAnswer
     stop t result =
@@ -258,17 +261,21 @@ module _ {p₀ : List ℕ} {s₀ : State} {input w₀ p w : List ℕ} {c : Core}
         back ∙ ap (λ (x : List ℕ). take n w ++ x) (S .room ∙ ap (λ (x : List ℕ). over x (drop n w)) (sym (made .reply)))
         ∙ sym (append-assoc (take n w) (o .reply) (drop (length (o .reply)) (drop n w)))
 
-    -- any other answer: the loop goes on. v is the set-up after the change
-    module _ {v : Setup} {g : ℕ} (t : eqb (number (r .answer)) 6 ≡ false) (ev : v ≡ changed (r .change) (c .gathered) u)
-        (eg : g ≡ refusal (number (r .answer))) where
+    -- any other answer: the loop goes on. k are the gathered bytes and v is the set-up after the change
+    module _ {k : List ℕ} {v : Setup} {m : ℕ} (t : eqb (number (r .answer)) 6 ≡ false) (ek : k ≡ gatheredAfter (r .change) g)
+        (ev : v ≡ setupAfter (r .change) g u) (eg : m ≡ refusal (number (r .answer))) where
       answered : o .answer ≡ number (r .answer)
       answered = made .answer ∙ sym (S .answer)
 
       not-six : eqb (o .answer) 6 ≡ false
       not-six = rw answered t
 
-      reached : o .state ≡ stateOf (r .core) v
-      reached = ap₂ stateOf (made .core ∙ sym (S .core (rw (sym (S .answer)) t))) (made .setup ∙ rw (sym (S .change)) (sym ev))
+      reached : o .state ≡ stateOf (r .core) k v
+      reached =
+          let core : o .state .core ≡ r .core = made .core ∙ sym (S .core (rw (sym (S .answer)) t)) in
+          let gathered : o .state .gathered ≡ k = made .gathered ∙ rw (sym (S .change)) (sym ek) in
+          let setup : o .state .setup ≡ v = made .setup ∙ rw (sym (S .change)) (sym ev) in
+          ap₂ (λ (x : Core) (y : List ℕ). stateOf x y (o .state .setup)) core gathered ∙ ap (stateOf (r .core) k) setup
 
       turned : o .page ≡ p′
       turned = made .page ∙ sym (S .page)
@@ -279,10 +286,10 @@ module _ {p₀ : List ℕ} {s₀ : State} {input w₀ p w : List ℕ} {c : Core}
       reply : take (n + r .replied) w′ ≡ take n w ++ o .reply
       reply = ap (take (n + r .replied)) put ∙ take-at (take n w ++ o .reply) _ (n + r .replied) sum
 
-      count : refusal (o .answer) ≡ g
+      count : refusal (o .answer) ≡ m
       count = ap refusal answered ∙ sym eg
 
-      pub go : Running p₀ s₀ input w₀ p′ w′ (r .core) v (r .answer) (i + 1) (n + r .replied) (f + g)
+      pub go : Running p₀ s₀ input w₀ p′ w′ (r .core) k v (r .answer) (i + 1) (n + r .replied) (f + m)
       go = record {
         within = omega (arith, h);
         used = omega (arith, S .fits, left, R .used);
@@ -293,7 +300,7 @@ module _ {p₀ : List ℕ} {s₀ : State} {input w₀ p w : List ℕ} {c : Core}
             ∙ omega (arith, sum, length-drop (length (o .reply)) (drop n w), S .replied, ap length (made .reply), S .fits, left, R .used);
         untouched = ap (drop (n + r .replied)) put ∙ drop-at (take n w ++ o .reply) _ (n + r .replied) sum
             ∙ ap (drop (length (o .reply))) (R .untouched) ∙ drop-drop (length (o .reply)) n w₀
-            ∙ ap (λ (m : ℕ). drop (n + m) w₀) (ap length (made .reply) ∙ sym (S .replied));
+            ∙ ap (λ (j : ℕ). drop (n + j) w₀) (ap length (made .reply) ∙ sym (S .replied));
         same = R .same ∙ ap (λ (l : List ℕ). preceded i f (take n w) (repeated l p s (length w₀ - n))) cons
             ∙ ap (preceded i f (take n w)) (run-go b (drop (suc i) input) p s (length w₀ - n) not-six)
             ∙ preceded-joined i f (take n w) o _ ∙ cc (turned, reached, room-left, reply, count, add-one i);

@@ -23,12 +23,12 @@ use Rattle.rules.specs.declared.Pending.the-variants as Pending
 use Rattle.rules.specs.declared.Screen.{Screen}
 use Rattle.rules.specs.declared.Setup.{Setup}
 use Rattle.rules.specs.declared.State.{State}
-use Rattle.rules.specs.declared.SetupChange.the-variants as SetupChange
 use Rattle.rules.specs.Cell.{pick, written}
 use Rattle.rules.specs.Search.{guardedAt}
-use Rattle.rules.specs.State.{number, segmentStart, segmentEnd, segmentTop, segmentBottom, cursorOf, withCursor, withScreen, awaiting, idle}
-use Rattle.rules.specs.Decode.{decodeRule, idleRule, escapeRule, lookup}
+use Rattle.rules.specs.State.{unchanged, number, segmentStart, segmentEnd, segmentTop, segmentBottom, cursorOf, withCursor, withScreen, awaiting, idle}
+use Rattle.rules.specs.declared.Argument.the-variants as Argument
 use Rattle.rules.specs.Step.{innerRule}
+use Rattle.rules.specs.Decode.{argumentRule, decodeRule, idleRule, escapeRule, lookup}
 use Rattle.rules.specs.Carry.{effect}
 use Rattle.rules.proofs.Rows.{columns-width}
 use Rattle.rules.proofs.Screens.{screen-inside}
@@ -74,16 +74,16 @@ last-any l i h p s room a a′ =
 same-room : (n : ℕ) (w : List ℕ) → backTail n w (lentTail n w) ≡ w
 same-room n w = tail-back n w (lentTail n w) ∙ ap (λ (l : List ℕ). take n w ++ l) (tail-lent n w) ∙ take-append-drop n w
 
-module _ {p₀ : List ℕ} {s₀ : State} {input w₀ : List ℕ} {u : Setup} {a : Answer} {n f : ℕ} {w : List ℕ} where
-  turn : {p : List ℕ} {c : Core} {i : ℕ} (j : ℕ) → Running p₀ s₀ input w₀ p w c u a i n f → j ≡ i + 1 → j < length input
-      → {p′ : List ℕ} {c′ : Core} → ((room : ℕ) → innerRule p c (u .tabs) (getD input i 0) room ≡ effect 0 c′ SetupChange.Nothing p′ [])
-      → Running p₀ s₀ input w₀ p′ w c′ u a j n f
+module _ {p₀ : List ℕ} {s₀ : State} {input w₀ : List ℕ} {g : List ℕ} {u : Setup} {a : Answer} {n f : ℕ} {w : List ℕ} where
+  turn : {p : List ℕ} {c : Core} {i : ℕ} (j : ℕ) → Running p₀ s₀ input w₀ p w c g u a i n f → j ≡ i + 1 → j < length input
+      → {p′ : List ℕ} {c′ : Core} → ((room : ℕ) → innerRule p c (u .tabs) (getD input i 0) room ≡ effect 0 c′ unchanged p′ [])
+      → Running p₀ s₀ input w₀ p′ w c′ g u a j n f
   turn {p} {c} {i} j R e h {p′} {c′} E =
       let q = lentTail n w in
-      let m = nothing-made SetupChange.Nothing (c .gathered) u refl in
-      let k = carried-is (E (length q)) (quiet-carried Answer.Done c′ SetupChange.Nothing p′ q) in
-      let G = go R (omega arith) k refl m refl in
-      let H : Running p₀ s₀ input w₀ p′ w c′ u Answer.Done j n f = rw (same-room n w, add-zero n, add-zero f, sym e) at G in
+      let m = nothing-made unchanged g u refl in
+      let k = carried-is (E (length q)) (quiet-carried Answer.Done c′ unchanged p′ q) in
+      let G = go R (omega arith) k refl (m .0) (m .1) refl in
+      let H : Running p₀ s₀ input w₀ p′ w c′ g u Answer.Done j n f = rw (same-room n w, add-zero n, add-zero f, sym e) at G in
       record {
         within = H .within;
         used = H .used;
@@ -93,13 +93,13 @@ module _ {p₀ : List ℕ} {s₀ : State} {input w₀ : List ℕ} {u : Setup} {a
         size = H .size;
         untouched = H .untouched;
         same = H .same;
-        last = H .last ∙ last-any input j h p′ (stateOf c′ u) (length w₀ - n) 0 (number a);
+        last = H .last ∙ last-any input j h p′ (stateOf c′ g u) (length w₀ - n) 0 (number a);
       }
 
   -- a byte that is awaited, and leaves q under way
-  waited : {p : List ℕ} {c : Core} {i : ℕ} (j : ℕ) (q : Pending) → Running p₀ s₀ input w₀ p w c u a i n f → j ≡ i + 1 → j < length input
-      → getD input i 0 < 128 → decodeRule (c .pending) (c .gathered .len) (getD input i 0) ≡ Decoded.Wait q
-      → Running p₀ s₀ input w₀ p w (awaiting c q) u a j n f
+  waited : {p : List ℕ} {c : Core} {i : ℕ} (j : ℕ) (q : Pending) → Running p₀ s₀ input w₀ p w c g u a i n f → j ≡ i + 1 → j < length input
+      → getD input i 0 < 128 → decodeRule (c .pending) (getD input i 0) ≡ Decoded.Wait q
+      → Running p₀ s₀ input w₀ p w (awaiting c q) g u a j n f
   waited {p} {c} {i} j q R e h low d =
       let k = ready R in
       turn j R e h (λ room. waits p c (k .0) (k .1 .0) (u .tabs) room (getD input i 0) q low d)
@@ -181,12 +181,12 @@ module _ {c d : Core} {at : ℕ} (L : Like c d at) where
 
 -- ---- a run
 
-module _ {p₀ : List ℕ} {s₀ : State} {input w₀ : List ℕ} {u : Setup} {a : Answer} {n f : ℕ} {w p : List ℕ} (c : Core) {i₀ : ℕ}
-    (R : Running p₀ s₀ input w₀ p w c u a i₀ n f) (quiet : c .pending ≡ Pending.Idle) (over : c .modes .insert ≡ false) where
+module _ {p₀ : List ℕ} {s₀ : State} {input w₀ : List ℕ} {g : List ℕ} {u : Setup} {a : Answer} {n f : ℕ} {w p : List ℕ} (c : Core) {i₀ : ℕ}
+    (R : Running p₀ s₀ input w₀ p w c g u a i₀ n f) (quiet : c .pending ≡ Pending.Idle) (over : c .modes .insert ≡ false) where
   record Went (at i : ℕ) (p′ : List ℕ) : Type 0 where
     core : Core
     arrived : Arrived c i₀ at i core
-    running : Running p₀ s₀ input w₀ p′ w core u a i n f
+    running : Running p₀ s₀ input w₀ p′ w core g u a i n f
 
   module _ {at i : ℕ} {q : List ℕ} (G : Went at i q) where
     abbrev d : Core
@@ -205,22 +205,22 @@ module _ {p₀ : List ℕ} {s₀ : State} {input w₀ : List ℕ} {u : Setup} {a
           arrived = there {i = i + 1} (omega (arith, later (G .arrived)));
           running = turn (i + 1) (G .running) refl h (λ room.
               stores q d (k .0) (k .1 .0) (u .tabs) room b (L .idle) (ap (λ (m : Modes). m .insert) (L .modes) ∙ over) (like-stored L s)
-              ∙ ap₂ (λ (x : Core) (y : List ℕ). effect 0 x SetupChange.Nothing y [])
+              ∙ ap₂ (λ (x : Core) (y : List ℕ). effect 0 x unchanged y [])
               (ap (λ (j : ℕ). textCore d (j + 1)) (L .cursor) ∙ L .next (at + 1))
               (ap₂ (set q) (L .cursor) (ap (λ (m : Modes). written (Contents.Text b) (m .mark)) (L .modes) ∙ sym e)));
         }
 
     went-placed : {k : ℕ} → i + 4 < length input
         → Addressed (c .modes .protect) (c .screen .wide) (segmentStart (c .screen)) (segmentEnd (c .screen)) input i q k → Went k (i + 4) q
-    unfolding decodeRule idleRule escapeRule lookup
+    unfolding decodeRule argumentRule idleRule escapeRule lookup
     went-placed {k} h s =
         let r = getD input (i + 2) 0 in
         let inside = screen-inside (c .screen) (ready R .1 .0) in
         let row = rows-below (columns-width (c .screen .wide)) {a = r - 0x20} {b = segmentBottom (c .screen)} (omega (arith, s .place, s .inside)) in
-        let escape = ap₂ (λ (x : Pending) (b : ℕ). decodeRule x (d .gathered .len) b) (L .idle) (s .escape) in
+        let escape = ap₂ (λ (x : Pending) (b : ℕ). decodeRule x b) (L .idle) (s .escape) in
         let R1 = waited (i + 1) Pending.Escape (G .running) refl (omega arith) (omega (arith, s .escape)) escape in
-        let equals = ap (decodeRule Pending.Escape 0) (s .equals) in
-        let R2 = waited (i + 2) Pending.Address R1 (omega arith) (omega arith) (omega (arith, s .equals)) equals in
+        let equals = ap (decodeRule Pending.Escape) (s .equals) in
+        let R2 = waited (i + 2) (Pending.Awaits Argument.Address) R1 (omega arith) (omega arith) (omega (arith, s .equals)) equals in
         let R3 = waited (i + 3) (Pending.AddressRow r) R2 (omega arith) (omega arith) (omega (arith, row, inside .most)) refl in
         let g = ready R3 in
         record {
@@ -230,7 +230,7 @@ module _ {p₀ : List ℕ} {s₀ : State} {input w₀ : List ℕ} {u : Setup} {a
               places q (awaiting d (Pending.AddressRow r)) (g .0) (g .1 .0) (u .tabs) room r (getD input (i + 3) 0) k
               refl (s .row) (s .column) (s .most) (rw (L .home, L .wide) (s .place)) (omega (arith, s .inside, L .end))
               (like-guard L q refl (s .unguarded))
-              ∙ ap (λ (x : Core). effect 0 x SetupChange.Nothing q []) (L .next k));
+              ∙ ap (λ (x : Core). effect 0 x unchanged q []) (L .next k));
         }
 
   typed-run : {at i : ℕ} {p′ : List ℕ}
@@ -241,15 +241,15 @@ module _ {p₀ : List ℕ} {s₀ : State} {input w₀ : List ℕ} {u : Setup} {a
   typed-run (placed t h s) = went-placed (typed-run t) h s
 
 -- the loop after a run from the byte i₀ on: it goes on at the byte i, which is left
-pub record Resumed (p₀ : List ℕ) (s₀ : State) (input w₀ p w : List ℕ) (c : Core) (u : Setup) (a : Answer) (i n f i₀ : ℕ) : Type 0 where
-  pub running : Running p₀ s₀ input w₀ p w c u a i n f
+pub record Resumed (p₀ : List ℕ) (s₀ : State) (input w₀ p w : List ℕ) (c : Core) (g : List ℕ) (u : Setup) (a : Answer) (i n f i₀ : ℕ) : Type 0 where
+  pub running : Running p₀ s₀ input w₀ p w c g u a i n f
   pub from : i₀ ≤ i
   pub left : i < length input
 
-module _ {p₀ : List ℕ} {s₀ : State} {input w₀ : List ℕ} {u : Setup} {a : Answer} {n f : ℕ} {w p : List ℕ} {c : Core} {i₀ : ℕ}
-    (R : Running p₀ s₀ input w₀ p w c u a i₀ n f) where
+module _ {p₀ : List ℕ} {s₀ : State} {input w₀ : List ℕ} {g : List ℕ} {u : Setup} {a : Answer} {n f : ℕ} {w p : List ℕ} {c : Core} {i₀ : ℕ}
+    (R : Running p₀ s₀ input w₀ p w c g u a i₀ n f) where
   arriving : {at i : ℕ} {p′ : List ℕ} → TextRun c input i₀ p at i p′
-      → Running p₀ s₀ input w₀ p′ w (pick (eqb i i₀) c (textCore c at)) u a i n f
+      → Running p₀ s₀ input w₀ p′ w (pick (eqb i i₀) c (textCore c at)) g u a i n f
   arriving still = rw (eq-eqb i₀ i₀ refl) R
   arriving (typed quiet over t) = let G = typed-run c R quiet over t in rw (arrived-core (G .arrived)) (G .running)
 
@@ -269,7 +269,7 @@ module _ {p₀ : List ℕ} {s₀ : State} {input w₀ : List ℕ} {u : Setup} {a
 
   -- d is the core after it
   pub resumed : {at i : ℕ} {p′ : List ℕ} {d : Core} → i₀ < length input → TextRun c input i₀ p at i p′ → d ≡ pick (eqb i i₀) c (textCore c at)
-      → Resumed p₀ s₀ input w₀ p′ w d u a i n f i₀
+      → Resumed p₀ s₀ input w₀ p′ w d g u a i n f i₀
   resumed h t e =
       let r = text-range h t in
       record { running = rw e (arriving t); from = r .from; left = r .within }

@@ -18,18 +18,17 @@ use Rattle.rules.specs.declared.Land.the-variants as Land
 use Rattle.rules.specs.declared.Pending.{Pending}
 use Rattle.rules.specs.declared.Pending.the-variants as Pending
 use Rattle.rules.specs.declared.Plan.{Plan}
-use Rattle.rules.specs.declared.SetupChange.the-variants as SetupChange
 use Rattle.rules.specs.declared.Write.{Write}
 use Rattle.rules.specs.declared.Write.the-variants as Write
 use Rattle.rules.specs.Cell.{pick, guarded, among, both, written}
 use Rattle.rules.specs.Row.{Width}
 use Rattle.rules.specs.Search.{guardedAt, others, settled}
-use Rattle.rules.specs.State.{widthOf, pageLength, segmentTop, segmentBottom, segmentStart, segmentEnd, cursorOf, withCursor, withScreen, awaiting, idle}
+use Rattle.rules.specs.State.{unchanged, widthOf, pageLength, segmentTop, segmentBottom, segmentStart, segmentEnd, cursorOf, withCursor, withScreen, awaiting, idle}
 use Rattle.rules.specs.Possible.{screenOk}
 use Rattle.rules.specs.Decode.{decodeRule, idleRule}
 use Rattle.rules.specs.Plan.{writing, unlessGuarded, storing, advancing, storePlan, addressPlan, movePlan, planRule}
-use Rattle.rules.specs.Carry.{effect, applied, replied, landed, done, carried}
 use Rattle.rules.specs.Step.{obeyed, innerRule}
+use Rattle.rules.specs.Carry.{effect, applied, replied, landed, done, carried}
 use Rattle.rules.proofs.Tests.{both-true}
 use Rattle.rules.proofs.Marks.{hit, around-here, length-guards, length-others, guard-at, open-at}
 use Rattle.rules.proofs.Rows.{by-width, columns-width}
@@ -58,7 +57,7 @@ module _ (p : List ℕ) (c : Core) (size : length p ≡ pageLength (c .screen)) 
 
   -- a plan that writes, and then settles from an open cell of the segment
   carried-writing : (x : Write) (i : ℕ) → i < segmentEnd (c .screen) → getD (guardedAt on (applied w on x p)) i false ≡ false
-      → carried p c (writing (idle c) x (Land.Settle i)) room ≡ effect 0 (textCore c i) SetupChange.Nothing (applied w on x p) []
+      → carried p c (writing (idle c) x (Land.Settle i)) room ≡ effect 0 (textCore c i) unchanged (applied w on x p) []
   unfolding carried done replied landed applied
   carried-writing x i h e =
       let q = applied w on x p in
@@ -66,7 +65,7 @@ module _ (p : List ℕ) (c : Core) (size : length p ≡ pageLength (c .screen)) 
       let most = screen-inside (c .screen) ok .placed .page in
       let k : segmentEnd (c .screen) ≤ length g = omega (arith, length-guards on q, length-applied w on x p, size, most) in
       rw (le-leb 0 room zero-le)
-      (ap (λ (n : ℕ). effect 0 (withScreen (idle c) (withCursor (c .screen) n)) SetupChange.Nothing q [])
+      (ap (λ (n : ℕ). effect 0 (withScreen (idle c) (withCursor (c .screen) n)) unchanged q [])
       (settled-open g (segmentStart (c .screen)) (segmentEnd (c .screen)) i h k e))
 
   -- ---- a byte that is stored
@@ -79,9 +78,9 @@ module _ (p : List ℕ) (c : Core) (size : length p ≡ pageLength (c .screen)) 
     abbrev v : ℕ
     v = written (Contents.Text b) (c .modes .mark)
 
-    decoded : decodeRule (c .pending) (c .gathered .len) b ≡ Decoded.Do (Command.Store (Contents.Text b))
+    decoded : decodeRule (c .pending) b ≡ Decoded.Do (Command.Store (Contents.Text b))
     unfolding decodeRule idleRule
-    decoded = ap (λ (q : Pending). decodeRule q (c .gathered .len) b) quiet ∙ rw (le-ltb b 0x20 (s .low), lt-ltb b 0x7f (omega (arith, s .high)))
+    decoded = ap (λ (q : Pending). decodeRule q b) quiet ∙ rw (le-ltb b 0x20 (s .low), lt-ltb b 0x7f (omega (arith, s .high)))
 
     planned : planRule (guardedAt on p) tabs (idle c) (Command.Store (Contents.Text b)) ≡ writing (idle c) (Write.Fill at (at + 1) v) (Land.Settle (at + 1))
     unfolding planRule storePlan unlessGuarded storing advancing
@@ -103,23 +102,23 @@ module _ (p : List ℕ) (c : Core) (size : length p ≡ pageLength (c .screen)) 
         guard-at on (set p at v) (at + 1) (omega (arith, inside, length-set p at v))
         ∙ ap (guarded on) (getD-set-other p at (at + 1) v 0 (λ e. omega arith)) ∙ sym (guard-at on p (at + 1) inside) ∙ s .next
 
-    pub stores : innerRule p c tabs b room ≡ effect 0 (textCore c (at + 1)) SetupChange.Nothing (set p at v) []
+    pub stores : innerRule p c tabs b room ≡ effect 0 (textCore c (at + 1)) unchanged (set p at v) []
     unfolding obeyed
     stores =
         below p c tabs b room (omega (arith, s .high)) refl decoded ∙ ap (λ (x : Plan). carried p c x room) planned
         ∙ carried-writing (Write.Fill at (at + 1) v) (at + 1) (s .inside) (rw page next)
-        ∙ ap (λ (q : List ℕ). effect 0 (textCore c (at + 1)) SetupChange.Nothing q []) page
+        ∙ ap (λ (q : List ℕ). effect 0 (textCore c (at + 1)) unchanged q []) page
 
   -- ---- ESC =
 
-  pub waits : (b : ℕ) (q : Pending) → b < 128 → decodeRule (c .pending) (c .gathered .len) b ≡ Decoded.Wait q
-      → innerRule p c tabs b room ≡ effect 0 (awaiting c q) SetupChange.Nothing p []
+  pub waits : (b : ℕ) (q : Pending) → b < 128 → decodeRule (c .pending) b ≡ Decoded.Wait q
+      → innerRule p c tabs b room ≡ effect 0 (awaiting c q) unchanged p []
   unfolding obeyed
   waits b q h e = below p c tabs b room h refl e
 
   pub places : (r k i : ℕ) → c .pending ≡ Pending.AddressRow r → 0x20 ≤ r → 0x20 ≤ k → k < 0x20 + 80
       → i ≡ segmentStart (c .screen) + (r - 0x20) * w + (k - 0x20) → i < segmentEnd (c .screen) → getD (guardedAt on p) i false ≡ false
-      → innerRule p c tabs k room ≡ effect 0 (textCore c i) SetupChange.Nothing p []
+      → innerRule p c tabs k room ≡ effect 0 (textCore c i) unchanged p []
   unfolding obeyed decodeRule planRule movePlan addressPlan applied
   places r k i pending low left right e h g =
       let x = c .screen in
@@ -129,5 +128,5 @@ module _ (p : List ℕ) (c : Core) (size : length p ≡ pageLength (c .screen)) 
       let t : both (among 0x20 (segmentBottom x - segmentTop x) r) (among 0x20 80 k) ≡ true = both-true
       (both-true (le-leb 0x20 r low) (lt-ltb r (0x20 + (segmentBottom x - segmentTop x)) (omega (arith, row))))
       (both-true (le-leb 0x20 k left) (lt-ltb k (0x20 + 80) right)) in
-      below p c tabs k room (omega arith) refl (ap (λ (q : Pending). decodeRule q (c .gathered .len) k) pending)
+      below p c tabs k room (omega arith) refl (ap (λ (q : Pending). decodeRule q k) pending)
       ∙ rw t (rw (sym same) (carried-writing Write.Nothing i h g))

@@ -8,6 +8,8 @@ use lib.ListN.{length}
 use Rattle.rules.specs.declared.Core.{Core}
 use Rattle.rules.specs.declared.Setup.{Setup}
 use Rattle.rules.specs.declared.State.{State}
+use Rattle.rules.specs.declared.Change.{Change}
+use Rattle.rules.specs.declared.Change.the-variants as Change
 use Rattle.rules.specs.declared.SetupChange.{SetupChange}
 use Rattle.rules.specs.declared.SetupChange.the-variants as SetupChange
 use Rattle.rules.specs.declared.RunResult.{RunResult}
@@ -18,17 +20,22 @@ use Rattle.rules.specs.Calls.{repeated}
 use Rattle.terminal.specs.declared.bytes.Ended.{Ended}
 use Rattle.terminal.specs.Promise.{Completed}
 
--- nothing changes in the set-up
-abbrev pub isNothing : SetupChange → Bool
-isNothing SetupChange.Nothing = true
-isNothing (SetupChange.Tab c b) = false
-isNothing SetupChange.ClearTabs = false
-isNothing (SetupChange.Attribute n a) = false
-isNothing (SetupChange.Feature n f) = false
-isNothing (SetupChange.Key n) = false
+-- nothing changes beside the core
+abbrev pub keepsSetup : SetupChange → Bool
+keepsSetup SetupChange.Nothing = true
+keepsSetup (SetupChange.Tab c b) = false
+keepsSetup SetupChange.ClearTabs = false
+keepsSetup (SetupChange.Attribute n a) = false
+keepsSetup (SetupChange.Feature n f) = false
+keepsSetup SetupChange.HideLine = false
 
-abbrev pub stateOf : Core → Setup → State
-stateOf c u = record { core = c; setup = u }
+abbrev pub isNothing : Change → Bool
+isNothing (Change.Gather n b) = false
+isNothing (Change.Take x n) = false
+isNothing (Change.Set x) = keepsSetup x
+
+abbrev pub stateOf : Core → List ℕ → Setup → State
+stateOf c g u = record { core = c; gathered = g; setup = u }
 
 -- the answer of the last byte that a run looks at; `a` where there is none
 unfoldable pub lastAnswer : List ℕ → List ℕ → State → ℕ → ℕ → ℕ
@@ -40,7 +47,7 @@ lastAnswer (b ∷ bs) p s room a =
 
 -- the loop's result as a run's
 abbrev pub resultOf : Ended → RunResult
-resultOf r = record { answer = r .answer; taken = r .taken; replied = r .replied; refused = r .refused; state = stateOf (r .core) (r .setup) }
+resultOf r = record { answer = r .answer; taken = r .taken; replied = r .replied; refused = r .refused; state = stateOf (r .core) (r .gathered) (r .setup) }
 
 -- p and w are the page and the room before the loop, p′ and w′ after it; l is the input
 pub record Looped (p : List ℕ) (s : State) (l w : List ℕ) (r : Ended) (p′ w′ : List ℕ) : Type 0 where

@@ -1,20 +1,22 @@
-// The loop over host bytes on a good page and state. The core and the set-up are two locals: a byte is handed the tab stops alone, and the
-// set-up is touched only where a byte changes it.
+// The loop over host bytes on a good page and state. The core, the gathered bytes and the set-up are three locals: a byte is handed the
+// tab stops alone, and the others are touched only where a byte changes them.
 ghost use mathlib.Core.Path.{_≡_};
 ghost use mathlib.Core.Bool.{true};
 ghost use lib.Dec.{eqb};
 ghost use Rattle.rules.specs.State.{number};
 ghost use Rattle.rules.specs.Possible.{good};
 ghost use Rattle.rules.specs.Calls.{refusal};
-ghost use Rattle.terminal.specs.Loop.{isNothing, stateOf, Looped};
+ghost use Rattle.terminal.specs.Loop.{keepsSetup, isNothing, stateOf, Looped};
 use crate::inner::inner;
 use crate::text::moved;
 use crate::text::text;
 use rules::Answer;
+use rules::Change;
 use rules::Core;
 use rules::Setup;
 use rules::SetupChange;
-use state::setup::changed;
+use state::setup::gathered_after;
+use state::setup::setup_after;
 
 // How a loop ended: its answer, the answer of the last byte that it looked at, its counts, and the state.
 pub struct Ended {
@@ -24,6 +26,7 @@ pub struct Ended {
     pub replied: usize,
     pub refused: usize,
     pub core: Core,
+    pub gathered: [u8; 46],
     pub setup: Setup,
 }
 
@@ -58,8 +61,8 @@ fn refusals(a: Answer) -> usize
     }
 }
 
-fn is_nothing(x: SetupChange) -> bool
-    ensures { λ r. ⌜ r ≡ isNothing x ⌝ }
+fn keeps_setup(x: SetupChange) -> bool
+    ensures { λ r. ⌜ r ≡ keepsSetup x ⌝ }
 {
     match x {
         SetupChange::Nothing => true,
@@ -67,7 +70,17 @@ fn is_nothing(x: SetupChange) -> bool
         SetupChange::ClearTabs => false,
         SetupChange::Attribute(_, _) => false,
         SetupChange::Feature(_, _) => false,
-        SetupChange::Key(_) => false,
+        SetupChange::HideLine => false,
+    }
+}
+
+fn is_nothing(x: Change) -> bool
+    ensures { λ r. ⌜ r ≡ isNothing x ⌝ }
+{
+    match x {
+        Change::Gather(_, _) => false,
+        Change::Take(_, _) => false,
+        Change::Set(d) => keeps_setup(d),
     }
 }
 
@@ -78,9 +91,10 @@ fn finished(
     replied: usize,
     refused: usize,
     core: Core,
+    gathered: [u8; 46],
     setup: Setup,
 ) -> Ended
-    ensures { λ r. ⌜ r ≡ record { answer = answer; last = last; taken = taken; replied = replied; refused = refused; core = core; setup = setup } ⌝ }
+    ensures { λ r. ⌜ r ≡ record { answer = answer; last = last; taken = taken; replied = replied; refused = refused; core = core; gathered = gathered; setup = setup } ⌝ }
 {
     Ended {
         answer: answer,
@@ -89,16 +103,25 @@ fn finished(
         replied: replied,
         refused: refused,
         core: core,
+        gathered: gathered,
         setup: setup,
     }
 }
 
 // The single step repeated, each with the room that is left; it stops before the first byte that answers 6.
-pub fn repeat(page: &mut [u16], core: Core, setup: Setup, input: &[u8], room: &mut [u8]) -> Ended
-    requires { ⌜ good (now page) (stateOf core setup) ≡ true ⌝ }
-    ensures { λ r. ⌜ Looped (now (page .entry)) (stateOf core setup) (now (input .entry)) (now (room .entry)) r (now (page .exit)) (now (room .exit)) ⌝ }
+pub fn repeat(
+    page: &mut [u16],
+    core: Core,
+    gathered: [u8; 46],
+    setup: Setup,
+    input: &[u8],
+    room: &mut [u8],
+) -> Ended
+    requires { ⌜ good (now page) (stateOf core gathered setup) ≡ true ⌝ }
+    ensures { λ r. ⌜ Looped (now (page .entry)) (stateOf core gathered setup) (now (input .entry)) (now (room .entry)) r (now (page .exit)) (now (room .exit)) ⌝ }
 {
     let mut c = core;
+    let mut g = gathered;
     let mut u = setup;
     let mut last = Answer::Done;
     let mut taken = 0;
@@ -109,11 +132,10 @@ pub fn repeat(page: &mut [u16], core: Core, setup: Setup, input: &[u8], room: &m
         let moved_core = moved(c, run.at, run.taken == taken);
         c = moved_core;
         taken = run.taken;
-        let k = c.gathered;
         let t = inner(page, &u.tabs, c, input[taken], &mut room[replied..]);
         let a = t.answer;
         if is_no_room(a) {
-            return finished(Answer::NoRoom, a, taken, replied, refused, c, u);
+            return finished(Answer::NoRoom, a, taken, replied, refused, c, g, u);
         }
         let next = t.core;
         c = next;
@@ -125,8 +147,10 @@ pub fn repeat(page: &mut [u16], core: Core, setup: Setup, input: &[u8], room: &m
         if is_nothing(x) {
             continue;
         }
-        let v = changed(x, k, u);
+        let v = setup_after(x, g, u);
         u = v;
+        let h = gathered_after(x, g);
+        g = h;
     }
-    finished(Answer::Done, last, taken, replied, refused, c, u)
+    finished(Answer::Done, last, taken, replied, refused, c, g, u)
 }

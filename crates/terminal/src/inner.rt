@@ -1,4 +1,5 @@
-// One byte on a good page and state. The set-up is not handed through: the inner step sees the tab stops and gives the change.
+// One byte on a good page and state. The gathered bytes and the set-up are not handed through: the inner step sees the tab stops and gives the
+// change.
 ghost use mathlib.Core.Path.{_≡_};
 ghost use mathlib.Core.Bool.{true};
 ghost use mathlib.Core.List.{List, []};
@@ -14,19 +15,19 @@ ghost use Rattle.carry.specs.Carried.{Carried};
 use carry::carry_out;
 use plan::plan_for;
 use rules::Answer;
+use rules::Change;
 use rules::Command;
 use rules::Core;
 use rules::CoreResult;
 use rules::Decoded;
+use rules::Pending;
 use rules::SetupChange;
 use state::core::awaiting;
 use state::core::idle;
-use state::core::with_gathered;
 use state::decode::decode;
-use state::keys::grown;
 
 // A byte that writes nothing and replies nothing.
-fn quiet(answer: Answer, core: Core, change: SetupChange) -> CoreResult
+fn quiet(answer: Answer, core: Core, change: Change) -> CoreResult
     ensures { λ r. ⌜ ((p w : List ℕ) → Carried (effect (number answer) core change p []) r p w w) ⌝ }
 {
     CoreResult {
@@ -48,26 +49,31 @@ fn obey(page: &mut [u16], tabs: &[bool; 132], core: Core, d: Command, room: &mut
 }
 
 pub fn inner(page: &mut [u16], tabs: &[bool; 132], core: Core, b: u8, room: &mut [u8]) -> CoreResult
-    requires { ⌜ (length (now page) ≡ pageLength (core .screen)) × ((screenOk (core .screen) ≡ true) × (pendingOk (core .pending) (core .gathered) ≡ true)) ⌝ }
+    requires { ⌜ (length (now page) ≡ pageLength (core .screen)) × ((screenOk (core .screen) ≡ true) × ((g : List ℕ) × (pendingOk (core .pending) g ≡ true))) ⌝ }
     ensures { λ r. ⌜ Carried (innerRule (now (page .entry)) core (now (tabs .entry)) b (length (now (room .entry)))) r (now (page .exit)) (now (room .entry)) (now (room .exit)) ⌝ }
 {
     if 128 <= b {
-        return quiet(Answer::HighByte, core, SetupChange::Nothing);
+        return quiet(Answer::HighByte, core, Change::Set(SetupChange::Nothing));
     }
     let q = core.pending;
-    let k = core.gathered;
-    let d = decode(q, k.len, b);
+    let d = decode(q, b);
     match d {
-        Decoded::Wait(next) => quiet(Answer::Done, awaiting(core, next), SetupChange::Nothing),
-        Decoded::Gather(x) => {
+        Decoded::Wait(next) => {
             quiet(
                 Answer::Done,
-                with_gathered(core, grown(k, x)),
-                SetupChange::Nothing,
+                awaiting(core, next),
+                Change::Set(SetupChange::Nothing),
             )
         }
-        Decoded::Program(n) => quiet(Answer::Done, idle(core), SetupChange::Key(n)),
-        Decoded::Reject(a) => quiet(a, idle(core), SetupChange::Nothing),
+        Decoded::Gather(x, n, y) => {
+            quiet(
+                Answer::Done,
+                awaiting(core, Pending::Text(x, n + 1)),
+                Change::Gather(n, y),
+            )
+        }
+        Decoded::Take(x, n) => quiet(Answer::Done, idle(core), Change::Take(x, n)),
+        Decoded::Reject(a) => quiet(a, idle(core), Change::Set(SetupChange::Nothing)),
         Decoded::Do(x) => obey(page, tabs, core, x, room),
     }
 }

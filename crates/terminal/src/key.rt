@@ -8,8 +8,8 @@ ghost use Rattle.rules.specs.Calls.{keySends};
 ghost use Rattle.rules.specs.Room.{over};
 ghost use Rattle.terminal.specs.Promise.{Sent, sending};
 use rules::Answer;
-use rules::Key;
 use rules::PressResult;
+use rules::ShortText;
 
 // Copy a text to the front of the room, where it fits.
 fn put(room: &mut [u8], text: &[u8]) -> bool
@@ -43,7 +43,7 @@ fn send(text: &[u8], room: &mut [u8]) -> PressResult
 }
 
 // The key's bytes; an unprogrammed key sends 01h value 0Dh.
-pub fn press_key(key: Key, v: u8, room: &mut [u8]) -> PressResult
+pub fn press_key(key: ShortText, v: u8, room: &mut [u8]) -> PressResult
     requires { ⌜ key .len ≤ 8 ⌝ }
     ensures { λ r. ⌜ Sent (sending (keySends key v) (length (now (room .entry)))) r (now (room .entry)) (now (room .exit)) ⌝ }
 {

@@ -25,11 +25,11 @@ use rules::RunResult;
 use rules::State;
 use rules::StepResult;
 pub use state::answer_number;
-use state::keys::is_key;
 use state::keys::key_at;
 use state::logic::and;
 use state::possible::possible;
 use state::power_on_state;
+use state::texts::is_key;
 use state::width::NARROW_CELLS;
 use state::width::cells;
 
@@ -71,13 +71,19 @@ pub fn step(page: &mut [u16], state: State, byte: u8, reply: &mut [u8]) -> StepR
         };
     }
     let core = state.core;
+    let gathered = state.gathered;
     let setup = state.setup;
     let one = [byte];
-    let t = repeat(page, core, setup, &one, reply);
+    let t = repeat(page, core, gathered, setup, &one, reply);
     let c = t.core;
+    let g = t.gathered;
     let u = t.setup;
     let last = t.last;
-    let next = State { core: c, setup: u };
+    let next = State {
+        core: c,
+        gathered: g,
+        setup: u,
+    };
     StepResult {
         answer: last,
         replied: t.replied,
@@ -99,12 +105,18 @@ pub fn run(page: &mut [u16], state: State, input: &[u8], reply: &mut [u8]) -> Ru
         };
     }
     let core = state.core;
+    let gathered = state.gathered;
     let setup = state.setup;
-    let t = repeat(page, core, setup, input, reply);
+    let t = repeat(page, core, gathered, setup, input, reply);
     let c = t.core;
+    let g = t.gathered;
     let u = t.setup;
     let answer = t.answer;
-    let next = State { core: c, setup: u };
+    let next = State {
+        core: c,
+        gathered: g,
+        setup: u,
+    };
     RunResult {
         answer: answer,
         taken: t.taken,

@@ -1,38 +1,89 @@
 -- The exported calls, from the promises of the terminal's: refused where the numbers name no state, else the terminal's, in numbers.
 --     named-bells     a bell count that is named is below 256
 --     powered-on, stepped, completed, sent     the terminal's, in numbers
---     step-refused, run-refused, press-refused     numbers that name no state
+--     step-refused, run-refused, press-refused     a bad call
+--     step-seven, run-seven     a 7 of the terminal's gives the numbers back as they were
 -- Assumes nothing.
-use mathlib.Core.Path.{_≡_, refl, _∙_}
-use mathlib.Core.Bool.{true, false}
-use mathlib.Core.List.{List}
-use Prim.Native.Nat.{ℕ, _<_}
+use mathlib.Core.Path.{_≡_, refl, sym, ap, _∙_}
+use mathlib.Core.Bool.{Bool, true, false}
+use mathlib.Core.List.{List, [], _∷_}
+use Prim.Native.Nat.{ℕ, _-_, _<_}
 use native.Mathlib.Omega.{arith}
 use borrow.Author.Tests.{ltb-true}
-use lib.Dec.{ltb}
+use lib.Dec.{ltb, eqb}
 use lib.ListN.{length}
+use Rattle.rules.specs.declared.Core.{Core}
 use Rattle.rules.specs.declared.State.{State}
 use Rattle.rules.specs.declared.PowerOn.{PowerOn}
 use Rattle.rules.specs.declared.StepResult.{StepResult}
 use Rattle.rules.specs.declared.RunResult.{RunResult}
 use Rattle.rules.specs.declared.PressResult.{PressResult}
 use Rattle.rules.specs.Cell.{both}
-use Rattle.rules.specs.Possible.{allBelow}
 use Rattle.rules.specs.Room.{over}
 use Rattle.rules.specs.State.{number}
 use Rattle.rules.specs.Step.{Outcome, stepRule}
-use Rattle.rules.specs.Calls.{runRule, pressRule}
+use Rattle.rules.specs.Possible.{good}
+use Rattle.rules.specs.Carry.{Effect}
+use Rattle.rules.specs.Calls.{Ran, joined, repeated, runRule, pressRule}
+use Rattle.rules.proofs.Tests.{pick-if, among-parts}
+use Rattle.rules.proofs.Kept.{possible-parts, good-parts}
+use Rattle.rules.proofs.Left.{Ended, ends, clears, keeps, inner-ends}
 use Rattle.state.proofs.Tests.{both-left, both-right}
 use Rattle.terminal.specs.Promise as terminal
 use Rattle.wy50.specs.declared.raw.RawState.{RawState}
-use Rattle.wy50.specs.Raw.{areFlags, isSequence, packed, unpacked, named}
-use Rattle.wy50.specs.Promise.{raw, rawStep, rawRun, rawPress, PoweredOn, Stepped, Completed, Sent}
+use Rattle.wy50.specs.Raw.{allBelow, areFlags, isSequence, packed, unpacked, named}
+use Rattle.wy50.specs.Promise.{raw, rawGood, rawStep, rawRun, rawPress, PoweredOn, Stepped, Completed, Sent}
 
 pub named-bells : (x : RawState) → named x ≡ true → x .bells < 256
 unfolding named
 named-bells x h =
-    let r = both (isSequence (x .sequence)) (allBelow 2 (x .tabs)) in
+    let r = both (isSequence (x .sequence)) (both (allBelow 2 (x .tabs)) (ltb (x .shifted) 2)) in
     ltb-true (x .bells) 256 (both-left (ltb (x .bells) 256) r (both-right (areFlags (x .modes)) (both (ltb (x .bells) 256) r) h))
+
+-- ---- a good page and state answer no 7
+
+ended-seven : {p : List ℕ} {c : Core} {e : Effect} → Ended p c e → e .answer ≡ 7 → ⊥
+ended-seven (ends a) h = omega (arith, a, h)
+ended-seven (clears m a) h = omega (arith, among-parts 2 3 m a, h)
+ended-seven (keeps m a l) h = omega (arith, l .0, h)
+
+good-step : (p : List ℕ) (s : State) (b room : ℕ) → good p s ≡ true → stepRule p s b room .answer ≡ 7 → ⊥
+unfolding stepRule
+good-step p s b room g e =
+    ended-seven (inner-ends p (s .core) (s .setup .tabs) (s .gathered) room b (possible-parts s (good-parts p s g .1) .core .pending)) (rw g at e)
+
+bad-seven : (p : List ℕ) (s : State) (b room : ℕ) → good p s ≡ false → stepRule p s b room .answer ≡ 7
+unfolding stepRule
+bad-seven p s b room g = rw g
+
+repeated-seven : (bytes p : List ℕ) (s : State) (room : ℕ) → repeated bytes p s room .answer ≡ 7 → ⊥
+unfolding repeated joined
+repeated-seven [] p s room e = omega (arith, e)
+repeated-seven (b ∷ bytes) p s room z =
+    pick-if (λ (r : Ran). r .answer ≡ 7 → ⊥) (eqb (stepRule p s b room .answer) 6) (λ t e. omega (arith, e))
+    (λ t. repeated-seven bytes (stepRule p s b room .page) (stepRule p s b room .state) (room - length (stepRule p s b room .reply))) z
+
+good-run : (p : List ℕ) (s : State) (l : List ℕ) (room : ℕ) → good p s ≡ true → runRule p s l room .answer ≡ 7 → ⊥
+unfolding runRule
+good-run p s l room g e = repeated-seven l p s room (rw g at e)
+
+bad-run-seven : (p : List ℕ) (s : State) (l : List ℕ) (room : ℕ) → good p s ≡ false → runRule p s l room .answer ≡ 7
+unfolding runRule
+bad-run-seven p s l room g = rw g
+
+not-bad : (t : Bool) → (t ≡ false → ⊥) → t ≡ true
+not-bad true h = refl
+not-bad false h = absurd (h refl)
+
+not-good : (t : Bool) → (t ≡ true → ⊥) → t ≡ false
+not-good true h = absurd (h refl)
+not-good false h = refl
+
+raw-good : (p : List ℕ) (x : RawState) {t : Bool} → named x ≡ true → good p (unpacked x) ≡ t → rawGood p x ≡ t
+unfolding rawGood
+raw-good p x on g = rw (on, g)
+
+-- ---- the calls
 
 -- n and y are the numbers of the answer and of the state
 module _ {n : ℕ} {y : RawState} where
@@ -41,24 +92,27 @@ module _ {n : ℕ} {y : RawState} where
   powered-on h a s = record { answer = a ∙ h .answer; state = rw (s, h .state); page = h .page }
 
   pub stepped : (p : List ℕ) (x : RawState) (b : ℕ) (w : List ℕ) {s : State} {t : StepResult} {p′ w′ : List ℕ} → named x ≡ true → s ≡ unpacked x
-      → terminal.Stepped (stepRule p s b (length w)) t p′ w w′ → n ≡ number (t .answer) → y ≡ packed (t .state)
+      → terminal.Stepped (stepRule p s b (length w)) t p′ w w′ → n ≡ number (t .answer) → (n ≡ 7 → ⊥) → y ≡ packed (t .state)
       → Stepped (rawStep p x b (length w)) (record { answer = n; replied = t .replied; state = y }) p′ w w′
   unfolding rawStep
-  stepped p x b w on e h a s =
-      rw (on, ← e) (record { answer = a ∙ h .answer; state = rw (s, h .state); replied = h .replied; page = h .page; room = h .room; fits = h .fits })
+  stepped p x b w {s} on e h a z v =
+      let g : good p s ≡ true = not-bad (good p s) (λ k. z (a ∙ h .answer ∙ bad-seven p s b (length w) k)) in
+      rw (raw-good p x on (ap (good p) (sym e) ∙ g), ← e)
+      (record { answer = a ∙ h .answer; state = rw (v, h .state); replied = h .replied; page = h .page; room = h .room; fits = h .fits })
 
   pub completed : (p : List ℕ) (x : RawState) (l w : List ℕ) {s : State} {t : RunResult} {p′ w′ : List ℕ} → named x ≡ true → s ≡ unpacked x
-      → terminal.Completed (runRule p s l (length w)) t l p′ w w′ → n ≡ number (t .answer) → y ≡ packed (t .state)
+      → terminal.Completed (runRule p s l (length w)) t l p′ w w′ → n ≡ number (t .answer) → (n ≡ 7 → ⊥) → y ≡ packed (t .state)
       → Completed (rawRun p x l (length w)) (record { answer = n; taken = t .taken; replied = t .replied; refused = t .refused; state = y }) l p′ w w′
   unfolding rawRun
-  completed p x l w on e h a s =
-      rw (on, ← e) (record {
+  completed p x l w {s} on e h a z v =
+      let g : good p s ≡ true = not-bad (good p s) (λ k. z (a ∙ h .answer ∙ bad-run-seven p s l (length w) k)) in
+      rw (raw-good p x on (ap (good p) (sym e) ∙ g), ← e) (record {
         answer = a ∙ h .answer;
         taken = h .taken;
         replied = h .replied;
         refused = h .refused;
         rest = h .rest;
-        state = rw (s, h .state);
+        state = rw (v, h .state);
         page = h .page;
         room = h .room;
         fits = h .fits;
@@ -71,16 +125,16 @@ pub sent : (p : List ℕ) (x : RawState) (v : ℕ) (w : List ℕ) {n : ℕ} {s :
 unfolding rawPress
 sent p x v w on e h a = rw (on, ← e) (record { answer = a ∙ h .answer; replied = h .replied; room = h .room; fits = h .fits })
 
--- numbers that name no state
-module _ (p : List ℕ) (x : RawState) (off : named x ≡ false) (w : List ℕ) where
+-- a bad call: numbers that name no state, or a 7 of the terminal's, which changed nothing
+module _ (p : List ℕ) (x : RawState) (bad : rawGood p x ≡ false) (w : List ℕ) where
   pub step-refused : (b : ℕ) → Stepped (rawStep p x b (length w)) (record { answer = 7; replied = 0; state = x }) p w w
   unfolding rawStep over
-  step-refused b = rw off (record { answer = refl; state = refl; replied = refl; page = refl; room = refl; fits = omega arith })
+  step-refused b = rw bad (record { answer = refl; state = refl; replied = refl; page = refl; room = refl; fits = omega arith })
 
   pub run-refused : (l : List ℕ) → Completed (rawRun p x l (length w)) (record { answer = 7; taken = 0; replied = 0; refused = 0; state = x }) l p w w
   unfolding rawRun over
   run-refused l =
-      rw off (record {
+      rw bad (record {
         answer = refl;
         taken = refl;
         replied = refl;
@@ -93,6 +147,42 @@ module _ (p : List ℕ) (x : RawState) (off : named x ≡ false) (w : List ℕ) 
         within = omega arith;
       })
 
-  pub press-refused : (v : ℕ) → Sent (rawPress p x v (length w)) (record { answer = 7; replied = 0 }) w w
-  unfolding rawPress over
-  press-refused v = rw off (record { answer = refl; replied = refl; room = refl; fits = omega arith })
+pub unnamed-bad : (p : List ℕ) (x : RawState) → named x ≡ false → rawGood p x ≡ false
+unfolding rawGood
+unnamed-bad p x off = rw off
+
+pub press-refused : (p : List ℕ) (x : RawState) → named x ≡ false → (w : List ℕ) (v : ℕ) → Sent (rawPress p x v (length w)) (record { answer = 7; replied = 0 }) w w
+unfolding rawPress over
+press-refused p x off w v = rw off (record { answer = refl; replied = refl; room = refl; fits = omega arith })
+
+-- what a bad step and a bad run left
+step-left : (p : List ℕ) (s : State) (b : ℕ) (w : List ℕ) → good p s ≡ false
+    → (stepRule p s b (length w) .page ≡ p) × (over (stepRule p s b (length w) .reply) w ≡ w)
+unfolding stepRule over
+step-left p s b w g = rw g (refl, refl)
+
+run-left : (p : List ℕ) (s : State) (l w : List ℕ) → good p s ≡ false
+    → (runRule p s l (length w) .page ≡ p) × (over (runRule p s l (length w) .reply) w ≡ w)
+unfolding runRule over
+run-left p s l w g = rw g (refl, refl)
+
+module _ (p : List ℕ) (x : RawState) (w : List ℕ) {n : ℕ} {s : State} {p′ w′ : List ℕ} (on : named x ≡ true) (e : s ≡ unpacked x) where
+  step-bad : (b : ℕ) {t : StepResult} → terminal.Stepped (stepRule p s b (length w)) t p′ w w′ → n ≡ number (t .answer) → n ≡ 7 → good p s ≡ false
+  step-bad b h a z = not-good (good p s) (λ k. good-step p s b (length w) k (sym (a ∙ h .answer) ∙ z))
+
+  pub step-seven : (b : ℕ) {t : StepResult} → terminal.Stepped (stepRule p s b (length w)) t p′ w w′ → n ≡ number (t .answer) → n ≡ 7
+      → Stepped (rawStep p x b (length w)) (record { answer = 7; replied = 0; state = x }) p′ w w′
+  step-seven b h a z =
+      let g = step-bad b h a z in
+      let k = step-left p s b w g in
+      rw (h .page, k .0, h .room, k .1) (step-refused p x (raw-good p x on (ap (good p) (sym e) ∙ g)) w b)
+
+  run-bad : (l : List ℕ) {t : RunResult} → terminal.Completed (runRule p s l (length w)) t l p′ w w′ → n ≡ number (t .answer) → n ≡ 7 → good p s ≡ false
+  run-bad l h a z = not-good (good p s) (λ k. good-run p s l (length w) k (sym (a ∙ h .answer) ∙ z))
+
+  pub run-seven : (l : List ℕ) {t : RunResult} → terminal.Completed (runRule p s l (length w)) t l p′ w w′ → n ≡ number (t .answer) → n ≡ 7
+      → Completed (rawRun p x l (length w)) (record { answer = 7; taken = 0; replied = 0; refused = 0; state = x }) l p′ w w′
+  run-seven l h a z =
+      let g = run-bad l h a z in
+      let k = run-left p s l w g in
+      rw (h .page, k .0, h .room, k .1) (run-refused p x (raw-good p x on (ap (good p) (sym e) ∙ g)) w l)

@@ -13,31 +13,31 @@ use Rattle.rules.specs.State.{widthOf}
 use Rattle.rules.specs.Possible.{good}
 use Rattle.rules.specs.Step.{stepRule}
 use Rattle.rules.specs.Calls.{pressed, powerOnRule, runRule, pressRule}
-use Rattle.rules.proofs.Kept.{PossibleSetup, possible-parts, possible-whole, good-parts, good-whole, step-good, run-good, powerOn-good}
+use Rattle.rules.proofs.Kept.{PossibleCore, PossibleSetup, possible-parts, possible-whole, good-parts, good-whole, step-good, run-good, powerOn-good}
 use Rattle.state.proofs.Tests.{both-left, both-right}
 use Rattle.wy50.specs.declared.raw.RawState.{RawState}
 use Rattle.wy50.specs.Raw.{packed, unpacked, named}
 use Rattle.wy50.specs.Promise.{raw, rawGood, badStep, badRun, rawStep, rawRun, rawPress}
-use Rattle.wy50.proofs.RoundTrip.{packed-named, retabbed, retabbed-stops, unpacked-packed, packed-unpacked}
+use Rattle.wy50.proofs.Zeros.{zeroed-possible}
+use Rattle.wy50.proofs.RoundTrip.{packed-named, retabbed, retabbed-stops, unpacked-packed}
 
--- a bad call
+-- a bad call gives the numbers back as they were
 module _ (p : List ℕ) (x : RawState) (bad : rawGood p x ≡ false) where
-  -- a rule over numbers that is bad where the terminal's is
-  bad-call : {A : Type 0} (good-one bad-one : A) → (named x ≡ true → good p (unpacked x) ≡ false → good-one ≡ bad-one)
-      → pick (named x) good-one bad-one ≡ bad-one
+  pub bad-step : (b room : ℕ) → rawStep p x b room ≡ badStep p x
+  unfolding rawStep
+  bad-step b room = rw bad
+
+  pub bad-run : (l : List ℕ) (room : ℕ) → rawRun p x l room ≡ badRun p x l
+  unfolding rawRun
+  bad-run l room = rw bad
+
+  -- a key press, by the terminal's
+  bad-call : {A : Type 0} (one other : A) → (named x ≡ true → good p (unpacked x) ≡ false → one ≡ other) → pick (named x) one other ≡ other
   unfolding rawGood
   bad-call u v h = by (named x) refl where
     by : (t : Bool) → named x ≡ t → pick t u v ≡ v
     by true e = h e (rw e at bad)
     by false e = refl
-
-  pub bad-step : (b room : ℕ) → rawStep p x b room ≡ badStep p x
-  unfolding rawStep stepRule
-  bad-step b room = bad-call _ _ (λ on off. rw (off, packed-unpacked x on))
-
-  pub bad-run : (l : List ℕ) (room : ℕ) → rawRun p x l room ≡ badRun p x l
-  unfolding rawRun runRule
-  bad-run l room = bad-call _ _ (λ on off. rw (off, packed-unpacked x on))
 
   pub bad-press : (v room : ℕ) → rawPress p x v room ≡ pressed 7 []
   unfolding rawPress pressRule
@@ -51,19 +51,17 @@ packed-good p s h =
     let w = possible-parts s (g .1) in
     let u = w .setup in
     let stops = retabbed-stops (widthOf (s .core .screen)) (length (s .setup .tabs) - 52) (s .setup .tabs) (u .tabs) in
+    let core : PossibleCore (s .core) (retabbed s .gathered) =
+    record { screen = w .core .screen; bells = w .core .bells; pending = zeroed-possible (s .core .pending) (s .gathered) (w .core .pending) } in
     let setup : PossibleSetup (widthOf (s .core .screen)) (retabbed s .setup) =
-    record { tabs = stops; keys = u .keys; attributes = u .attributes; features = u .features } in
+    record { tabs = stops; keys = u .keys; labels = u .labels; message = u .message; attributes = u .attributes; features = u .features } in
     rw (packed-named s (w .core .bells), unpacked-packed s (w .narrow))
-    (good-whole p (retabbed s) (g .0) (possible-whole (retabbed s) (w .narrow) (w .core) setup))
+    (good-whole p (retabbed s) (g .0) (possible-whole (retabbed s) (w .narrow) core setup))
 
 pub power-on-good : (p : List ℕ) → length p ≡ 1920 → rawGood (powerOnRule p .page) (raw (powerOnRule p) .state) ≡ true
 power-on-good p h = packed-good (powerOnRule p .page) (powerOnRule p .state) (powerOn-good p h)
 
 module _ (p : List ℕ) (x : RawState) (fine : rawGood p x ≡ true) where
-  is-named : named x ≡ true
-  unfolding rawGood
-  is-named = both-left (named x) (good p (unpacked x)) fine
-
   is-good : good p (unpacked x) ≡ true
   unfolding rawGood
   is-good = both-right (named x) (good p (unpacked x)) fine
@@ -72,10 +70,10 @@ module _ (p : List ℕ) (x : RawState) (fine : rawGood p x ≡ true) where
   unfolding rawStep
   step-kept b room =
       let o = stepRule p (unpacked x) b room in
-      rw is-named (packed-good (o .page) (o .state) (step-good p (unpacked x) b room is-good))
+      rw fine (packed-good (o .page) (o .state) (step-good p (unpacked x) b room is-good))
 
   pub run-kept : (l : List ℕ) (room : ℕ) → rawGood (rawRun p x l room .page) (rawRun p x l room .state) ≡ true
   unfolding rawRun
   run-kept l room =
       let o = runRule p (unpacked x) l room in
-      rw is-named (packed-good (o .page) (o .state) (run-good p (unpacked x) l room is-good))
+      rw fine (packed-good (o .page) (o .state) (run-good p (unpacked x) l room is-good))

@@ -1,4 +1,5 @@
 mod Loops
+mod Zeros
 mod Calls
 pub mod RoundTrip
 pub mod Kept

@@ -1,9 +1,9 @@
--- Demand 3 of the exported calls. A call on numbers that name a state is the rules' call on that state, which agrees in both terminals; on
--- other numbers it is refused in both. So after each call the numbers are the same again.
+-- Demand 3 of the exported calls. A good call is the rules' call on the state that the numbers name, which agrees in both terminals; a bad one
+-- is refused in both. So after each call the numbers are the same again.
 --     raw-noninterference     the theorem
 --     raw-characterised     when one of the six is completed
 -- Assumes nothing.
-use mathlib.Core.Path.{_≡_, refl, sym, ap, ap₂, subst, subst₂}
+use mathlib.Core.Path.{_≡_, refl, sym, ap, ap₂, subst, subst₂, _∙_}
 use mathlib.Core.Bool.{Bool, true, false}
 use mathlib.Core.List.{List, [], _∷_}
 use mathlib.Core.Logic.{_⊎_, inl, inr}
@@ -11,19 +11,25 @@ use Prim.Native.Nat.{ℕ}
 use native.Mathlib.Omega.{arith}
 use lib.ListN.{length}
 use Rattle.rules.specs.declared.State.{State}
-use Rattle.rules.specs.Calls.{Call, Step, Run, Press, ofStep, ofRun, ofPress, Called, callRule}
-use Rattle.rules.proofs.Related.{Related}
+use Rattle.rules.specs.Calls.{Call, Step, Run, Press, ofStep, ofRun, ofPress, Given, Called, callRule}
+use Rattle.rules.proofs.Related.{Related, related-length}
 use Rattle.rules.proofs.Noninterference.{AgreeCall, call-agrees, start-related, related-kept}
 use Rattle.rules.specs.Completed.{CompletedIn}
 use Rattle.rules.proofs.Completed.{call-completed, not-true}
+use Rattle.rules.specs.Possible.{good}
+use Rattle.state.proofs.Tests.{both-left}
 use Rattle.terminal.proofs.Noninterference.{front}
 use Rattle.wy50.specs.declared.raw.RawState.{RawState}
 use Rattle.wy50.specs.Raw.{flag, packed, unpacked, named}
-use Rattle.wy50.specs.Promise.{rawStep, rawRun, rawPress}
+use Rattle.wy50.specs.Promise.{rawGood, rawStep, rawRun, rawPress}
+use Rattle.wy50.proofs.Kept.{bad-step, bad-run, bad-press}
 use Rattle.wy50.specs.Noninterference.{RawGiven, RawCalled, rawCall, RawCompleted, first, later, Made, stepped, ran, sent, Performed, none, next, RawIndistinguishable, RawDemand3, RawCharacterised}
-use Rattle.wy50.proofs.RoundTrip.{packed-unpacked}
 
 -- ---- one call in both terminals
+
+good-named : (p : List ℕ) (x : RawState) → rawGood p x ≡ true → named x ≡ true
+unfolding rawGood
+good-named p x e = both-left (named x) (good p (unpacked x)) e
 
 -- a call of the rules with its state in numbers
 abbrev numbered : Called → RawCalled
@@ -38,11 +44,22 @@ numbered r = record {
   page = r .page;
 }
 
-named-call : (p : List ℕ) (x : RawState) (c : Call) → named x ≡ true → rawCall p x c ≡ numbered (callRule p (unpacked x) c)
-unfolding rawCall rawStep rawRun rawPress callRule ofStep ofRun ofPress
-named-call p x (Step b room) e = rw e
-named-call p x (Run l room) e = rw e
-named-call p x (Press v room) e = rw (e, packed-unpacked x e)
+good-step : (p : List ℕ) (x : RawState) (b room : ℕ) → rawGood p x ≡ true → rawCall p x (Step b room) ≡ numbered (callRule p (unpacked x) (Step b room))
+unfolding rawCall rawStep callRule ofStep
+good-step p x b room e = rw e
+
+good-run : (p : List ℕ) (x : RawState) (l : List ℕ) (room : ℕ) → rawGood p x ≡ true → rawCall p x (Run l room) ≡ numbered (callRule p (unpacked x) (Run l room))
+unfolding rawCall rawRun callRule ofRun
+good-run p x l room e = rw e
+
+-- a key press has no state to give
+abbrev held : RawState → Given → RawGiven
+held x g = record { answer = g .answer; counts = g .counts; reply = g .reply; rest = g .rest; state = x }
+
+good-press : (p : List ℕ) (x : RawState) (v room : ℕ) → rawGood p x ≡ true
+    → rawCall p x (Press v room) ≡ record { given = held x (callRule p (unpacked x) (Press v room) .given); page = p }
+unfolding rawCall rawPress callRule ofPress
+good-press p x v room e = rw (good-named p x e)
 
 record AgreeRaw (p q : List ℕ) (a b : RawCalled) : Type 0 where
   given : b .given ≡ a .given
@@ -61,23 +78,38 @@ unfolding unpacked
 unpacked-on x e = rw e
 
 module _ {p q a b : List ℕ} (h : Related p q a b) (x : RawState) (on : x .modes .protect ≡ 1) where
-  named-agrees : (c : Call) → named x ≡ true → (CompletedIn a (unpacked x) c → ⊥) → AgreeRaw p q (rawCall a x c) (rawCall b x c)
-  named-agrees c e free =
-      let k = call-agrees h (unpacked x) (unpacked-on x on) c (not-true _ (λ t. free (call-completed a (unpacked x) c t))) in
-      rw (named-call a x c e, named-call b x c e)
-      (record { given = rw (k .given); related = k .related; on = numbered-on (callRule a (unpacked x) c .given .state) (k .on) })
+  -- both pages are good, or neither
+  both-good : rawGood a x ≡ rawGood b x
+  unfolding rawGood good
+  both-good = rw (related-length h)
 
-  unnamed-agrees : (c : Call) → named x ≡ false → AgreeRaw p q (rawCall a x c) (rawCall b x c)
-  unfolding rawCall rawStep rawRun rawPress
-  unnamed-agrees (Step v room) e = rw e (record { given = refl; related = h; on = on })
-  unnamed-agrees (Run l room) e = rw e (record { given = refl; related = h; on = on })
-  unnamed-agrees (Press v room) e = rw e (record { given = refl; related = h; on = on })
+  good-agrees : (c : Call) → rawGood a x ≡ true → (CompletedIn a (unpacked x) c → ⊥) → AgreeRaw p q (rawCall a x c) (rawCall b x c)
+  good-agrees c e free = by c (call-agrees h (unpacked x) (unpacked-on x on) c (not-true _ (λ t. free (call-completed a (unpacked x) c t))))
+    where
+      f : rawGood b x ≡ true
+      f = sym both-good ∙ e
+
+      by : (c : Call) → AgreeCall p q (callRule a (unpacked x) c) (callRule b (unpacked x) c) → AgreeRaw p q (rawCall a x c) (rawCall b x c)
+      by (Step v room) k =
+          rw (good-step a x v room e, good-step b x v room f)
+          (record { given = rw (k .given); related = k .related; on = numbered-on (callRule a (unpacked x) (Step v room) .given .state) (k .on) })
+      by (Run l room) k =
+          rw (good-run a x l room e, good-run b x l room f)
+          (record { given = rw (k .given); related = k .related; on = numbered-on (callRule a (unpacked x) (Run l room) .given .state) (k .on) })
+      by (Press v room) k = rw (good-press a x v room e, good-press b x v room f) (record { given = ap (held x) (k .given); related = h; on = on })
+
+  -- a bad call is refused in both
+  bad-agrees : (c : Call) → rawGood a x ≡ false → AgreeRaw p q (rawCall a x c) (rawCall b x c)
+  unfolding rawCall
+  bad-agrees (Step v room) e = rw (bad-step a x e v room, bad-step b x (sym both-good ∙ e) v room) (record { given = refl; related = h; on = on })
+  bad-agrees (Run l room) e = rw (bad-run a x e l room, bad-run b x (sym both-good ∙ e) l room) (record { given = refl; related = h; on = on })
+  bad-agrees (Press v room) e = rw (bad-press a x e v room, bad-press b x (sym both-good ∙ e) v room) (record { given = refl; related = h; on = on })
 
   raw-agrees : (c : Call) → (named x ≡ true → CompletedIn a (unpacked x) c → ⊥) → AgreeRaw p q (rawCall a x c) (rawCall b x c)
-  raw-agrees c free = by (named x) refl where
-    by : (t : Bool) → named x ≡ t → AgreeRaw p q (rawCall a x c) (rawCall b x c)
-    by true e = named-agrees c e (free e)
-    by false e = unnamed-agrees c e
+  raw-agrees c free = by (rawGood a x) refl where
+    by : (t : Bool) → rawGood a x ≡ t → AgreeRaw p q (rawCall a x c) (rawCall b x c)
+    by true e = good-agrees c e (free (good-named a x e))
+    by false e = bad-agrees c e
 
 -- ---- calls whose promises hold
 

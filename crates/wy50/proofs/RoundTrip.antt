@@ -1,7 +1,8 @@
 -- There and back: a state's numbers name that state, and the state that numbers name has those numbers.
---     packed-named, unpacked-packed     a state's numbers name a state, and a narrow state with no stop beyond what C holds is that state
+--     packed-named, unpacked-packed     a state's numbers name a state, and a narrow state with no stop beyond what C holds is that state,
+--         but for what means nothing
 --     retabbed-stops     a possible state's stops stay possible
---     packed-unpacked     numbers that name a state are that state's
+--     packed-unpacked     numbers that name a state are that state's, but for what means nothing
 -- Assumes nothing.
 use mathlib.Core.Path.{_≡_, refl, sym, ap, ap₂, _∙_}
 use mathlib.Core.Bool.{Bool, true, false, not}
@@ -12,18 +13,21 @@ use borrow.Author.Tests.{lt-ltb, ltb-true, eq-eqb, eqb-true, eqb-false}
 use lib.Dec.{ltb, eqb}
 use lib.ListN.{length, take, drop, replicate, length-append, length-replicate}
 use lib.Seq.{take-append-seam}
+use Rattle.rules.specs.declared.Argument.the-variants as Argument
+use Rattle.rules.specs.declared.Slot.the-variants as Slot
 use Rattle.rules.specs.declared.Pending.{Pending}
 use Rattle.rules.specs.declared.Pending.the-variants as Pending
 use Rattle.rules.specs.declared.Modes.{Modes}
 use Rattle.rules.specs.declared.State.{State}
 use Rattle.rules.specs.Cell.{both}
-use Rattle.rules.specs.Possible.{allBelow, noStops, tabsOk}
+use Rattle.rules.specs.State.{withTabs}
+use Rattle.rules.specs.Possible.{noStops, tabsOk}
 use Rattle.state.proofs.Tests.{both-left, both-right}
 use Rattle.wy50.specs.declared.raw.RawModes.{RawModes}
 use Rattle.wy50.specs.declared.raw.RawSequence.{RawSequence}
 use Rattle.wy50.specs.declared.raw.RawState.{RawState}
-use Rattle.wy50.specs.Raw.{flag, isOn, sequenceOf, find, pendingOf, sameSequence, isSequence, rawModes, modesOf, areFlags}
-use Rattle.wy50.specs.Raw.{rawKey, keyOf, shown, unshown, packed, unpacked, named}
+use Rattle.wy50.specs.Raw.{allBelow, flag, isOn, sequenceOf, find, pendingOf, sameSequence, isSequence, rawModes, modesOf, areFlags}
+use Rattle.wy50.specs.Raw.{rawKey, keyOf, shown, unshown, gatheredIn, zeroed, packed, unpacked, tidied, named}
 
 -- a flag
 isOn-flag : (b : Bool) → isOn (flag b) ≡ b
@@ -60,25 +64,29 @@ pending-back : (p : Pending) → pendingOf (sequenceOf p) ≡ p
 unfolding find
 pending-back Pending.Idle = refl
 pending-back Pending.Escape = refl
-pending-back Pending.Address = refl
+pending-back (Pending.Awaits Argument.Address) = refl
+pending-back (Pending.Awaits Argument.Segment) = refl
+pending-back (Pending.Awaits Argument.Split) = refl
+pending-back (Pending.Awaits Argument.SplitRow) = refl
+pending-back (Pending.Awaits Argument.Attribute) = refl
+pending-back (Pending.Awaits Argument.Graphic) = refl
+pending-back (Pending.Awaits Argument.FillAttribute) = refl
+pending-back (Pending.Awaits Argument.FillCode) = refl
+pending-back (Pending.Awaits Argument.Feature) = refl
+pending-back (Pending.Awaits Argument.FieldAttribute) = refl
+pending-back (Pending.Awaits Argument.Slot) = refl
 pending-back (Pending.AddressRow r) = refl
-pending-back Pending.Segment = refl
 pending-back (Pending.SegmentNumber n) = refl
 pending-back (Pending.SegmentRow n r) = refl
 pending-back (Pending.DecimalRow n row) = refl
 pending-back (Pending.DecimalColumn row n column) = refl
-pending-back Pending.Split = refl
-pending-back Pending.SplitRow = refl
-pending-back Pending.Attribute = refl
-pending-back Pending.Graphic = refl
-pending-back Pending.FillAttribute = refl
-pending-back Pending.FillCode = refl
-pending-back Pending.Feature = refl
-pending-back Pending.FieldAttribute = refl
 pending-back (Pending.FieldNumber n) = refl
-pending-back Pending.KeyValue = refl
-pending-back (Pending.KeyText v) = refl
-pending-back (Pending.KeyOver v) = refl
+pending-back (Pending.Text (Slot.Key v) n) = refl
+pending-back (Pending.Text (Slot.Label v) n) = refl
+pending-back (Pending.Text Slot.Message n) = refl
+pending-back (Pending.Spoilt (Slot.Key v)) = refl
+pending-back (Pending.Spoilt (Slot.Label v)) = refl
+pending-back (Pending.Spoilt Slot.Message) = refl
 
 same-self : (q : RawSequence) → sameSequence q q ≡ true
 same-self q = rw (self (q .kind), self (q .first), self (q .second), self (q .third)) where
@@ -148,13 +156,15 @@ raw-modes-back m h =
 -- a state's numbers name a state; the bell count of a state is below 256
 pub packed-named : (s : State) → s .core .bells < 256 → named (packed s) ≡ true
 unfolding packed named
-packed-named s h = rw (modes-named (s .core .modes), lt-ltb (s .core .bells) 256 h, sequence-named (s .core .pending), tabs-below (shown (s .setup .tabs)))
+packed-named s h =
+    rw (modes-named (s .core .modes), lt-ltb (s .core .bells) 256 h, sequence-named (s .core .pending), tabs-below (shown (s .setup .tabs)), flag-below (s .setup .shifted))
 
--- and it is that state, with no tab stop but those that C holds
+-- and it is that state, with no tab stop but those that C holds, and zeros where nothing is gathered
 abbrev pub retabbed : State → State
 retabbed s = record {
   core = s .core;
-  setup = record { tabs = unshown (shown (s .setup .tabs)); attributes = s .setup .attributes; features = s .setup .features; keys = s .setup .keys };
+  gathered = zeroed (gatheredIn (sequenceOf (s .core .pending))) (s .gathered);
+  setup = withTabs (s .setup) (unshown (shown (s .setup .tabs)));
 }
 
 no-stops : (n : ℕ) → noStops (replicate n false) ≡ true
@@ -196,13 +206,16 @@ unpacked-packed s n = λ i. record {
     modes = modes-back (s .core .modes) i;
     bells = s .core .bells;
     pending = pending-back (s .core .pending) i;
-    gathered = s .core .gathered;
   };
+  gathered = zeroed (gatheredIn (sequenceOf (s .core .pending))) (s .gathered);
   setup = record {
     tabs = unshown (map-back flag isOn isOn-flag (shown (s .setup .tabs)) i);
     attributes = s .setup .attributes;
     features = s .setup .features;
     keys = map-back rawKey keyOf (λ k. refl) (s .setup .keys) i;
+    labels = map-back rawKey keyOf (λ k. refl) (s .setup .labels) i;
+    message = s .setup .message;
+    shifted = isOn-flag (s .setup .shifted) i;
   };
 }
 
@@ -211,27 +224,35 @@ shown-unshown l =
     let n : length (l ++ replicate 52 false) - 52 ≡ length l = omega (arith, length-append l (replicate 52 false), length-replicate 52 false) in
     rw n (take-append-seam l (replicate 52 false))
 
--- numbers that name a state are that state's
-pub packed-unpacked : (x : RawState) → named x ≡ true → packed (unpacked x) ≡ x
+-- numbers that name a state are that state's, but for what means nothing
+pub packed-unpacked : (x : RawState) → named x ≡ true → packed (unpacked x) ≡ tidied x
 unfolding packed unpacked named
 packed-unpacked x h =
     let a = areFlags (x .modes) in
     let b = ltb (x .bells) 256 in
     let q = isSequence (x .sequence) in
     let t = allBelow 2 (x .tabs) in
-    let r = both-right b (both q t) (both-right a (both b (both q t)) h) in
-    let modes = raw-modes-back (x .modes) (both-left a (both b (both q t)) h) in
-    let sequence = sequence-back (x .sequence) (both-left q t r) in
-    let tabs = ap (map flag) (shown-unshown (map isOn (x .tabs))) ∙ tabs-back (x .tabs) (both-right q t r) in
+    let z = ltb (x .shifted) 2 in
+    let w = both t z in
+    let r = both-right b (both q w) (both-right a (both b (both q w)) h) in
+    let modes = raw-modes-back (x .modes) (both-left a (both b (both q w)) h) in
+    let sequence = sequence-back (x .sequence) (both-left q w r) in
+    let bits = both-right q w r in
+    let tabs = ap (map flag) (shown-unshown (map isOn (x .tabs))) ∙ tabs-back (x .tabs) (both-left t z bits) in
+    let shifted = flag-isOn (x .shifted) (both-right t z bits) in
     let keys = map-back keyOf rawKey (λ k. refl) (x .keys) in
+    let labels = map-back keyOf rawKey (λ k. refl) (x .labels) in
     λ i. record {
       screen = x .screen;
       modes = modes i;
       bells = x .bells;
       sequence = sequence i;
-      gathered = x .gathered;
+      gathered = zeroed (gatheredIn (sequence i)) (x .gathered);
       tabs = tabs i;
       attributes = x .attributes;
       features = x .features;
       keys = keys i;
+      labels = labels i;
+      message = x .message;
+      shifted = shifted i;
     }

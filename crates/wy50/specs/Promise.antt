@@ -1,5 +1,5 @@
--- What the exported calls promise: those of the terminal on the state that the numbers name, and its numbers back. Numbers that name no state
--- answer 7, and nothing changes.
+-- What the exported calls promise: those of the terminal on the state that the numbers name, and its numbers back. Numbers that name no
+-- possible state, and a page of another length, answer 7, and the numbers come back as they were.
 use mathlib.Core.Path.{_≡_}
 use mathlib.Core.Bool.{Bool}
 use mathlib.Core.List.{List, []}
@@ -36,7 +36,7 @@ abbrev pub badStep : List ℕ → RawState → RawOutcome
 badStep p x = record { answer = 7; state = x; page = p; reply = [] }
 
 unfoldable pub rawStep : List ℕ → RawState → ℕ → ℕ → RawOutcome
-rawStep p x b room = pick (named x) (raw (stepRule p (unpacked x) b room)) (badStep p x)
+rawStep p x b room = pick (rawGood p x) (raw (stepRule p (unpacked x) b room)) (badStep p x)
 
 -- a run with its state in numbers
 pub record RawRan : Type 0 where
@@ -65,7 +65,7 @@ badRun p x l = record { answer = 7; taken = 0; refused = 0; reply = []; rest = l
 
 unfoldable pub rawRun : List ℕ → RawState → List ℕ → ℕ → RawRan
 rawRun p x l room =
-    pick (named x) (rawRan (runRule p (unpacked x) l room)) (badRun p x l)
+    pick (rawGood p x) (rawRan (runRule p (unpacked x) l room)) (badRun p x l)
 
 unfoldable pub rawPress : List ℕ → RawState → ℕ → ℕ → Pressed
 rawPress p x v room = pick (named x) (pressRule p (unpacked x) v room) (pressed 7 [])

@@ -1,20 +1,29 @@
 -- A state as C holds it, in numbers: the numbers of a state, and the state that numbers name.
-use mathlib.Core.Bool.{Bool, false}
+use mathlib.Core.Bool.{Bool, true, false}
 use mathlib.Core.List.{List, [], _∷_, _++_, map}
-use Prim.Native.Nat.{ℕ, _-_}
+use Prim.Native.Nat.{ℕ, zero, suc, _-_}
 use lib.ListN.{length, take, replicate}
 use lib.Dec.{ltb, eqb}
-use Rattle.rules.specs.declared.Key.{Key}
+use Rattle.rules.specs.declared.Argument.{Argument}
+use Rattle.rules.specs.declared.Argument.the-variants as Argument
+use Rattle.rules.specs.declared.Slot.{Slot}
+use Rattle.rules.specs.declared.Slot.the-variants as Slot
+use Rattle.rules.specs.declared.ShortText.{ShortText}
+use Rattle.rules.specs.declared.LongText.{LongText}
 use Rattle.rules.specs.declared.Modes.{Modes}
 use Rattle.rules.specs.declared.Pending.{Pending}
 use Rattle.rules.specs.declared.Pending.the-variants as Pending
 use Rattle.rules.specs.declared.State.{State}
-use Rattle.rules.specs.Cell.{pick, both}
-use Rattle.rules.specs.Possible.{allBelow}
+use Rattle.rules.specs.Cell.{pick, both, either}
 use Rattle.wy50.specs.declared.raw.RawKey.{RawKey}
+use Rattle.wy50.specs.declared.raw.RawMessage.{RawMessage}
 use Rattle.wy50.specs.declared.raw.RawModes.{RawModes}
 use Rattle.wy50.specs.declared.raw.RawSequence.{RawSequence}
 use Rattle.wy50.specs.declared.raw.RawState.{RawState}
+
+unfoldable pub allBelow : ℕ → List ℕ → Bool
+allBelow n [] = true
+allBelow n (x ∷ l) = both (ltb x n) (allBelow n l)
 
 -- a mode or a tab stop as a number, and back
 abbrev pub flag : Bool → ℕ
@@ -26,53 +35,81 @@ isOn v = eqb v 1
 abbrev sequence : ℕ → ℕ → ℕ → ℕ → RawSequence
 sequence k x y z = record { kind = k; first = x; second = y; third = z }
 
+-- the kind of an awaited argument
+abbrev pub kindOf : Argument → ℕ
+kindOf Argument.Address = 2
+kindOf Argument.Segment = 4
+kindOf Argument.Split = 9
+kindOf Argument.SplitRow = 10
+kindOf Argument.Attribute = 11
+kindOf Argument.Graphic = 12
+kindOf Argument.FillAttribute = 13
+kindOf Argument.FillCode = 14
+kindOf Argument.Feature = 15
+kindOf Argument.FieldAttribute = 16
+kindOf Argument.Slot = 18
+
+abbrev pub textSequence : Slot → ℕ → RawSequence
+textSequence (Slot.Key v) n = sequence 19 v n 0
+textSequence (Slot.Label v) n = sequence 21 v n 0
+textSequence Slot.Message n = sequence 23 0 n 0
+
+abbrev pub spoiltSequence : Slot → RawSequence
+spoiltSequence (Slot.Key v) = sequence 20 v 0 0
+spoiltSequence (Slot.Label v) = sequence 22 v 0 0
+spoiltSequence Slot.Message = sequence 24 0 0 0
+
 -- each sequence's kind, and its numbers in their order; the others are 0
 abbrev pub sequenceOf : Pending → RawSequence
 sequenceOf Pending.Idle = sequence 0 0 0 0
 sequenceOf Pending.Escape = sequence 1 0 0 0
-sequenceOf Pending.Address = sequence 2 0 0 0
+sequenceOf (Pending.Awaits a) = sequence (kindOf a) 0 0 0
 sequenceOf (Pending.AddressRow r) = sequence 3 r 0 0
-sequenceOf Pending.Segment = sequence 4 0 0 0
 sequenceOf (Pending.SegmentNumber n) = sequence 5 n 0 0
 sequenceOf (Pending.SegmentRow n r) = sequence 6 n r 0
 sequenceOf (Pending.DecimalRow n row) = sequence 7 n row 0
 sequenceOf (Pending.DecimalColumn row n column) = sequence 8 row n column
-sequenceOf Pending.Split = sequence 9 0 0 0
-sequenceOf Pending.SplitRow = sequence 10 0 0 0
-sequenceOf Pending.Attribute = sequence 11 0 0 0
-sequenceOf Pending.Graphic = sequence 12 0 0 0
-sequenceOf Pending.FillAttribute = sequence 13 0 0 0
-sequenceOf Pending.FillCode = sequence 14 0 0 0
-sequenceOf Pending.Feature = sequence 15 0 0 0
-sequenceOf Pending.FieldAttribute = sequence 16 0 0 0
 sequenceOf (Pending.FieldNumber n) = sequence 17 n 0 0
-sequenceOf Pending.KeyValue = sequence 18 0 0 0
-sequenceOf (Pending.KeyText v) = sequence 19 v 0 0
-sequenceOf (Pending.KeyOver v) = sequence 20 v 0 0
+sequenceOf (Pending.Text x n) = textSequence x n
+sequenceOf (Pending.Spoilt x) = spoiltSequence x
+
+-- how many bytes of a text are gathered, by the sequence: none where no text is under way
+abbrev pub gatheredIn : RawSequence → ℕ
+gatheredIn q = pick (either (eqb (q .kind) 19) (either (eqb (q .kind) 21) (eqb (q .kind) 23))) (q .second) 0
+
+-- zeros behind the first n bytes
+unfoldable pub zeroed : ℕ → List ℕ → List ℕ
+zeroed n [] = []
+zeroed zero (b ∷ g) = 0 ∷ zeroed zero g
+zeroed (suc n) (b ∷ g) = b ∷ zeroed n g
 
 -- the sequence of each kind but 0, with these numbers
 abbrev pub kinds : ℕ → ℕ → ℕ → List (ℕ × Pending)
 kinds x y z =
     (1, Pending.Escape)
-    ∷ (2, Pending.Address)
+    ∷ (2, Pending.Awaits Argument.Address)
     ∷ (3, Pending.AddressRow x)
-    ∷ (4, Pending.Segment)
+    ∷ (4, Pending.Awaits Argument.Segment)
     ∷ (5, Pending.SegmentNumber x)
     ∷ (6, Pending.SegmentRow x y)
     ∷ (7, Pending.DecimalRow x y)
     ∷ (8, Pending.DecimalColumn x y z)
-    ∷ (9, Pending.Split)
-    ∷ (10, Pending.SplitRow)
-    ∷ (11, Pending.Attribute)
-    ∷ (12, Pending.Graphic)
-    ∷ (13, Pending.FillAttribute)
-    ∷ (14, Pending.FillCode)
-    ∷ (15, Pending.Feature)
-    ∷ (16, Pending.FieldAttribute)
+    ∷ (9, Pending.Awaits Argument.Split)
+    ∷ (10, Pending.Awaits Argument.SplitRow)
+    ∷ (11, Pending.Awaits Argument.Attribute)
+    ∷ (12, Pending.Awaits Argument.Graphic)
+    ∷ (13, Pending.Awaits Argument.FillAttribute)
+    ∷ (14, Pending.Awaits Argument.FillCode)
+    ∷ (15, Pending.Awaits Argument.Feature)
+    ∷ (16, Pending.Awaits Argument.FieldAttribute)
     ∷ (17, Pending.FieldNumber x)
-    ∷ (18, Pending.KeyValue)
-    ∷ (19, Pending.KeyText x)
-    ∷ (20, Pending.KeyOver x)
+    ∷ (18, Pending.Awaits Argument.Slot)
+    ∷ (19, Pending.Text (Slot.Key x) y)
+    ∷ (20, Pending.Spoilt (Slot.Key x))
+    ∷ (21, Pending.Text (Slot.Label x) y)
+    ∷ (22, Pending.Spoilt (Slot.Label x))
+    ∷ (23, Pending.Text Slot.Message y)
+    ∷ (24, Pending.Spoilt Slot.Message)
     ∷ []
 
 -- the sequence at a kind in a list; none, where the kind is not there
@@ -119,11 +156,17 @@ areFlags m =
     both (both (ltb (m .protect) 2) (both (ltb (m .mark) 2) (ltb (m .insert) 2)))
     (both (ltb (m .autoscroll) 2) (both (ltb (m .locked) 2) (ltb (m .local) 2)))
 
-abbrev pub rawKey : Key → RawKey
+abbrev pub rawKey : ShortText → RawKey
 rawKey k = record { len = k .len; bytes = k .bytes }
 
-abbrev pub keyOf : RawKey → Key
+abbrev pub keyOf : RawKey → ShortText
 keyOf k = record { len = k .len; bytes = k .bytes }
+
+abbrev pub rawMessage : LongText → RawMessage
+rawMessage m = record { len = m .len; bytes = m .bytes }
+
+abbrev pub messageOf : RawMessage → LongText
+messageOf m = record { len = m .len; bytes = m .bytes }
 
 -- the tab stops that C holds are those of 80 columns: the last 52 are none in every possible state, until request A11 shows them
 abbrev pub shown : List Bool → List Bool
@@ -132,7 +175,8 @@ shown tabs = take (length tabs - 52) tabs
 abbrev pub unshown : List Bool → List Bool
 unshown tabs = tabs ++ replicate 52 false
 
--- the numbers of a state; a possible screen is narrow
+-- the numbers of a state; a possible screen is narrow. Where nothing is gathered C gets zeros, so that two states that mean the same are the same
+-- numbers
 unfoldable pub packed : State → RawState
 packed s = record {
   screen = record {
@@ -144,11 +188,14 @@ packed s = record {
   modes = rawModes (s .core .modes);
   bells = s .core .bells;
   sequence = sequenceOf (s .core .pending);
-  gathered = rawKey (s .core .gathered);
+  gathered = zeroed (gatheredIn (sequenceOf (s .core .pending))) (s .gathered);
   tabs = map flag (shown (s .setup .tabs));
   attributes = s .setup .attributes;
   features = s .setup .features;
   keys = map rawKey (s .setup .keys);
+  labels = map rawKey (s .setup .labels);
+  message = rawMessage (s .setup .message);
+  shifted = flag (s .setup .shifted);
 }
 
 -- the state that numbers name
@@ -159,11 +206,36 @@ unpacked x = record {
     modes = modesOf (x .modes);
     bells = x .bells;
     pending = pendingOf (x .sequence);
-    gathered = keyOf (x .gathered);
   };
-  setup = record { tabs = unshown (map isOn (x .tabs)); attributes = x .attributes; features = x .features; keys = map keyOf (x .keys) };
+  gathered = x .gathered;
+  setup = record {
+    tabs = unshown (map isOn (x .tabs));
+    attributes = x .attributes;
+    features = x .features;
+    keys = map keyOf (x .keys);
+    labels = map keyOf (x .labels);
+    message = messageOf (x .message);
+    shifted = isOn (x .shifted);
+  };
 }
 
--- whether numbers name a state: modes and tab stops 0 or 1, bells below 256, a sequence's own numbers
+-- the numbers with zeros where nothing is gathered
+abbrev pub tidied : RawState → RawState
+tidied x = record {
+  screen = x .screen;
+  modes = x .modes;
+  bells = x .bells;
+  sequence = x .sequence;
+  gathered = zeroed (gatheredIn (x .sequence)) (x .gathered);
+  tabs = x .tabs;
+  attributes = x .attributes;
+  features = x .features;
+  keys = x .keys;
+  labels = x .labels;
+  message = x .message;
+  shifted = x .shifted;
+}
+
+-- whether numbers name a state: modes, tab stops and the shifted line 0 or 1, bells below 256, a sequence's own numbers
 unfoldable pub named : RawState → Bool
-named x = both (areFlags (x .modes)) (both (ltb (x .bells) 256) (both (isSequence (x .sequence)) (allBelow 2 (x .tabs))))
+named x = both (areFlags (x .modes)) (both (ltb (x .bells) 256) (both (isSequence (x .sequence)) (both (allBelow 2 (x .tabs)) (ltb (x .shifted) 2))))

@@ -63,8 +63,16 @@ pub extern "C" fn wy50_step(
     let t = step(page, unpack(state), byte, reply);
     let s = t.state;
     let a = t.answer;
+    let n = answer_number(a);
+    if n == 7 {
+        return RawStep {
+            answer: 7,
+            replied: 0,
+            state: state,
+        };
+    }
     RawStep {
-        answer: answer_number(a),
+        answer: n,
         replied: t.replied,
         state: pack(s),
     }
@@ -93,8 +101,18 @@ pub extern "C" fn wy50_run(
     let t = run(page, unpack(state), input, reply);
     let s = t.state;
     let a = t.answer;
+    let n = answer_number(a);
+    if n == 7 {
+        return RawRun {
+            answer: 7,
+            taken: 0,
+            replied: 0,
+            refused: 0,
+            state: state,
+        };
+    }
     RawRun {
-        answer: answer_number(a),
+        answer: n,
         taken: t.taken,
         replied: t.replied,
         refused: t.refused,

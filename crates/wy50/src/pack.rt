@@ -1,16 +1,23 @@
 // The numbers of a state.
 ghost use mathlib.Core.Path.{_≡_};
 ghost use mathlib.Core.List.{map};
-ghost use Rattle.wy50.specs.Raw.{flag, shown, sequenceOf, rawModes, rawKey, packed};
+ghost use Prim.Native.Nat.{_<_};
+ghost use lib.ListN.{getD};
+ghost use Rattle.wy50.specs.Raw.{flag, shown, gatheredIn, zeroed, kindOf, textSequence, spoiltSequence, sequenceOf, rawModes, rawKey, rawMessage, packed};
 use crate::raw::RawKey;
+use crate::raw::RawMessage;
 use crate::raw::RawModes;
 use crate::raw::RawScreen;
 use crate::raw::RawSequence;
 use crate::raw::RawState;
-use rules::Key;
+use rules::Argument;
+use rules::LongText;
 use rules::Modes;
 use rules::Pending;
+use rules::ShortText;
+use rules::Slot;
 use rules::State;
+use state::logic::or;
 
 fn sequence(kind: u16, first: u8, second: u8, third: u16) -> RawSequence
     ensures { λ r. ⌜ r ≡ record { kind = kind; first = first; second = second; third = third } ⌝ }
@@ -23,35 +30,70 @@ fn sequence(kind: u16, first: u8, second: u8, third: u16) -> RawSequence
     }
 }
 
+fn kind_of(a: Argument) -> u16
+    ensures { λ r. ⌜ r ≡ kindOf a ⌝ }
+{
+    match a {
+        Argument::Address => 2,
+        Argument::Segment => 4,
+        Argument::Split => 9,
+        Argument::SplitRow => 10,
+        Argument::Attribute => 11,
+        Argument::Graphic => 12,
+        Argument::FillAttribute => 13,
+        Argument::FillCode => 14,
+        Argument::Feature => 15,
+        Argument::FieldAttribute => 16,
+        Argument::Slot => 18,
+    }
+}
+
+fn text_sequence(x: Slot, n: u8) -> RawSequence
+    ensures { λ r. ⌜ r ≡ textSequence x n ⌝ }
+{
+    match x {
+        Slot::Key(v) => sequence(19, v, n, 0),
+        Slot::Label(v) => sequence(21, v, n, 0),
+        Slot::Message => sequence(23, 0, n, 0),
+    }
+}
+
+fn spoilt_sequence(x: Slot) -> RawSequence
+    ensures { λ r. ⌜ r ≡ spoiltSequence x ⌝ }
+{
+    match x {
+        Slot::Key(v) => sequence(20, v, 0, 0),
+        Slot::Label(v) => sequence(22, v, 0, 0),
+        Slot::Message => sequence(24, 0, 0, 0),
+    }
+}
+
 pub fn sequence_of(p: Pending) -> RawSequence
     ensures { λ r. ⌜ r ≡ sequenceOf p ⌝ }
 {
     match p {
         Pending::Idle => sequence(0, 0, 0, 0),
         Pending::Escape => sequence(1, 0, 0, 0),
-        Pending::Address => sequence(2, 0, 0, 0),
+        Pending::Awaits(a) => sequence(kind_of(a), 0, 0, 0),
         Pending::AddressRow(r) => sequence(3, r, 0, 0),
-        Pending::Segment => sequence(4, 0, 0, 0),
         Pending::SegmentNumber(n) => sequence(5, n, 0, 0),
         Pending::SegmentRow(n, r) => sequence(6, n, r, 0),
         Pending::DecimalRow(n, row) => sequence(7, n, row, 0),
         Pending::DecimalColumn(row, n, column) => sequence(8, row, n, column),
-        Pending::Split => sequence(9, 0, 0, 0),
-        Pending::SplitRow => sequence(10, 0, 0, 0),
-        Pending::Attribute => sequence(11, 0, 0, 0),
-        Pending::Graphic => sequence(12, 0, 0, 0),
-        Pending::FillAttribute => sequence(13, 0, 0, 0),
-        Pending::FillCode => sequence(14, 0, 0, 0),
-        Pending::Feature => sequence(15, 0, 0, 0),
-        Pending::FieldAttribute => sequence(16, 0, 0, 0),
         Pending::FieldNumber(n) => sequence(17, n, 0, 0),
-        Pending::KeyValue => sequence(18, 0, 0, 0),
-        Pending::KeyText(v) => sequence(19, v, 0, 0),
-        Pending::KeyOver(v) => sequence(20, v, 0, 0),
+        Pending::Text(x, n) => text_sequence(x, n),
+        Pending::Spoilt(x) => spoilt_sequence(x),
     }
 }
 
 pub fn flag(b: bool) -> u8
+    ensures { λ r. ⌜ r ≡ flag b ⌝ }
+{
+    if b { 1 } else { 0 }
+}
+
+// Two bytes, so that the state has no padding.
+fn raw_shifted(b: bool) -> u16
     ensures { λ r. ⌜ r ≡ flag b ⌝ }
 {
     if b { 1 } else { 0 }
@@ -70,7 +112,7 @@ fn raw_modes(m: Modes) -> RawModes
     }
 }
 
-fn raw_key(k: Key) -> RawKey
+fn raw_key(k: ShortText) -> RawKey
     ensures { λ r. ⌜ r ≡ rawKey k ⌝ }
 {
     let bytes = k.bytes;
@@ -93,7 +135,7 @@ fn raw_tabs(tabs: [bool; 132]) -> [u8; 80]
     t
 }
 
-fn raw_keys(keys: [Key; 32]) -> [RawKey; 32]
+fn raw_keys(keys: [ShortText; 32]) -> [RawKey; 32]
     ensures { λ r. ⌜ r ≡ map rawKey keys ⌝ }
 {
     let none = RawKey {
@@ -110,6 +152,65 @@ fn raw_keys(keys: [Key; 32]) -> [RawKey; 32]
     t
 }
 
+fn raw_labels(labels: [ShortText; 16]) -> [RawKey; 16]
+    ensures { λ r. ⌜ r ≡ map rawKey labels ⌝ }
+{
+    let none = RawKey {
+        len: 0,
+        bytes: [0; 8],
+    };
+    let mut t = [none; 16];
+    let mut i = 0;
+    while i < 16 {
+        let k = labels[i];
+        t[i] = raw_key(k);
+        i += 1;
+    }
+    t
+}
+
+fn raw_message(m: LongText) -> RawMessage
+    ensures { λ r. ⌜ r ≡ rawMessage m ⌝ }
+{
+    let bytes = m.bytes;
+    RawMessage {
+        len: m.len,
+        bytes: bytes,
+    }
+}
+
+// How many bytes of a text are gathered: the second number of a text's sequence.
+fn gathered_in(q: RawSequence) -> u8
+    ensures { λ r. ⌜ r ≡ gatheredIn q ⌝ }
+{
+    let k = q.kind;
+    if or(k == 19, or(k == 21, k == 23)) {
+        q.second
+    } else {
+        0
+    }
+}
+
+fn byte_or_zero(gathered: [u8; 46], n: u8, i: usize) -> u8
+    requires { ⌜ i < 46 ⌝ }
+    ensures { λ r. ⌜ r ≡ getD (zeroed n gathered) i 0 ⌝ }
+{
+    if i < n as usize { gathered[i] } else { 0 }
+}
+
+// Zeros behind the first n bytes.
+fn raw_gathered(gathered: [u8; 46], n: u8) -> [u8; 46]
+    ensures { λ r. ⌜ r ≡ zeroed n gathered ⌝ }
+{
+    let mut t = [0u8; 46];
+    let mut i = 0;
+    while i < 46 {
+        t[i] = byte_or_zero(gathered, n, i);
+        i += 1;
+    }
+    t
+}
+
 pub fn pack(s: State) -> RawState
     ensures { λ r. ⌜ r ≡ packed s ⌝ }
 {
@@ -118,11 +219,15 @@ pub fn pack(s: State) -> RawState
     let screen = core.screen;
     let modes = core.modes;
     let pending = core.pending;
-    let gathered = core.gathered;
+    let gathered = s.gathered;
     let tabs = setup.tabs;
     let attributes = setup.attributes;
     let features = setup.features;
     let keys = setup.keys;
+    let labels = setup.labels;
+    let message = setup.message;
+    let q = sequence_of(pending);
+    let bytes = raw_gathered(gathered, gathered_in(q));
     RawState {
         screen: RawScreen {
             active: screen.active,
@@ -132,11 +237,14 @@ pub fn pack(s: State) -> RawState
         },
         modes: raw_modes(modes),
         bells: core.bells as u16,
-        sequence: sequence_of(pending),
-        gathered: raw_key(gathered),
+        sequence: q,
+        gathered: bytes,
         tabs: raw_tabs(tabs),
         attributes: attributes,
         features: features,
         keys: raw_keys(keys),
+        labels: raw_labels(labels),
+        message: raw_message(message),
+        shifted: raw_shifted(setup.shifted),
     }
 }

@@ -1,10 +1,17 @@
 // The state as C holds it: numbers alone, so that whatever a caller fills in is a value. No struct has padding but the results.
 
-// A function key, or the key text under way: the first `len` of `bytes`.
+// A function key or a label: the first `len` of `bytes`.
 #[repr(C)]
 pub struct RawKey {
     pub len: u8,
     pub bytes: [u8; 8],
+}
+
+// The host message: the first `len` of `bytes`.
+#[repr(C)]
+pub struct RawMessage {
+    pub len: u8,
+    pub bytes: [u8; 46],
 }
 
 #[repr(C)]
@@ -35,18 +42,21 @@ pub struct RawSequence {
     pub third: u16,
 }
 
-// A tab stop is 0 or 1.
+// A tab stop is 0 or 1, and so is `shifted`. `gathered` are the bytes of a text under way; the sequence says how many.
 #[repr(C)]
 pub struct RawState {
     pub screen: RawScreen,
     pub modes: RawModes,
     pub bells: u16,
     pub sequence: RawSequence,
-    pub gathered: RawKey,
+    pub gathered: [u8; 46],
     pub tabs: [u8; 80],
     pub attributes: [u8; 4],
     pub features: [u8; 5],
     pub keys: [RawKey; 32],
+    pub labels: [RawKey; 16],
+    pub message: RawMessage,
+    pub shifted: u16,
 }
 
 #[repr(C)]

@@ -2,22 +2,25 @@
 ghost use mathlib.Core.Path.{_≡_};
 ghost use mathlib.Core.Bool.{true};
 ghost use mathlib.Core.List.{map};
-ghost use Rattle.rules.specs.Possible.{allBelow};
-ghost use Rattle.wy50.specs.Raw.{isOn, unshown, pendingOf, sameSequence, isSequence, areFlags, modesOf, keyOf, named, unpacked};
+ghost use Rattle.wy50.specs.Raw.{allBelow, isOn, unshown, pendingOf, sameSequence, isSequence, areFlags, modesOf, keyOf, messageOf, named, unpacked};
 use crate::pack::sequence_of;
 use crate::raw::RawKey;
+use crate::raw::RawMessage;
 use crate::raw::RawModes;
 use crate::raw::RawSequence;
 use crate::raw::RawState;
+use rules::Argument;
 use rules::Core;
-use rules::Key;
+use rules::LongText;
 use rules::Modes;
 use rules::Pending;
 use rules::Screen;
 use rules::Setup;
+use rules::ShortText;
+use rules::Slot;
 use rules::State;
-use state::keys::no_key;
 use state::logic::and;
+use state::texts::no_text;
 
 // The sequence of a kind, with its numbers; no other kind has one.
 fn pending_of(q: RawSequence) -> Pending
@@ -26,25 +29,29 @@ fn pending_of(q: RawSequence) -> Pending
     let k = q.kind;
     match k {
         1 => Pending::Escape,
-        2 => Pending::Address,
+        2 => Pending::Awaits(Argument::Address),
         3 => Pending::AddressRow(q.first),
-        4 => Pending::Segment,
+        4 => Pending::Awaits(Argument::Segment),
         5 => Pending::SegmentNumber(q.first),
         6 => Pending::SegmentRow(q.first, q.second),
         7 => Pending::DecimalRow(q.first, q.second),
         8 => Pending::DecimalColumn(q.first, q.second, q.third),
-        9 => Pending::Split,
-        10 => Pending::SplitRow,
-        11 => Pending::Attribute,
-        12 => Pending::Graphic,
-        13 => Pending::FillAttribute,
-        14 => Pending::FillCode,
-        15 => Pending::Feature,
-        16 => Pending::FieldAttribute,
+        9 => Pending::Awaits(Argument::Split),
+        10 => Pending::Awaits(Argument::SplitRow),
+        11 => Pending::Awaits(Argument::Attribute),
+        12 => Pending::Awaits(Argument::Graphic),
+        13 => Pending::Awaits(Argument::FillAttribute),
+        14 => Pending::Awaits(Argument::FillCode),
+        15 => Pending::Awaits(Argument::Feature),
+        16 => Pending::Awaits(Argument::FieldAttribute),
         17 => Pending::FieldNumber(q.first),
-        18 => Pending::KeyValue,
-        19 => Pending::KeyText(q.first),
-        20 => Pending::KeyOver(q.first),
+        18 => Pending::Awaits(Argument::Slot),
+        19 => Pending::Text(Slot::Key(q.first), q.second),
+        20 => Pending::Spoilt(Slot::Key(q.first)),
+        21 => Pending::Text(Slot::Label(q.first), q.second),
+        22 => Pending::Spoilt(Slot::Label(q.first)),
+        23 => Pending::Text(Slot::Message, q.second),
+        24 => Pending::Spoilt(Slot::Message),
         _ => Pending::Idle,
     }
 }
@@ -92,7 +99,8 @@ pub fn is_named(x: RawState) -> bool
     let modes = x.modes;
     let sequence = x.sequence;
     let tabs = x.tabs;
-    let rest = and(is_sequence(sequence), are_tabs(tabs));
+    let shifted = x.shifted < 2;
+    let rest = and(is_sequence(sequence), and(are_tabs(tabs), shifted));
     and(are_flags(modes), and(x.bells < 256, rest))
 }
 
@@ -109,11 +117,11 @@ fn modes_of(m: RawModes) -> Modes
     }
 }
 
-fn key_of(k: RawKey) -> Key
+fn key_of(k: RawKey) -> ShortText
     ensures { λ r. ⌜ r ≡ keyOf k ⌝ }
 {
     let bytes = k.bytes;
-    Key {
+    ShortText {
         len: k.len,
         bytes: bytes,
     }
@@ -132,10 +140,10 @@ fn tabs_of(tabs: [u8; 80]) -> [bool; 132]
     t
 }
 
-fn keys_of(keys: [RawKey; 32]) -> [Key; 32]
+fn keys_of(keys: [RawKey; 32]) -> [ShortText; 32]
     ensures { λ r. ⌜ r ≡ map keyOf keys ⌝ }
 {
-    let none = no_key();
+    let none = no_text();
     let mut t = [none; 32];
     let mut i = 0;
     while i < 32 {
@@ -144,6 +152,30 @@ fn keys_of(keys: [RawKey; 32]) -> [Key; 32]
         i += 1;
     }
     t
+}
+
+fn labels_of(labels: [RawKey; 16]) -> [ShortText; 16]
+    ensures { λ r. ⌜ r ≡ map keyOf labels ⌝ }
+{
+    let none = no_text();
+    let mut t = [none; 16];
+    let mut i = 0;
+    while i < 16 {
+        let k = labels[i];
+        t[i] = key_of(k);
+        i += 1;
+    }
+    t
+}
+
+fn message_of(m: RawMessage) -> LongText
+    ensures { λ r. ⌜ r ≡ messageOf m ⌝ }
+{
+    let bytes = m.bytes;
+    LongText {
+        len: m.len,
+        bytes: bytes,
+    }
 }
 
 pub fn unpack(x: RawState) -> State
@@ -157,6 +189,8 @@ pub fn unpack(x: RawState) -> State
     let attributes = x.attributes;
     let features = x.features;
     let keys = x.keys;
+    let labels = x.labels;
+    let message = x.message;
     let screen = x.screen;
     State {
         core: Core {
@@ -170,13 +204,16 @@ pub fn unpack(x: RawState) -> State
             modes: modes_of(modes),
             bells: x.bells as u8,
             pending: pending_of(sequence),
-            gathered: key_of(gathered),
         },
+        gathered: gathered,
         setup: Setup {
             tabs: tabs_of(tabs),
             attributes: attributes,
             features: features,
             keys: keys_of(keys),
+            labels: labels_of(labels),
+            message: message_of(message),
+            shifted: x.shifted == 1,
         },
     }
 }

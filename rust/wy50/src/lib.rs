@@ -21,7 +21,7 @@ mod sys;
 pub use answer::Answer;
 pub use cell::{Cell, Field, Kind, Row};
 use core::fmt;
-pub use sys::{Key, Modes, Screen, Sequence, State};
+pub use sys::{Key, Message, Modes, Screen, Sequence, State};
 
 pub const ROWS: usize = 24;
 pub const COLUMNS: usize = 80;
@@ -29,6 +29,8 @@ pub const COLUMNS: usize = 80;
 pub const CELLS: usize = ROWS * COLUMNS;
 /// A byte that has this room for its reply is never answered [`Answer::NoRoom`].
 pub const LONGEST_REPLY: usize = 1944;
+/// The longest host message.
+pub const MESSAGE_BYTES: usize = 46;
 
 /// What the bytes of a [`Terminal::feed`] came to.
 #[must_use]
@@ -115,6 +117,28 @@ impl Terminal {
         self.state.modes.protect != 0
     }
 
+    /// The host message of ESC F; empty where there is none.
+    pub fn message(&self) -> &[u8] {
+        let message = &self.state.message;
+        front(&message.bytes, message.len)
+    }
+
+    /// The label of a field of ESC z, 30h to 37h or 50h to 57h; empty where it is not set. No other byte is a field.
+    pub fn label(&self, field: u8) -> Option<&[u8]> {
+        let place = match field {
+            0x30..=0x37 => field - 0x30,
+            0x50..=0x57 => field - 0x48,
+            _ => return None,
+        };
+        let label = &self.state.labels[usize::from(place)];
+        Some(front(&label.bytes, label.len))
+    }
+
+    /// The shifted line, the labels of 50h to 57h, is on.
+    pub fn shifted_line(&self) -> bool {
+        self.state.shifted != 0
+    }
+
     /// The rows from the top.
     pub fn rows(&self) -> impl DoubleEndedIterator<Item = Row<'_>> + ExactSizeIterator + '_ {
         self.page.chunks_exact(COLUMNS).map(Row::new)
@@ -134,6 +158,11 @@ impl Terminal {
         };
         cell::fields(&self.page, 0, split, self.protects()).chain(cell::fields(&self.page, split, CELLS, self.protects()))
     }
+}
+
+/// The first bytes of a text; a state that is filled in may count more than there are.
+fn front(bytes: &[u8], len: u8) -> &[u8] {
+    &bytes[..bytes.len().min(usize::from(len))]
 }
 
 impl Default for Terminal {

@@ -1,13 +1,21 @@
 //! What crosses to the library: the structs of include/wy50.h and its calls. All members are numbers, so every bit pattern is a value.
 
-use crate::{CELLS, COLUMNS};
+use crate::{CELLS, COLUMNS, MESSAGE_BYTES};
 
-/// A function key, or the key text under way: the first `len` of `bytes`.
+/// A function key or a key label: the first `len` of `bytes`.
 #[repr(C)]
 #[derive(Clone, Copy, Debug, PartialEq, Eq)]
 pub struct Key {
     pub len: u8,
     pub bytes: [u8; 8],
+}
+
+/// The host message: the first `len` of `bytes`.
+#[repr(C)]
+#[derive(Clone, Copy, Debug, PartialEq, Eq)]
+pub struct Message {
+    pub len: u8,
+    pub bytes: [u8; MESSAGE_BYTES],
 }
 
 /// `split` is the first row of segment 1, from 1, and 0 if there is none. A cursor is a cell of the page, from 0.
@@ -52,11 +60,15 @@ pub struct State {
     pub modes: Modes,
     pub bells: u16,
     pub sequence: Sequence,
-    pub gathered: Key,
+    /// The bytes of a text under way, zeros behind them.
+    pub gathered: [u8; MESSAGE_BYTES],
     pub tabs: [u8; COLUMNS],
     pub attributes: [u8; 4],
     pub features: [u8; 5],
     pub keys: [Key; 32],
+    pub labels: [Key; 16],
+    pub message: Message,
+    pub shifted: u16,
 }
 
 #[repr(C)]

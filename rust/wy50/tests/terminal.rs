@@ -11,7 +11,7 @@ fn fed(terminal: &mut Terminal, bytes: &[u8]) -> Vec<u8> {
 
 #[test]
 fn sizes() {
-    assert_eq!(std::mem::size_of::<State>(), 406);
+    assert_eq!(std::mem::size_of::<State>(), 636);
     assert_eq!(CELLS, ROWS * COLUMNS);
 }
 
@@ -54,6 +54,33 @@ fn bench_8() {
     assert_eq!(t.press(0x40, &mut reply[..1]).answer, Answer::NoRoom);
     fed(&mut t, b"\x0f");
     assert_eq!(t.press(0x40, &mut reply).answer, Answer::Locked);
+}
+
+#[test]
+fn message_labels_and_shifted_line() {
+    let mut t = Terminal::new();
+    assert_eq!((t.message(), t.label(0x30), t.label(0x57), t.label(0x40), t.shifted_line()), (&b""[..], Some(&b""[..]), Some(&b""[..]), None, false));
+    fed(&mut t, b"\x1bFRoast 6 is late\r\x1bz7Help\r");
+    assert_eq!((t.message(), t.label(0x37), t.shifted_line()), (&b"Roast 6 is late"[..], Some(&b"Help"[..]), false));
+    fed(&mut t, b"\x1bzPSend\r");
+    assert_eq!((t.label(0x50), t.shifted_line()), (Some(&b"Send"[..]), true));
+    fed(&mut t, b"\x1bzP\r");
+    assert_eq!((t.label(0x50), t.shifted_line()), (Some(&b""[..]), true));
+    fed(&mut t, b"\x1bz\x7f\x1bF\r");
+    assert_eq!((t.message(), t.shifted_line()), (&b""[..], false));
+    let mut reply = [0; 1];
+    assert_eq!(t.feed(b"\x1bzPninebytes\r", &mut reply).refused, 1);
+    assert_eq!(t.feed(b"\x1bFa\x1bb\r", &mut reply).refused, 1);
+    assert_eq!((t.label(0x50), t.message(), t.shifted_line()), (Some(&b""[..]), &b""[..], false));
+    assert!(t.cells().all(|c| c.0 == 0) && t.cursor() == 0);
+    assert_eq!(t.state(), {
+        let mut on = Terminal::new();
+        fed(&mut on, b"\x1bz7Help\r");
+        &on.state().clone()
+    });
+    let mut state = *t.state();
+    state.message.len = 255;
+    assert_eq!(Terminal::from_parts(*t.page(), state).message().len(), 46);
 }
 
 #[test]

@@ -9,7 +9,9 @@ unfolding powerOn
 power-on-state-spec =
     tie.close
     (tie.spec
-    -- no-key-requires
+    -- no-text-requires
+    (λ c κs. search needs)
+    -- no-long-requires
     (λ c κs. search needs)
     -- returns
-    (λ c. rw (c .no-key .ensures)))
+    (λ c. rw (c .no-long .ensures, c .before .no-text .ensures)))

@@ -26,12 +26,10 @@ run-spec =
     -- returns
     (λ c. run-refused _ _ (sym (c .before .is-good .ensures) ∙ not-true _ (c .if1 .taken)) _ _)
     -- repeat-requires
-    (λ c κs. fine (c .before .before .before .before))
+    (λ c κs. fine (c .before .before .before .before .before))
     -- same-length-2
     (λ c. search needs)
     -- same-length-3
     (λ c. search needs)
     -- returns-2
-    (λ c.
-    let x = c .before .before .before .before .before .before in
-    run-good _ _ (fine (x .before .before .before .before .before)) (x .repeat .ensures .run)))
+    (λ c. run-good _ _ (fine (c .before .before .before .before .before .before .before .before .before .before .before .before .before)) (c .before .before .before .before .before .before .before .repeat .ensures .run)))

@@ -20,14 +20,10 @@ step-spec =
     -- slice-aggregate-repeat
     (λ c. search needs)
     -- repeat-requires
-    (λ c κs.
-    let x = c .before .before .before .before .before in
-    sym (x .before .is-good .ensures) ∙ not-false _ (x .if1 .left))
+    (λ c κs. sym (c .before .before .before .before .before .before .before .is-good .ensures) ∙ not-false _ (c .before .before .before .before .before .before .if1 .left))
     -- same-length-2
     (λ c. search needs)
     -- same-length-3
     (λ c. search needs)
     -- returns-2
-    (λ c.
-    let r = c .before .before .before .before .before .before .repeat in
-    one-byte _ _ _ _ _ _ _ (resultOf (r .result)) (r .ensures .run) (r .ensures .last)))
+    (λ c. one-byte _ _ _ _ _ _ _ (resultOf (c .before .before .before .before .before .before .before .repeat .result)) (c .before .before .before .before .before .before .before .repeat .ensures .run) (c .before .before .before .before .before .before .before .repeat .ensures .last)))

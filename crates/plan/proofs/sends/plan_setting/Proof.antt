@@ -30,6 +30,10 @@ plan-setting-spec =
     (λ c κs. search needs)
     -- changing-requires-4
     (λ c κs. search needs)
+    -- enum-told-2
+    (λ c. search needs)
+    -- changing-requires-5
+    (λ c κs. search needs)
     -- returns
     (λ c. c .changing .ensures ∙ rw (c .before .cursor-column .ensures, c .before .before .before .s .given .1))
     -- returns-2
@@ -37,4 +41,6 @@ plan-setting-spec =
     -- returns-3
     (λ c. c .changing3 .ensures ∙ rw (c .before .before .s2 .given .1))
     -- returns-4
-    (λ c. c .changing4 .ensures ∙ rw (c .before .feature-place .ensures, c .before .before .before .s3 .given .1)))
+    (λ c. c .changing4 .ensures ∙ rw (c .before .feature-place .ensures, c .before .before .before .s3 .given .1))
+    -- returns-5
+    (λ c. c .changing5 .ensures ∙ rw (c .before .enum-told2 .given .1)))

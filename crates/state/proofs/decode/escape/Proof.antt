@@ -127,4 +127,6 @@ escape-spec =
     -- returns-57
     (λ c. sym (ap escapeRule (c .match .keys57)))
     -- returns-58
+    (λ c. sym (ap escapeRule (c .match .keys58)))
+    -- returns-59
     (λ c. sym (none (Unit {0}) (c .before .args .b) escapes (Decoded.Reject Answer.Unknown) (c .match .rest) .1)))

@@ -1,6 +1,6 @@
 -- `state::keys::key_at` meets its contract: the place of a key value is below 32.
 use native.Mathlib.Omega.{arith}
-use Rattle.state.proofs.KeyText.{value}
+use Rattle.state.proofs.Gathered.{key-there}
 use borrow.Author.Needs.{needs}
 use Rattle.state.proofs.keys.key_at.Statement.{statement}
 use Rattle.state.proofs.keys.key_at.Tie as tie
@@ -16,6 +16,6 @@ key-at-spec =
     -- mul-result
     (λ c. search needs)
     -- array-copy-out-result
-    (λ c. let k = value (c .before .args .v) (c .before .pre) in omega (arith, c .key-place .ensures))
+    (λ c. let k = key-there (c .before .args .v) (c .before .pre) in omega (arith, c .key-place .ensures))
     -- returns
     (λ c. rw (c .before .key-place .ensures)))

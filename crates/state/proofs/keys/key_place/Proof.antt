@@ -1,7 +1,7 @@
--- `state::keys::key_place` meets its contract: a key value is 40h or more.
-use native.Mathlib.Omega.{arith}
-use Rattle.state.proofs.Tests.{tests}
-use Rattle.state.proofs.KeyText.{value}
+-- `state::keys::key_place` meets its contract.
+use mathlib.Core.Path.{_∙_}
+use borrow.Author.Tests.{lt-ltb, le-ltb}
+use borrow.Author.Needs.{needs}
 use Rattle.state.proofs.keys.key_place.Statement.{statement}
 use Rattle.state.proofs.keys.key_place.Tie as tie
 
@@ -9,11 +9,11 @@ pub key-place-spec : {M : Type 1} → statement M
 key-place-spec =
     tie.close
     (tie.spec
-    -- sub-result
-    (λ c. let k = value (c .before .args .v) (c .before .pre) in omega arith)
-    -- sub-result-2
-    (λ c. let k = value (c .before .args .v) (c .before .pre) in omega arith)
+    -- minus-requires
+    (λ c κs. search needs)
+    -- minus-requires-2
+    (λ c κs. search needs)
     -- returns
-    (λ c. search tests)
+    (λ c. c .minus .ensures ∙ rw (lt-ltb (c .before .before .args .v) 96 (c .before .if1 .taken)))
     -- returns-2
-    (λ c. search tests))
+    (λ c. c .minus2 .ensures ∙ rw (le-ltb (c .before .before .args .v) 96 (c .before .if1 .left))))

@@ -8,30 +8,30 @@ use borrow.Author.Needs.{needs}
 use borrow.Author.Tests.{not-true, not-false}
 use lib.ListN.{length, drop}
 use lib.Seq.{drop-cons, drop-length}
-use Rattle.rules.specs.Possible.{keysOk}
+use Rattle.rules.specs.Slot.{textsOk}
 use Rattle.state.proofs.possible.keys_ok.Statement.{statement}
 use Rattle.state.proofs.possible.keys_ok.Tie as tie
 
 abbrev Inv-loop : tie.InvT-loop
-Inv-loop keys i₀ i = (i ≤ 32) × (keysOk keys ≡ keysOk (drop i keys))
+Inv-loop keys i₀ i = (i ≤ 32) × (textsOk 0 keys ≡ textsOk 0 (drop i keys))
 
 abbrev μ-loop : tie.MeasureT-loop
 μ-loop keys i₀ i = 32 - i
 
 returns : tie.Need-returns Inv-loop μ-loop
-unfolding keysOk
+unfolding textsOk
 returns c =
     let x = c .before .before .before .before .loop in
     let keys = c .before .before .before .before .before .args .t1 in
     let h : x .i < length keys = search needs in
     sym (x .inv .1 ∙ rw (
       drop-cons keys (x .i) record { len = 0; bytes = [] } h,
-      ← c .before .key-ok .ensures,
-      not-true (c .before .key-ok .result) (c .if1 .taken),
+      ← c .before .short-ok .ensures,
+      not-true (c .before .short-ok .result) (c .if1 .taken),
     ))
 
 loop-again : tie.Need-loop-again Inv-loop μ-loop
-unfolding keysOk
+unfolding textsOk
 loop-again c =
     let x = c .before .before .before .before .loop in
     let keys = c .before .before .before .before .before .args .t1 in
@@ -39,14 +39,14 @@ loop-again c =
       omega arith,
       x .inv .1 ∙ rw (
         drop-cons keys (x .i) record { len = 0; bytes = [] } h,
-        ← c .before .key-ok .ensures,
-        not-false (c .before .key-ok .result) (c .if1 .left),
+        ← c .before .short-ok .ensures,
+        not-false (c .before .short-ok .result) (c .if1 .left),
         add-one,
       ),
     )
 
 returns-2 : tie.Need-returns-2 Inv-loop μ-loop
-unfolding keysOk
+unfolding textsOk
 returns-2 c =
     let x = c .before .loop in
     let i : length (c .before .before .args .t1) ≡ x .i = search needs in
@@ -64,7 +64,7 @@ keys-ok-spec =
     (λ c. search needs)
     -- array-copy-out-k
     (λ c. search needs)
-    -- key-ok-requires
+    -- short-ok-requires
     (λ c κs. search needs)
     -- returns
     returns

@@ -1,4 +1,4 @@
--- `state::possible::pending_ok` meets its contract: each arm is a clause of the definition.
+-- `state::possible::pending_ok` meets its contract. Each arm is a clause of the definition.
 use mathlib.Core.Path.{_∙_}
 use Rattle.rules.specs.Possible.{pendingOk}
 use borrow.Author.Needs.{needs}
@@ -18,8 +18,6 @@ pending-ok-spec =
     (λ c. search needs)
     -- enum-known-p
     (λ c. search needs)
-    -- enum-told-4
-    (λ c. search needs)
     -- enum-known-p-2
     (λ c. search needs)
     -- enum-known-p-3
@@ -38,37 +36,19 @@ pending-ok-spec =
     (λ c κs. search needs)
     -- and-requires-2
     (λ c κs. search needs)
-    -- enum-told-5
-    (λ c. search needs)
-    -- enum-told-6
-    (λ c. search needs)
-    -- enum-told-7
-    (λ c. search needs)
-    -- enum-told-8
-    (λ c. search needs)
-    -- enum-told-9
-    (λ c. search needs)
-    -- enum-told-10
-    (λ c. search needs)
-    -- enum-told-11
-    (λ c. search needs)
-    -- enum-told-12
-    (λ c. search needs)
     -- enum-known-p-6
-    (λ c. search needs)
-    -- enum-told-13
     (λ c. search needs)
     -- enum-known-p-7
     (λ c. search needs)
-    -- is-key-requires
+    -- slot-ok-requires
     (λ c κs. search needs)
-    -- key-ok-requires
+    -- gathered-ok-requires
     (λ c κs. search needs)
     -- and-requires-3
     (λ c κs. search needs)
     -- enum-known-p-8
     (λ c. search needs)
-    -- is-key-requires-2
+    -- slot-ok-requires-2
     (λ c κs. search needs)
     -- returns
     (λ c. rw (c .enum-told .given .1))
@@ -79,40 +59,16 @@ pending-ok-spec =
     -- returns-4
     (λ c. rw (c .before .p .given .1))
     -- returns-5
-    (λ c. rw (c .enum-told4 .given .1))
-    -- returns-6
     (λ c. rw (c .before .p2 .given .1))
-    -- returns-7
+    -- returns-6
     (λ c. c .and .ensures ∙ rw (c .before .before .p3 .given .1))
-    -- returns-8
+    -- returns-7
     (λ c. c .digits-ok .ensures ∙ rw (c .before .before .p4 .given .1))
-    -- returns-9
+    -- returns-8
     (λ c. c .and2 .ensures ∙ rw (c .before .digits-ok2 .ensures, c .before .before .before .p5 .given .1))
-    -- returns-10
-    (λ c. rw (c .enum-told5 .given .1))
-    -- returns-11
-    (λ c. rw (c .enum-told6 .given .1))
-    -- returns-12
-    (λ c. rw (c .enum-told7 .given .1))
-    -- returns-13
-    (λ c. rw (c .enum-told8 .given .1))
-    -- returns-14
-    (λ c. rw (c .enum-told9 .given .1))
-    -- returns-15
-    (λ c. rw (c .enum-told10 .given .1))
-    -- returns-16
-    (λ c. rw (c .enum-told11 .given .1))
-    -- returns-17
-    (λ c. rw (c .enum-told12 .given .1))
-    -- returns-18
+    -- returns-9
     (λ c. rw (c .before .p6 .given .1))
-    -- returns-19
-    (λ c. rw (c .enum-told13 .given .1))
-    -- returns-20
-    (λ c. c .and3 .ensures ∙ rw (
-      c .before .key-ok .ensures,
-      c .before .before .is-key .ensures,
-      c .before .before .before .before .p7 .given .1,
-    ))
-    -- returns-21
-    (λ c. c .is-key2 .ensures ∙ rw (c .before .before .p8 .given .1)))
+    -- returns-10
+    (λ c. c .and3 .ensures ∙ rw (c .before .gathered-ok .ensures, c .before .before .slot-ok .ensures, c .before .before .before .before .p7 .given .1))
+    -- returns-11
+    (λ c. c .slot-ok2 .ensures ∙ rw (c .before .before .p8 .given .1)))

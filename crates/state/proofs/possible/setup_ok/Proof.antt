@@ -20,16 +20,29 @@ setup-ok-spec =
     (λ c κs. search needs)
     -- and-requires-2
     (λ c κs. search needs)
-    -- keys-ok-requires
+    -- labels-ok-requires
+    (λ c κs. search needs)
+    -- message-ok-requires
     (λ c κs. search needs)
     -- and-requires-3
     (λ c κs. search needs)
+    -- and-requires-4
+    (λ c κs. search needs)
+    -- keys-ok-requires
+    (λ c κs. search needs)
+    -- and-requires-5
+    (λ c κs. search needs)
     -- returns
     (λ c.
-    let lists = c .before .before in
-    c .and3 .ensures
+    let texts = c .before .before in
+    let lists = texts .before .before .before .before in
+    c .and5 .ensures
     ∙ rw (
       c .before .keys-ok .ensures,
+      texts .and4 .ensures,
+      texts .before .and3 .ensures,
+      texts .before .before .message-ok .ensures,
+      texts .before .before .before .labels-ok .ensures,
       lists .and2 .ensures,
       lists .before .and .ensures,
       lists .before .before .features-ok .ensures,

@@ -1,4 +1,4 @@
--- `state::setup::changed` meets its contract: each arm is a clause of the definition.
+-- `state::setup::changed` meets its contract.
 use Rattle.rules.specs.State.{changed}
 use borrow.Author.Needs.{needs}
 use Rattle.state.proofs.setup.changed.Statement.{statement}
@@ -25,12 +25,8 @@ changed-spec =
     (λ c. search needs)
     -- set-feature-requires
     (λ c κs. search needs)
-    -- enum-known-x-4
+    -- enum-told-3
     (λ c. search needs)
-    -- clean-key-requires
-    (λ c κs. search needs)
-    -- set-key-requires
-    (λ c κs. search needs)
     -- returns
     (λ c. rw (c .enum-told .given .1))
     -- returns-2
@@ -42,4 +38,4 @@ changed-spec =
     -- returns-5
     (λ c. rw (c .set-feature .ensures, c .before .before .before .x3 .given .1))
     -- returns-6
-    (λ c. rw (c .set-key .ensures, c .before .clean-key .ensures, c .before .before .before .before .x4 .given .1)))
+    (λ c. rw (c .enum-told3 .given .1)))

@@ -9,20 +9,39 @@ unfolding packed
 pack-spec =
     tie.close
     (tie.spec
-    -- raw-modes-requires
-    (λ c κs. search needs)
-    -- cast-t14
-    (λ c. search needs)
     -- sequence-of-requires
     (λ c κs. search needs)
-    -- raw-key-requires
+    -- gathered-in-requires
     (λ c κs. search needs)
+    -- raw-gathered-requires
+    (λ c κs. search needs)
+    -- raw-modes-requires
+    (λ c κs. search needs)
+    -- cast-t18
+    (λ c. search needs)
     -- raw-tabs-requires
     (λ c κs. search needs)
     -- raw-keys-requires
     (λ c κs. search needs)
+    -- raw-labels-requires
+    (λ c κs. search needs)
+    -- raw-message-requires
+    (λ c κs. search needs)
+    -- raw-shifted-requires
+    (λ c κs. search needs)
     -- returns
     (λ c.
-    let k = c .before .before in
-    let q = k .before in
-    rw (c .raw-keys .ensures, c .before .raw-tabs .ensures, k .raw-key .ensures, q .sequence-of .ensures, q .before .before .raw-modes .ensures)))
+    let k = c .before .before .before in
+    let m = k .before .before .before in
+    let g = m .before in
+    rw (
+      c .raw-shifted .ensures,
+      c .before .raw-message .ensures,
+      c .before .before .raw-labels .ensures,
+      k .raw-keys .ensures,
+      k .before .raw-tabs .ensures,
+      m .raw-modes .ensures,
+      g .raw-gathered .ensures,
+      g .before .gathered-in .ensures,
+      g .before .before .sequence-of .ensures,
+    )))

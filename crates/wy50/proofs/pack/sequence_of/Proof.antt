@@ -17,121 +17,63 @@ sequence-of-spec =
     (λ c. search needs)
     -- sequence-requires-2
     (λ c κs. search needs)
-    -- enum-told-3
-    (λ c. search needs)
-    -- sequence-requires-3
-    (λ c κs. search needs)
     -- enum-known-p
     (λ c. search needs)
-    -- sequence-requires-4
+    -- kind-of-requires
     (λ c κs. search needs)
-    -- enum-told-4
-    (λ c. search needs)
-    -- sequence-requires-5
+    -- sequence-requires-3
     (λ c κs. search needs)
     -- enum-known-p-2
     (λ c. search needs)
-    -- sequence-requires-6
+    -- sequence-requires-4
     (λ c κs. search needs)
     -- enum-known-p-3
     (λ c. search needs)
-    -- sequence-requires-7
+    -- sequence-requires-5
     (λ c κs. search needs)
     -- enum-known-p-4
     (λ c. search needs)
-    -- sequence-requires-8
+    -- sequence-requires-6
     (λ c κs. search needs)
     -- enum-known-p-5
     (λ c. search needs)
-    -- sequence-requires-9
-    (λ c κs. search needs)
-    -- enum-told-5
-    (λ c. search needs)
-    -- sequence-requires-10
-    (λ c κs. search needs)
-    -- enum-told-6
-    (λ c. search needs)
-    -- sequence-requires-11
-    (λ c κs. search needs)
-    -- enum-told-7
-    (λ c. search needs)
-    -- sequence-requires-12
-    (λ c κs. search needs)
-    -- enum-told-8
-    (λ c. search needs)
-    -- sequence-requires-13
-    (λ c κs. search needs)
-    -- enum-told-9
-    (λ c. search needs)
-    -- sequence-requires-14
-    (λ c κs. search needs)
-    -- enum-told-10
-    (λ c. search needs)
-    -- sequence-requires-15
-    (λ c κs. search needs)
-    -- enum-told-11
-    (λ c. search needs)
-    -- sequence-requires-16
-    (λ c κs. search needs)
-    -- enum-told-12
-    (λ c. search needs)
-    -- sequence-requires-17
+    -- sequence-requires-7
     (λ c κs. search needs)
     -- enum-known-p-6
     (λ c. search needs)
-    -- sequence-requires-18
-    (λ c κs. search needs)
-    -- enum-told-13
-    (λ c. search needs)
-    -- sequence-requires-19
+    -- sequence-requires-8
     (λ c κs. search needs)
     -- enum-known-p-7
     (λ c. search needs)
-    -- sequence-requires-20
+    -- sequence-requires-9
     (λ c κs. search needs)
     -- enum-known-p-8
     (λ c. search needs)
-    -- sequence-requires-21
+    -- text-sequence-requires
+    (λ c κs. search needs)
+    -- enum-known-p-9
+    (λ c. search needs)
+    -- spoilt-sequence-requires
     (λ c κs. search needs)
     -- returns
     (λ c. c .sequence .ensures ∙ sym (ap sequenceOf (c .before .enum-told .given .1)))
     -- returns-2
     (λ c. c .sequence2 .ensures ∙ sym (ap sequenceOf (c .before .enum-told2 .given .1)))
     -- returns-3
-    (λ c. c .sequence3 .ensures ∙ sym (ap sequenceOf (c .before .enum-told3 .given .1)))
+    (λ c. c .sequence3 .ensures ∙ rw (c .before .kind-of .ensures) (sym (ap sequenceOf (c .before .before .before .p .given .1))))
     -- returns-4
-    (λ c. c .sequence4 .ensures ∙ sym (ap sequenceOf (c .before .before .p .given .1)))
+    (λ c. c .sequence4 .ensures ∙ sym (ap sequenceOf (c .before .before .p2 .given .1)))
     -- returns-5
-    (λ c. c .sequence5 .ensures ∙ sym (ap sequenceOf (c .before .enum-told4 .given .1)))
+    (λ c. c .sequence5 .ensures ∙ sym (ap sequenceOf (c .before .before .p3 .given .1)))
     -- returns-6
-    (λ c. c .sequence6 .ensures ∙ sym (ap sequenceOf (c .before .before .p2 .given .1)))
+    (λ c. c .sequence6 .ensures ∙ sym (ap sequenceOf (c .before .before .p4 .given .1)))
     -- returns-7
-    (λ c. c .sequence7 .ensures ∙ sym (ap sequenceOf (c .before .before .p3 .given .1)))
+    (λ c. c .sequence7 .ensures ∙ sym (ap sequenceOf (c .before .before .p5 .given .1)))
     -- returns-8
-    (λ c. c .sequence8 .ensures ∙ sym (ap sequenceOf (c .before .before .p4 .given .1)))
+    (λ c. c .sequence8 .ensures ∙ sym (ap sequenceOf (c .before .before .p6 .given .1)))
     -- returns-9
-    (λ c. c .sequence9 .ensures ∙ sym (ap sequenceOf (c .before .before .p5 .given .1)))
+    (λ c. c .sequence9 .ensures ∙ sym (ap sequenceOf (c .before .before .p7 .given .1)))
     -- returns-10
-    (λ c. c .sequence10 .ensures ∙ sym (ap sequenceOf (c .before .enum-told5 .given .1)))
+    (λ c. c .text-sequence .ensures ∙ sym (ap sequenceOf (c .before .before .p8 .given .1)))
     -- returns-11
-    (λ c. c .sequence11 .ensures ∙ sym (ap sequenceOf (c .before .enum-told6 .given .1)))
-    -- returns-12
-    (λ c. c .sequence12 .ensures ∙ sym (ap sequenceOf (c .before .enum-told7 .given .1)))
-    -- returns-13
-    (λ c. c .sequence13 .ensures ∙ sym (ap sequenceOf (c .before .enum-told8 .given .1)))
-    -- returns-14
-    (λ c. c .sequence14 .ensures ∙ sym (ap sequenceOf (c .before .enum-told9 .given .1)))
-    -- returns-15
-    (λ c. c .sequence15 .ensures ∙ sym (ap sequenceOf (c .before .enum-told10 .given .1)))
-    -- returns-16
-    (λ c. c .sequence16 .ensures ∙ sym (ap sequenceOf (c .before .enum-told11 .given .1)))
-    -- returns-17
-    (λ c. c .sequence17 .ensures ∙ sym (ap sequenceOf (c .before .enum-told12 .given .1)))
-    -- returns-18
-    (λ c. c .sequence18 .ensures ∙ sym (ap sequenceOf (c .before .before .p6 .given .1)))
-    -- returns-19
-    (λ c. c .sequence19 .ensures ∙ sym (ap sequenceOf (c .before .enum-told13 .given .1)))
-    -- returns-20
-    (λ c. c .sequence20 .ensures ∙ sym (ap sequenceOf (c .before .before .p7 .given .1)))
-    -- returns-21
-    (λ c. c .sequence21 .ensures ∙ sym (ap sequenceOf (c .before .before .p8 .given .1))))
+    (λ c. c .spoilt-sequence .ensures ∙ sym (ap sequenceOf (c .before .before .p9 .given .1))))

@@ -7,7 +7,7 @@ use borrow.Author.Needs.{needs}
 use borrow.Author.Tests.{lt-ltb, le-ltb}
 use lib.ListN.{length, drop}
 use lib.Seq.{drop-cons, drop-length}
-use Rattle.rules.specs.Possible.{allBelow}
+use Rattle.wy50.specs.Raw.{allBelow}
 use Rattle.wy50.proofs.unpack.are_tabs.Statement.{statement}
 use Rattle.wy50.proofs.unpack.are_tabs.Tie as tie
 

@@ -16,16 +16,18 @@ is-named-spec =
     (λ c κs. search needs)
     -- and-requires
     (λ c κs. search needs)
-    -- are-flags-requires
-    (λ c κs. search needs)
     -- and-requires-2
     (λ c κs. search needs)
+    -- are-flags-requires
+    (λ c κs. search needs)
     -- and-requires-3
+    (λ c κs. search needs)
+    -- and-requires-4
     (λ c κs. search needs)
     -- returns
     (λ c.
     let flags = c .before .before .before in
     let rest = flags .before in
-    c .and3 .ensures
-    ∙ rw (c .before .and2 .ensures, rest .and .ensures, flags .are-flags .ensures)
-    (rw (rest .before .are-tabs .ensures, rest .before .before .is-sequence .ensures))))
+    c .and4 .ensures
+    ∙ rw (c .before .and3 .ensures, rest .and2 .ensures, rest .before .and .ensures, flags .are-flags .ensures)
+    (rw (rest .before .before .are-tabs .ensures, rest .before .before .before .is-sequence .ensures))))

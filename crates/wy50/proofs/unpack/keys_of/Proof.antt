@@ -19,7 +19,7 @@ keys-of-spec =
     (tie.spec
     Inv-loop
     μ-loop
-    -- no-key-requires
+    -- no-text-requires
     (λ c κs. search needs)
     -- loop-holds
     (λ c. begin keyOf _ _ (search needs))

@@ -51,4 +51,12 @@ pending-of-spec =
     -- returns-20
     (λ c. sym (ap (pendingAt (c .before .args .q)) (c .match .keys20)))
     -- returns-21
+    (λ c. sym (ap (pendingAt (c .before .args .q)) (c .match .keys21)))
+    -- returns-22
+    (λ c. sym (ap (pendingAt (c .before .args .q)) (c .match .keys22)))
+    -- returns-23
+    (λ c. sym (ap (pendingAt (c .before .args .q)) (c .match .keys23)))
+    -- returns-24
+    (λ c. sym (ap (pendingAt (c .before .args .q)) (c .match .keys24)))
+    -- returns-25
     (λ c. let q = c .before .args .q in sym (not-found (Unit {0}) (q .kind) (kinds (q .first) (q .second) (q .third)) (c .match .rest) .1)))

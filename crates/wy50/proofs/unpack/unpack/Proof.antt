@@ -12,20 +12,29 @@ unpack-spec =
     (tie.spec
     -- modes-of-requires
     (λ c κs. search needs)
-    -- cast-t12
+    -- cast-t14
     (λ c.
-    let start = c .before .before .before .before .before .before .before .before .before .before in
+    let start = c .before .before .before .before .before .before .before .before .before .before .before .before in
     record { fits = named-bells (start .args .x) (start .pre) })
     -- pending-of-requires
-    (λ c κs. search needs)
-    -- key-of-requires
     (λ c κs. search needs)
     -- tabs-of-requires
     (λ c κs. search needs)
     -- keys-of-requires
     (λ c κs. search needs)
+    -- labels-of-requires
+    (λ c κs. search needs)
+    -- message-of-requires
+    (λ c κs. search needs)
     -- returns
     (λ c.
-    let k = c .before .before in
-    let q = k .before in
-    rw (c .keys-of .ensures, c .before .tabs-of .ensures, k .key-of .ensures, q .pending-of .ensures, q .before .before .modes-of .ensures)))
+    let k = c .before .before .before in
+    let q = k .before .before in
+    rw (
+      c .before .message-of .ensures,
+      c .before .before .labels-of .ensures,
+      k .keys-of .ensures,
+      k .before .tabs-of .ensures,
+      q .pending-of .ensures,
+      q .before .before .modes-of .ensures,
+    )))

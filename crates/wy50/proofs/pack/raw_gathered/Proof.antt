@@ -1,0 +1,50 @@
+-- `wy50::pack::raw_gathered` meets its contract. The loop: the first i bytes are there.
+use mathlib.Core.Path.{_≡_, _∙_}
+use Prim.Native.Nat.{ℕ, _-_, _<_}
+use native.Mathlib.Omega.{arith}
+use lib.ListN.{length}
+use borrow.Author.Needs.{needs}
+use Rattle.wy50.specs.Raw.{zeroed}
+use Rattle.wy50.proofs.Loops.{Translated, begin, go, finish}
+use Rattle.wy50.proofs.Zeros.{zeroed-length, map-same}
+use Rattle.wy50.proofs.pack.raw_gathered.Statement.{statement}
+use Rattle.wy50.proofs.pack.raw_gathered.Tie as tie
+
+abbrev Inv-loop : tie.InvT-loop
+Inv-loop gathered n t₀ i₀ t i = Translated (λ (b : ℕ). b) (zeroed n gathered) t i
+
+abbrev μ-loop : tie.MeasureT-loop
+μ-loop gathered n t₀ i₀ t i = 46 - i
+
+pub raw-gathered-spec : {M : Type 1} → statement M
+raw-gathered-spec =
+    tie.close
+    (tie.spec
+    Inv-loop
+    μ-loop
+    -- loop-holds
+    (λ c.
+    let g = c .args .gathered in
+    let e : length g ≡ 46 = search needs in
+    begin (λ (b : ℕ). b) _ _ (omega (arith, zeroed-length (c .args .n) g)))
+    -- byte-or-zero-requires
+    (λ c κs. search needs)
+    -- array-write-t
+    (λ c. search needs)
+    -- add-i
+    (λ c. search needs)
+    -- loop-less
+    (λ c. search needs)
+    -- loop-again
+    (λ c.
+    let x = c .before .before .loop in
+    let a = c .before .before .before .args in
+    let e : length (a .gathered) ≡ 46 = search needs in
+    let h : x .i < length (zeroed (a .n) (a .gathered)) = omega (arith, zeroed-length (a .n) (a .gathered)) in
+    go (λ (b : ℕ). b) _ (x .t) (x .i) 0 (x .inv) h (c .byte-or-zero .ensures))
+    -- returns
+    (λ c.
+    let a = c .before .before .args in
+    let e : length (a .gathered) ≡ 46 = search needs in
+    finish (λ (b : ℕ). b) _ _ (c .before .loop .i) (c .before .loop .inv) (omega (arith, zeroed-length (a .n) (a .gathered)))
+    ∙ map-same (zeroed (a .n) (a .gathered))))
