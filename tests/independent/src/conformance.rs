@@ -7,6 +7,7 @@ mod calls;
 mod moves;
 mod possible;
 mod protection;
+mod sends;
 mod tables;
 mod texts;
 mod writing;
@@ -31,5 +32,6 @@ pub fn script() -> Vec<u8> {
     book.writing_corners();
     book.protection_corners();
     book.texts();
+    book.sends();
     book.text
 }

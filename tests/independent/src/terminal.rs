@@ -6,6 +6,8 @@ mod arguments;
 mod cursor;
 #[path = "terminal/replies.rs"]
 mod replies;
+#[path = "terminal/sends.rs"]
+mod sends;
 #[path = "terminal/taking.rs"]
 mod taking;
 #[path = "terminal/texts.rs"]
@@ -18,7 +20,6 @@ use replies::reply;
 
 const ACK: u8 = 0x06;
 const SOH: u8 = 0x01;
-const US: u8 = 0x1F;
 
 /// The numbers that come back, but for 0. 5 is not used.
 #[derive(Clone, Copy, PartialEq, Eq, Debug)]

@@ -1,5 +1,6 @@
 //! The bench list and the transcript's example.
 
+mod sends;
 mod texts;
 
 use crate::state::{Cell, ESC};
@@ -77,7 +78,7 @@ fn bench_5_and_6_labels() {
         assert_eq!(terminal.state.cursors[0], 2);
         replies(&mut terminal, b"\x08");
         assert_eq!(terminal.state.cursors[0], 2);
-        assert_eq!(replies(&mut terminal, b"x\x1b4"), b"\x78\x20\x0d");
+        assert_eq!(replies(&mut terminal, b"x\x1b4"), b"\x1c\x78\x20\x0d");
     }
 }
 

@@ -20,10 +20,6 @@ impl Terminal {
         !self.is_guarded(place)
     }
 
-    pub(super) fn is_any(&self, _place: usize) -> bool {
-        true
-    }
-
     pub(super) fn scrolls(&self) -> bool {
         self.state.modes.autoscroll && !self.state.modes.protect
     }

@@ -1,6 +1,5 @@
 //! Modes and replies.
 
-use super::cursor::row_start;
 use super::*;
 
 impl Terminal {
@@ -58,53 +57,6 @@ impl Terminal {
     pub(super) fn reply_cell(&self, room: &mut [u8]) -> Outcome {
         self.check_cursor_open()?;
         reply(room, &[self.page[self.cursor()].sent()])
-    }
-
-    pub(super) fn send_row(
-        &self,
-        is_sent: fn(&Terminal, usize) -> bool,
-        room: &mut [u8],
-    ) -> Outcome {
-        self.send(row_start(self.cursor()), is_sent, room)
-    }
-
-    pub(super) fn send_page(
-        &self,
-        is_sent: fn(&Terminal, usize) -> bool,
-        room: &mut [u8],
-    ) -> Outcome {
-        self.send(self.segment().start, is_sent, room)
-    }
-
-    /// Sends the cells from the first through the cursor, US between rows, then CR.
-    fn send(
-        &self,
-        first: usize,
-        is_sent: fn(&Terminal, usize) -> bool,
-        room: &mut [u8],
-    ) -> Outcome {
-        let cursor = self.cursor();
-        let cells = (first..=cursor)
-            .filter(|&place| is_sent(self, place))
-            .count();
-        let row_ends = cursor / COLUMNS - first / COLUMNS;
-        let length = cells + row_ends + 1;
-        if room.len() < length {
-            return Err(Refusal::NoRoom);
-        }
-        let mut next = 0;
-        for place in first..=cursor {
-            if place > first && place % COLUMNS == 0 {
-                room[next] = US;
-                next += 1;
-            }
-            if is_sent(self, place) {
-                room[next] = self.page[place].sent();
-                next += 1;
-            }
-        }
-        room[next] = CR;
-        Ok(length)
     }
 }
 

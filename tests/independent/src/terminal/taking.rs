@@ -57,10 +57,10 @@ impl Terminal {
             b'/' => self.reply_segment_and_address(room),
             b'b' => self.reply_decimal_address(room),
             b'M' => self.reply_cell(room),
-            b'4' => self.send_row(Terminal::is_open, room),
-            b'5' => self.send_page(Terminal::is_open, room),
-            b'6' => self.send_row(Terminal::is_any, room),
-            b'7' => self.send_page(Terminal::is_any, room),
+            b'4' => self.send_row(Terminal::is_guarded, room),
+            b'5' => self.send_page(Terminal::is_guarded, room),
+            b'6' => self.send_row(Terminal::leaves_none_out, room),
+            b'7' => self.send_page(Terminal::leaves_none_out, room),
             _ => self.escape_without_reply(byte),
         }
     }
