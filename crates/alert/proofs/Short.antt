@@ -7,14 +7,14 @@ use mathlib.Core.List.{List, [], _∷_, _++_}
 use Prim.Native.Nat.{ℕ, zero, suc, _+_, _-_, _*_, _/_, _%_, _≤_, _<_}
 use native.Mathlib.Omega.{arith}
 use lib.Dec.{leb, eqb}
-use lib.ListN.{length, length-append}
+use lib.ListN.{length, length-append, take, drop}
 use Rattle.rules.specs.Cell.{pick, both}
 use Rattle.rules.specs.Row.{Width}
-use Rattle.rules.specs.Search.{guardedAt, editEnd}
-use Rattle.rules.specs.Carry.{digit, textOf}
+use Rattle.rules.specs.Search.{editEnd}
+use Rattle.rules.specs.Send.{digit}
 use Rattle.rules.proofs.Marks.{length-guards}
 use Rattle.alert.specs.Room.{words, decimalOf, countOf, placeOf}
-use Rattle.alert.specs.Fields.{trimmed, startsAt, startsFrom, fieldStarts, fieldText, told, fieldLine, fieldLines, openText, unguarded, message}
+use Rattle.alert.specs.Fields.{marked, openCells, trimmed, startsAt, startsFrom, fieldStarts, fieldText, told, fieldLine, fieldLines, openText, modeNote, message}
 use Rattle.alert.proofs.Texts.{columns, field-fits}
 
 pick-most : (t : Bool) (x y : List ℕ) (n : ℕ) → length x ≤ n → length y ≤ n → length (pick t x y) ≤ n
@@ -61,48 +61,53 @@ starts-short w g at (suc n) =
     let r = starts-short w g (suc at) n in
     pick-most (startsAt w g at) (at ∷ startsFrom w g (suc at) n) (startsFrom w g (suc at) n) (suc n) (omega arith) (omega arith)
 
-module _ {w : ℕ} (k : Width w) (on : Bool) (p : List ℕ) (n : length p ≡ 24 * w) where
-  field-short : (at : ℕ) → at < 24 * w → length (fieldText w on p at) ≤ 132
+note-short : (on : Bool) → length (modeNote on) ≤ 73
+unfolding modeNote
+note-short true = omega arith
+note-short false = omega arith
+
+module _ {w : ℕ} (k : Width w) (p : List ℕ) (n : length p ≡ 24 * w) where
+  field-short : (at : ℕ) → at < 24 * w → length (fieldText w p at) ≤ 132
   unfolding fieldText
   field-short at h =
-      let f = field-fits k on p {at = at} {e = editEnd w (guardedAt on p) at} n h refl in
-      omega (arith, trimmed-short (textOf w on p at (editEnd w (guardedAt on p) at)))
+      let e = editEnd w (marked p) at in
+      omega (arith, field-fits k p {at = at} {e = e} n h refl, trimmed-short (openCells (take (e - at) (drop at p))))
 
-  line-short : (j at : ℕ) → at < 24 * w → length (fieldLine w on p j at) ≤ 183
+  line-short : (j at : ℕ) → at < 24 * w → length (fieldLine w p j at) ≤ 183
   unfolding fieldLine
   line-short j at h =
       let a = decimal-short j in
       let b = place-short w at in
-      let c = count-short (editEnd w (guardedAt on p) at - at) (words "cell") in
-      let d = told-short (fieldText w on p at) 132 (omega arith) (field-short at h) in
+      let c = count-short (editEnd w (marked p) at - at) (words "cell") in
+      let d = told-short (fieldText w p at) 132 (omega arith) (field-short at h) in
       simp length-append (omega arith)
 
-  lines-first : (b : Bool) (j at m : ℕ) (t : List ℕ) → at < 24 * w → length (fieldLines w on p j t) ≤ 183 * m
-      → length (fieldLines w on p (suc j) t) ≤ 183 * m → length (fieldLines w on p j (pick b (at ∷ t) t)) ≤ 183 * suc m
+  lines-first : (b : Bool) (j at m : ℕ) (t : List ℕ) → at < 24 * w → length (fieldLines w p j t) ≤ 183 * m
+      → length (fieldLines w p (suc j) t) ≤ 183 * m → length (fieldLines w p j (pick b (at ∷ t) t)) ≤ 183 * suc m
   unfolding fieldLines
   lines-first true j at m t h x y = let l = line-short j at h in simp length-append (omega arith)
   lines-first false j at m t h x y = omega arith
 
-  lines-short : (j at m : ℕ) → at + m ≤ 24 * w → length (fieldLines w on p j (startsFrom w (guardedAt on p) at m)) ≤ 183 * m
+  lines-short : (j at m : ℕ) → at + m ≤ 24 * w → length (fieldLines w p j (startsFrom w (marked p) at m)) ≤ 183 * m
   unfolding startsFrom fieldLines
   lines-short j at zero h = omega arith
   lines-short j at (suc m) h =
-      lines-first (startsAt w (guardedAt on p) at) j at m (startsFrom w (guardedAt on p) (suc at) m) (omega arith)
+      lines-first (startsAt w (marked p) at) j at m (startsFrom w (marked p) (suc at) m) (omega arith)
       (lines-short j (suc at) m (omega arith)) (lines-short (suc j) (suc at) m (omega arith))
 
-  open-short : length (openText w on p) ≤ 183 * length p
+  open-short : length (openText w p) ≤ 183 * length p
   unfolding openText
   open-short =
-      let g = length-guards on p in
+      let g = length-guards true p in
       let c = columns k in
-      let l = lines-short 1 0 (length (guardedAt on p)) (omega arith) in
-      pick-most (eqb (length (fieldStarts w (guardedAt on p))) 0) (words "  There is no open cell.\n")
-      (fieldLines w on p 1 (fieldStarts w (guardedAt on p))) (183 * length p) (omega arith) (omega arith)
+      let l = lines-short 1 0 (length (marked p)) (omega arith) in
+      pick-most (eqb (length (fieldStarts w (marked p))) 0) (words "  There is no open cell.\n")
+      (fieldLines w p 1 (fieldStarts w (marked p))) (183 * length p) (omega arith) (omega arith)
 
   -- the message of a page of 24 rows
-  pub short : length (message w on p) ≤ 40 + 183 * length p
-  unfolding message unguarded
-  short =
-      let c = columns k in
-      let m = pick-most on (openText w on p) unguarded (183 * length p) open-short (omega arith) in
+  pub short : (on : Bool) → length (message w on p) ≤ 113 + 183 * length p
+  unfolding message
+  short on =
+      let o = open-short in
+      let m = note-short on in
       simp length-append (omega arith)

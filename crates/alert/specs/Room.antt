@@ -7,7 +7,7 @@ use mathlib.Core.List.{List, [], _∷_, _++_}
 use lib.Dec.{leb, ltb, eqb}
 use lib.ListN.{length, set}
 use Rattle.rules.specs.Cell.{pick}
-use Rattle.rules.specs.Carry.{digit}
+use Rattle.rules.specs.Send.{digit}
 
 -- the codes of n characters of a text, from place i on
 abbrev pub codes : ℕ → ℕ → String → List ℕ

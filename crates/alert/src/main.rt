@@ -36,11 +36,11 @@ fn show_guarded(page: &[u16], drawn: &[u16], protect: bool)
     out::text(&room[..n]);
 }
 
-// Prints what members would be sent. Its room is 40 bytes and 183 for each cell: no message is longer.
+// Prints what members would be sent. Its room is 113 bytes and 183 for each cell: no message is longer.
 fn show_message(page: &[u16], protect: bool)
     requires { ⌜ (length (now page) ≡ 1920) × ((drawn : List ℕ) × Came (now page) drawn protect) ⌝ }
 {
-    let mut room = [0u8; 351400];
+    let mut room = [0u8; 351473];
     let n = fields::message(&mut room, page, COLUMNS, protect);
     out::text(&room[..n]);
 }

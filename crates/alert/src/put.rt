@@ -4,7 +4,7 @@ ghost use mathlib.Core.List.{[], _∷_};
 ghost use Prim.Native.Nat.{_*_, _<_};
 ghost use Rattle.rules.specs.Cell.{pick};
 ghost use Rattle.rules.specs.Row.{Width};
-ghost use Rattle.rules.specs.Carry.{digit as digitOf};
+ghost use Rattle.rules.specs.Send.{digit as digitOf};
 ghost use Rattle.alert.specs.Room.{Puts, decimalOf, countOf, placeOf};
 
 pub fn byte(room: &mut [u8], n: usize, b: u8) -> usize

@@ -1,22 +1,22 @@
--- Bytes put into a room one after the other, and a text with a byte after it.
---     bytes-put, bytes-none                 one turn of the loop, and its end
---     cell-put                              the text of one cell
---     text-counted, text-fits, text-put     a text with CR after it: its length, that the text fits too, and what both leave
+-- Bytes put into a room one after the other, and what is sent of the page.
+--     bytes-put, bytes-none                              one turn of the loop, and its end
+--     cell-counted, cell-judged, cell-fits, cell-put     the one cell of ESC M: its length, whether and that it fits, and what it leaves
+--     text-counted, text-judged, text-fits, text-put     the same of a text
 -- Assumes nothing.
-use mathlib.Core.Path.{_≡_, refl, sym, _∙_}
-use mathlib.Core.Bool.{Bool, false}
-use mathlib.Core.List.{List, [], _∷_, _++_}
+use mathlib.Core.Path.{_≡_, refl, sym, ap, _∙_}
+use mathlib.Core.Bool.{Bool}
+use mathlib.Core.List.{List, [], _∷_, append-nil}
 use Prim.Native.Nat.{ℕ, _+_, _≤_, _<_}
 use native.Mathlib.Numerals.{add-one}
 use native.Mathlib.Omega.{arith}
-use lib.ListN.{length, getD, set, drop, length-append, drop-of-length-le}
+use lib.Dec.{leb}
+use lib.ListN.{length, getD, set, drop, drop-of-length-le}
 use lib.Seq.{drop-cons}
 use Rattle.page.specs.Room.{stored}
-use Rattle.page.proofs.Room.{stored-append, stored-over}
+use Rattle.page.proofs.Room.{stored-over}
 use Rattle.rules.specs.declared.Reply.{Reply}
 use Rattle.rules.specs.declared.Reply.the-variants as Reply
-use Rattle.rules.specs.Cell.{pick}
-use Rattle.rules.specs.Carry.{replied, textOf}
+use Rattle.rules.specs.Send.{openCell, leavesOut, textOf, places, bytesOf, replied}
 use Rattle.rules.specs.Room.{over}
 
 stored-next : (n x : ℕ) (r w : List ℕ) → stored n (x ∷ r) w ≡ stored (n + 1) r (set w n x)
@@ -30,29 +30,40 @@ bytes-put bytes i room h = rw (drop-cons bytes i 0 h, stored-next i, add-one)
 pub bytes-none : (bytes : List ℕ) (i : ℕ) → length bytes ≤ i → drop i bytes ≡ []
 bytes-none bytes i h = drop-of-length-le bytes h
 
--- the text of one cell
-pub cell-put : (width : ℕ) (on : Bool) (p : List ℕ) {x : Reply} {at : ℕ} → x ≡ Reply.Cell at → (w : List ℕ) → length (replied width on p x) ≤ length w
-    → {w′ : List ℕ} → w′ ≡ stored 0 (textOf width on p at (at + 1)) w → w′ ≡ over (replied width on p x) w
-unfolding replied
-cell-put width on p {x} {at} told w fits h = rw (h, told) (stored-over (textOf width on p at (at + 1)) w (rw told at fits))
+-- the one cell of ESC M
+module _ (width : ℕ) (on : Bool) (p : List ℕ) {x : Reply} {at : ℕ} (told : x ≡ Reply.Cell at) where
+  cell-told : replied width on p x ≡ openCell on (getD p at 0)
+  unfolding places bytesOf replied
+  cell-told = rw told (append-nil (openCell on (getD p at 0)))
 
--- a text and CR: t is whether guarded cells are left out
-module _ (width : ℕ) (on : Bool) (p : List ℕ) {x : Reply} {all t : Bool} {a e : ℕ} (told : x ≡ Reply.Text all a e) (out : t ≡ pick all false on) where
-  text-told : replied width on p x ≡ textOf width t p a e ++ 0x0d ∷ []
-  unfolding replied
-  text-told = rw (told, out)
+  pub cell-counted : {n : ℕ} → n ≡ length (openCell on (getD p at 0)) → n ≡ length (replied width on p x)
+  cell-counted h = h ∙ sym (ap length cell-told)
 
-  pub text-counted : {n : ℕ} → n ≡ length (textOf width t p a e) → n + 1 ≡ length (replied width on p x)
-  text-counted h = rw text-told (omega (arith, length-append (textOf width t p a e) (0x0d ∷ [])))
+  pub cell-judged : {n : ℕ} (room : ℕ) → n ≡ length (openCell on (getD p at 0)) → leb n room ≡ leb (length (replied width on p x)) room
+  cell-judged room h = ap (λ (n : ℕ). leb n room) (cell-counted h)
 
   module _ (w : List ℕ) (fits : length (replied width on p x) ≤ length w) where
-    pub text-fits : length (textOf width t p a e) + 1 ≤ length w
-    text-fits = omega (arith, text-counted refl)
+    pub cell-fits : length (openCell on (getD p at 0)) ≤ length w
+    cell-fits = omega (arith, ap length cell-told)
 
-    pub text-put : {n : ℕ} {w′ : List ℕ} → n ≡ length (textOf width t p a e) → w′ ≡ stored 0 (textOf width t p a e) w
-        → set w′ n 0x0d ≡ over (replied width on p x) w
-    unfolding stored
-    text-put h k =
-        let r = textOf width t p a e in
-        let z : 0 + length r ≡ length r = omega arith in
-        rw (h, k, text-told) (sym (stored-append r (0x0d ∷ []) 0 w ∙ rw z) ∙ stored-over (r ++ 0x0d ∷ []) w (rw text-told at fits))
+    pub cell-put : {w′ : List ℕ} → w′ ≡ stored 0 (openCell on (getD p at 0)) w → w′ ≡ over (replied width on p x) w
+    cell-put h = h ∙ stored-over (openCell on (getD p at 0)) w cell-fits ∙ ap (λ (l : List ℕ). over l w) (sym cell-told)
+
+-- a text: t is whether guarded cells are left out
+module _ (width : ℕ) (on : Bool) (p : List ℕ) {x : Reply} {all t : Bool} {a e : ℕ} (told : x ≡ Reply.Text all a e) (out : t ≡ leavesOut on all) where
+  text-told : replied width on p x ≡ bytesOf (textOf width t p a e)
+  unfolding places replied
+  text-told = rw (told, out)
+
+  pub text-counted : {n : ℕ} → n ≡ length (bytesOf (textOf width t p a e)) → n ≡ length (replied width on p x)
+  text-counted h = h ∙ sym (ap length text-told)
+
+  pub text-judged : {b : Bool} (room : ℕ) → b ≡ leb (length (bytesOf (textOf width t p a e))) room → b ≡ leb (length (replied width on p x)) room
+  text-judged room h = h ∙ ap (λ (l : List ℕ). leb (length l) room) (sym text-told)
+
+  module _ (w : List ℕ) (fits : length (replied width on p x) ≤ length w) where
+    pub text-fits : length (bytesOf (textOf width t p a e)) ≤ length w
+    text-fits = omega (arith, ap length text-told)
+
+    pub text-put : {w′ : List ℕ} → w′ ≡ stored 0 (bytesOf (textOf width t p a e)) w → w′ ≡ over (replied width on p x) w
+    text-put h = h ∙ stored-over (bytesOf (textOf width t p a e)) w text-fits ∙ ap (λ (l : List ℕ). over l w) (sym text-told)

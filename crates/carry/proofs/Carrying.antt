@@ -4,13 +4,15 @@
 --     carried-out     it fits
 -- Assumes nothing.
 use mathlib.Core.Path.{_≡_, refl, sym, ap, subst, _∙_}
-use mathlib.Core.Bool.{false≢true}
+use mathlib.Core.Bool.{true, false, false≢true}
 use mathlib.Core.List.{List}
-use Prim.Native.Nat.{ℕ, zero-le, _<_, _≤_}
-use borrow.Author.Tests.{le-leb, lt-leb}
+use Prim.Native.Nat.{ℕ, zero-le}
+use borrow.Author.Tests.{leb-true}
+use lib.Dec.{leb}
 use lib.ListN.{length}
 use Rattle.rules.specs.Search.{guardedAt}
-use Rattle.rules.specs.Carry.{Effect, quiet, applied, replied, planWidth, landed, done, carried}
+use Rattle.rules.specs.Send.{replied}
+use Rattle.rules.specs.Carry.{Effect, quiet, applied, planWidth, landed, done, carried}
 use Rattle.rules.specs.Room.{over}
 use Rattle.rules.specs.declared.Core.{Core}
 use Rattle.rules.specs.declared.Plan.{Plan}
@@ -23,22 +25,22 @@ use Rattle.carry.specs.Carried.{Carried}
 pub carried-is : {e e′ : Effect} {r : CoreResult} {p w w′ : List ℕ} → e ≡ e′ → Carried e′ r p w w′ → Carried e r p w w′
 carried-is {e} {e′} {r} {p} {w} {w′} h k = subst (λ (x : Effect). Carried x r p w w′) (sym h) k
 
-module _ (p : List ℕ) (c : Core) (x : Plan) (w : List ℕ) {m n : ℕ} (wide : m ≡ planWidth x)
-    (e : n ≡ length (replied m (c .modes .protect) p (x .reply))) where
-  pub no-room : length w < n
+module _ (p : List ℕ) (c : Core) (x : Plan) (w : List ℕ) {m : ℕ} (wide : m ≡ planWidth x) where
+  pub no-room : leb (length (replied m (c .modes .protect) p (x .reply))) (length w) ≡ false
       → Carried (carried p c x (length w)) (record { answer = Answer.NoRoom; replied = 0; core = x .next; change = unchanged }) p w w
   unfolding carried over
   no-room h =
-      carried-is {e′ = quiet 6 c p} (rw (← wide, ← e, lt-leb n (length w) h))
+      carried-is {e′ = quiet 6 c p} (rw (← wide, h))
       (record { answer = refl; core = λ z. absurd (false≢true (sym z)); change = refl; replied = refl; page = refl; room = refl; fits = zero-le })
 
-  pub carried-out : {p₁ p₂ w′ : List ℕ} {c′ : Core} → n ≤ length w → w′ ≡ over (replied m (c .modes .protect) p (x .reply)) w
+  pub carried-out : {n : ℕ} {p₁ p₂ w′ : List ℕ} {c′ : Core} → leb (length (replied m (c .modes .protect) p (x .reply))) (length w) ≡ true
+      → n ≡ length (replied m (c .modes .protect) p (x .reply)) → w′ ≡ over (replied m (c .modes .protect) p (x .reply)) w
       → p₁ ≡ applied m (c .modes .protect) (x .first) p → p₂ ≡ applied m (c .modes .protect) (x .second) p₁
       → c′ ≡ landed (guardedAt (x .next .modes .protect) p₂) (x .land) (x .next)
       → Carried (carried p c x (length w)) (record { answer = x .answer; replied = n; core = c′; change = Change.Set (x .change) }) p₂ w w′
   unfolding carried done
-  carried-out h hw h₁ h₂ hc =
-      carried-is {e′ = done (c .modes .protect) p x} (rw (← wide, ← e, le-leb n (length w) h))
+  carried-out h e hw h₁ h₂ hc =
+      carried-is {e′ = done (c .modes .protect) p x} (rw (← wide, h))
       (record {
         answer = refl;
         core = λ z. rw (hc, h₂, h₁, ← wide);
@@ -46,5 +48,5 @@ module _ (p : List ℕ) (c : Core) (x : Plan) (w : List ℕ) {m n : ℕ} (wide :
         replied = rw (← wide) e;
         page = rw (← wide) (h₂ ∙ ap (applied m (c .modes .protect) (x .second)) h₁);
         room = rw (← wide) hw;
-        fits = h;
+        fits = rw e (leb-true (length (replied m (c .modes .protect) p (x .reply))) (length w) h);
       })

@@ -7,12 +7,12 @@ ghost use Rattle.rules.specs.Carry.{carried};
 ghost use Rattle.carry.specs.Carried.{Carried};
 
 mod landing; // where the cursor goes
-mod replies; // what is replied: its length, and its bytes
+mod replies; // what is replied: whether it fits, and its bytes
 mod writes; // what is written
 
 use landing::land;
 use replies::put_reply;
-use replies::reply_length;
+use replies::reply_fits;
 use rules::Answer;
 use rules::Change;
 use rules::Core;
@@ -31,8 +31,7 @@ pub fn carry_out(page: &mut [u16], core: Core, plan: Plan, room: &mut [u8]) -> C
     let screen = plan.next.screen;
     let width = width_of(screen) as usize;
     let reply = plan.reply;
-    let n = reply_length(page, width, on, reply);
-    if room.len() < n {
+    if !reply_fits(page, width, on, reply, room.len()) {
         let next = plan.next;
         return CoreResult {
             answer: Answer::NoRoom,
@@ -41,7 +40,7 @@ pub fn carry_out(page: &mut [u16], core: Core, plan: Plan, room: &mut [u8]) -> C
             change: Change::Set(SetupChange::Nothing),
         };
     }
-    put_reply(page, width, on, reply, room);
+    let n = put_reply(page, width, on, reply, room);
     let first = plan.first;
     write(page, width, on, first);
     let second = plan.second;

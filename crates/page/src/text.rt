@@ -1,115 +1,170 @@
-// The text of a send: its length, and the text itself into a room.
+// The text of a send, a row at a time: whether it fits, and the text itself into a room. And the one cell of ESC M.
 ghost use mathlib.Core.Path.{_≡_};
-ghost use Prim.Native.Nat.{_+_, _-_, _*_, _/_, _≤_, min};
-ghost use lib.ListN.{length};
-ghost use Rattle.rules.specs.Row.{Width, wideCells, rowEnd};
-ghost use Rattle.rules.specs.Carry.{openCell, textOf};
+ghost use mathlib.Core.Bool.{true, false};
+ghost use Prim.Native.Nat.{_+_, _-_, _*_, _<_, _≤_};
+ghost use lib.Dec.{leb};
+ghost use lib.ListN.{length, getD, drop};
+ghost use Rattle.rules.specs.Row.{Width, wideCells};
+ghost use Rattle.rules.specs.Send.{openCell, leftOut, cellPlace, textOf, bytesOf};
 ghost use Rattle.page.specs.Room.{stored};
-ghost use Rattle.page.specs.Text.{cellsText};
+ghost use Rattle.page.specs.Text.{rowText, Stretch};
 use crate::cell::is_guarded;
+use crate::cell::is_protected;
 use crate::cell::sent_code;
-use crate::search::row_end;
-use crate::search::row_of;
 
-fn cell_length(protect: bool, v: u16) -> u16
-    ensures { λ r. ⌜ r ≡ length (openCell protect v) ⌝ }
+// How many bytes ESC M gives for a cell.
+pub fn cell_length(page: &[u16], protect: bool, at: usize) -> usize
+    requires { ⌜ (at < length (now page)) × (length (now page) ≤ wideCells) ⌝ }
+    ensures { λ r. ⌜ r ≡ length (openCell protect (getD (now (page .entry)) at 0)) ⌝ }
 {
-    if is_guarded(protect, v) { 0 } else { 1 }
+    if is_guarded(protect, page[at]) { 0 } else { 1 }
 }
 
-// How many bytes the cells give. (A narrow count makes the loop four times as fast.)
-fn cells_length(part: &[u16], protect: bool) -> u16
-    requires { ⌜ length (now part) ≤ wideCells ⌝ }
-    ensures { λ r. ⌜ r ≡ length (cellsText protect (now (part .entry))) ⌝ }
+// The cell's byte at the front of the room, or none; how many.
+pub fn put_cell(room: &mut [u8], page: &[u16], protect: bool, at: usize) -> usize
+    requires { ⌜ (at < length (now page)) × ((length (now page) ≤ wideCells) × (length (openCell protect (getD (now page) at 0)) ≤ length (now room))) ⌝ }
+    ensures { λ r. ⌜ (r ≡ length (openCell protect (getD (now (page .entry)) at 0))) × (now (room .exit) ≡ stored 0 (openCell protect (getD (now (page .entry)) at 0)) (now (room .entry))) ⌝ }
 {
-    let mut n: u16 = 0;
-    let mut i = 0;
-    while i < part.len() {
-        n += cell_length(protect, part[i]);
-        i += 1;
+    if is_guarded(protect, page[at]) {
+        return 0;
     }
-    n
+    room[0] = sent_code(page[at]);
+    1
 }
 
-// How many rows begin after the cell `from` and before `to`.
-fn row_breaks(width: usize, from: usize, to: usize) -> usize
-    requires { ⌜ Width width × ((from ≤ to) × (to ≤ 24 * width)) ⌝ }
-    ensures { λ r. ⌜ r ≡ (to - 1) / width - from / width ⌝ }
+// A text leaves protected cells out, or sends all.
+fn left_out(out: bool, v: u16) -> bool
+    ensures { λ r. ⌜ r ≡ leftOut out v ⌝ }
 {
-    if from < to {
-        row_of(width, to - 1) - row_of(width, from)
-    } else {
-        0
-    }
+    if out { is_protected(v) } else { false }
 }
 
-// How many bytes a send of the cells `from` up to `to` gives; with `protect` false, no cell is left out.
-pub fn text_length(page: &[u16], width: usize, protect: bool, from: usize, to: usize) -> usize
-    requires { ⌜ Width width × ((from ≤ to) × ((to ≤ length (now page)) × (length (now page) ≡ 24 * width))) ⌝ }
-    ensures { λ r. ⌜ r ≡ length (textOf width protect (now (page .entry)) from to) ⌝ }
+// How many bytes a cell of a text gives.
+fn place_length(out: bool, after: bool, v: u16) -> u16
+    ensures { λ r. ⌜ r ≡ length (cellPlace out after v) ⌝ }
 {
-    row_breaks(width, from, to) + cells_length(&page[from..to], protect) as usize
-}
-
-// A cell's byte at place n of the room, or none; the place after it.
-fn put_cell(room: &mut [u8], n: usize, protect: bool, v: u16) -> usize
-    requires { ⌜ n + length (openCell protect v) ≤ length (now room) ⌝ }
-    ensures { λ r. ⌜ (r ≡ n + length (openCell protect v)) × (now (room .exit) ≡ stored n (openCell protect v) (now (room .entry))) ⌝ }
-{
-    if is_guarded(protect, v) {
-        return n;
-    }
-    room[n] = sent_code(v);
-    n + 1
-}
-
-// The text of cells of one row, from place `start` of the room on; the place after it.
-fn put_cells(room: &mut [u8], start: usize, part: &[u16], protect: bool) -> usize
-    requires { ⌜ start + length (cellsText protect (now part)) ≤ length (now room) ⌝ }
-    ensures { λ r. ⌜ (r ≡ start + length (cellsText protect (now (part .entry)))) × (now (room .exit) ≡ stored start (cellsText protect (now (part .entry))) (now (room .entry))) ⌝ }
-{
-    let mut n = start;
-    let mut i = 0;
-    while i < part.len() {
-        n = put_cell(room, n, protect, part[i]);
-        i += 1;
-    }
-    n
-}
-
-// The end of a cell's row, or `to` if that is nearer.
-fn row_stop(width: usize, at: usize, to: usize) -> usize
-    requires { ⌜ Width width × ((at ≤ to) × (to ≤ 24 * width)) ⌝ }
-    ensures { λ r. ⌜ r ≡ min (rowEnd width at) to ⌝ }
-{
-    if at < to {
-        let end = row_end(width, at);
-        if end < to {
-            return end;
+    if left_out(out, v) {
+        if after {
+            return 0;
         }
     }
-    to
+    1
 }
 
-// The text of the cells `from` up to `to` at the front of the room; its length.
+// How many bytes the cells of a row give. (A narrow count makes the loop four times as fast.)
+fn row_length(part: &[u16], out: bool) -> u16
+    requires { ⌜ length (now part) ≤ wideCells ⌝ }
+    ensures { λ r. ⌜ r ≡ length (rowText out false (now (part .entry))) ⌝ }
+{
+    let mut n: u16 = 0;
+    let mut after = false;
+    let mut i = 0;
+    while i < part.len() {
+        n += place_length(out, after, part[i]);
+        after = left_out(out, part[i]);
+        i += 1;
+    }
+    n
+}
+
+// How many bytes a send of the cells `from`, the first of a row, up to `to` gives; `out` says that protected cells are left out.
+fn text_length(page: &[u16], width: usize, out: bool, from: usize, to: usize) -> usize
+    requires { ⌜ Width width × ((from ≤ to) × ((to ≤ length (now page)) × (length (now page) ≡ 24 * width))) ⌝ }
+    ensures { λ r. ⌜ r ≡ length (bytesOf (textOf width out (now (page .entry)) from to)) ⌝ }
+{
+    let mut at = from;
+    let mut n = 0;
+    while width < to - at {
+        let end = at + width;
+        n += row_length(&page[at..end], out) as usize + 1;
+        at = end;
+    }
+    n + row_length(&page[at..to], out) as usize + 1
+}
+
+// Whether so much room is enough for it. A byte for each cell and 24 more are; only with less it is counted.
+pub fn text_fits(page: &[u16], width: usize, out: bool, from: usize, to: usize, room: usize) -> bool
+    requires { ⌜ Width width × ((from ≤ to) × ((to ≤ length (now page)) × (length (now page) ≡ 24 * width))) ⌝ }
+    ensures { λ r. ⌜ r ≡ leb (length (bytesOf (textOf width out (now (page .entry)) from to))) room ⌝ }
+{
+    if to - from + 24 <= room {
+        return true;
+    }
+    text_length(page, width, out, from, to) <= room
+}
+
+// The cells from `from` on that are sent, up to the first that is left out, into the room from place n on; where they end.
+fn put_stretch(room: &mut [u8], n: usize, part: &[u16], out: bool, from: usize) -> usize
+    requires { ⌜ (from ≤ length (now part)) × ((length (now part) ≤ wideCells) × (n + length (rowText out false (drop from (now part))) ≤ length (now room))) ⌝ }
+    ensures { λ r. ⌜ Stretch out (now (part .entry)) from n r (now (room .entry)) (now (room .exit)) ⌝ }
+{
+    let mut k = n;
+    let mut i = from;
+    while i < part.len() {
+        if left_out(out, part[i]) {
+            return i;
+        }
+        room[k] = sent_code(part[i]);
+        k += 1;
+        i += 1;
+    }
+    i
+}
+
+// The first cell from `from` on that is sent, behind one that is left out; or the end.
+fn stretch_end(part: &[u16], out: bool, from: usize) -> usize
+    requires { ⌜ (from ≤ length (now part)) × (length (now part) ≤ wideCells) ⌝ }
+    ensures { λ r. ⌜ (from ≤ r) × ((r ≤ length (now (part .entry))) × (rowText out true (drop from (now (part .entry))) ≡ rowText out false (drop r (now (part .entry))))) ⌝ }
+{
+    let mut i = from;
+    while i < part.len() {
+        if !left_out(out, part[i]) {
+            return i;
+        }
+        i += 1;
+    }
+    i
+}
+
+// The cells of a row into the room from place `start` on, FS for each stretch that is left out; the place after them.
+fn put_row(room: &mut [u8], start: usize, part: &[u16], out: bool) -> usize
+    requires { ⌜ (length (now part) ≤ wideCells) × (start + length (rowText out false (now part)) ≤ length (now room)) ⌝ }
+    ensures { λ r. ⌜ (r ≡ start + length (rowText out false (now (part .entry)))) × (now (room .exit) ≡ stored start (rowText out false (now (part .entry))) (now (room .entry))) ⌝ }
+{
+    let mut i = put_stretch(room, start, part, out, 0);
+    let mut n = start + i;
+    while i < part.len() {
+        room[n] = 0x1c;
+        let next = stretch_end(part, out, i + 1);
+        let end = put_stretch(room, n + 1, part, out, next);
+        n = n + 1 + (end - next);
+        i = end;
+    }
+    n
+}
+
+// The text of the cells `from`, the first of a row, up to `to` at the front of the room; its length.
 pub fn put_text(
     room: &mut [u8],
     page: &[u16],
     width: usize,
-    protect: bool,
+    out: bool,
     from: usize,
     to: usize,
 ) -> usize
-    requires { ⌜ Width width × ((from ≤ to) × ((to ≤ length (now page)) × ((length (now page) ≡ 24 * width) × (length (textOf width protect (now page) from to) ≤ length (now room))))) ⌝ }
-    ensures { λ r. ⌜ (r ≡ length (textOf width protect (now (page .entry)) from to)) × (now (room .exit) ≡ stored 0 (textOf width protect (now (page .entry)) from to) (now (room .entry))) ⌝ }
+    requires { ⌜ Width width × ((from ≤ to) × ((to ≤ length (now page)) × ((length (now page) ≡ 24 * width) × (length (bytesOf (textOf width out (now page) from to)) ≤ length (now room))))) ⌝ }
+    ensures { λ r. ⌜ (r ≡ length (bytesOf (textOf width out (now (page .entry)) from to))) × (now (room .exit) ≡ stored 0 (bytesOf (textOf width out (now (page .entry)) from to)) (now (room .entry))) ⌝ }
 {
-    let mut at = row_stop(width, from, to);
-    let mut n = put_cells(room, 0, &page[from..at], protect);
-    while at < to {
-        let end = row_stop(width, at, to);
+    let mut at = from;
+    let mut n = 0;
+    while width < to - at {
+        let end = at + width;
+        n = put_row(room, n, &page[at..end], out);
         room[n] = 0x1f;
-        n = put_cells(room, n + 1, &page[at..end], protect);
+        n += 1;
         at = end;
     }
-    n
+    n = put_row(room, n, &page[at..to], out);
+    room[n] = 0x0d;
+    n + 1
 }

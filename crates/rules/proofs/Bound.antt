@@ -7,11 +7,11 @@
 use mathlib.Core.Path.{_≡_, refl, ap}
 use mathlib.Core.Bool.{Bool, true, false}
 use mathlib.Core.List.{List, [], _∷_}
-use Prim.Native.Nat.{ℕ, suc, _+_, _-_, _*_, _/_, _%_, _≤_, _<_}
+use Prim.Native.Nat.{ℕ, _+_, _*_, _≤_, _<_}
 use native.Mathlib.Omega.{arith}
 use lib.Dec.{ltb, leb, eqb}
-use lib.ListN.{length, take, drop, length-append, length-take}
-use borrow.Author.Tests.{eqb-true, ltb-true, leb-true, leb-false, ne-eqb}
+use lib.ListN.{length, length-take}
+use borrow.Author.Tests.{ltb-true, leb-true, leb-false, ne-eqb}
 use Rattle.rules.specs.declared.Core.{Core}
 use Rattle.rules.specs.declared.Screen.{Screen}
 use Rattle.rules.specs.declared.ShortText.{ShortText}
@@ -20,92 +20,22 @@ use Rattle.rules.specs.declared.State.{State}
 use Rattle.rules.specs.declared.Plan.{Plan}
 use Rattle.rules.specs.declared.Decoded.{Decoded}
 use Rattle.rules.specs.declared.Decoded.the-variants as Decoded
-use Rattle.rules.specs.declared.Reply.{Reply}
-use Rattle.rules.specs.declared.Reply.the-variants as Reply
-use Rattle.rules.specs.Cell.{pick, both, guarded}
-use Rattle.rules.specs.Row.{Width, columns}
+use Rattle.rules.specs.Row.{columns}
 use Rattle.rules.specs.State.{number, widthOf, pageLength, keyPlace, idle}
 use Rattle.rules.specs.Arguments.{isKey}
 use Rattle.rules.specs.Slot.{allText, textOk}
 use Rattle.rules.specs.Possible.{good}
 use Rattle.rules.specs.Decode.{decodeRule}
-use Rattle.rules.specs.Good.{GoodReply}
-use Rattle.rules.specs.Carry.{separator, openCell, textFrom, textOf, replied, replyOf, Effect, done, carried}
+use Rattle.rules.specs.Carry.{replyOf, Effect, done, carried}
 use Rattle.rules.specs.Step.{obeyed, innerRule, Outcome, stepRule}
 use Rattle.rules.specs.Calls.{joined, repeated, runRule, keySends, keyAt, Pressed, pressRule}
-use Rattle.rules.proofs.Tests.{pick-if, both-parts, among-parts}
-use Rattle.rules.proofs.Rows.{by-width, columns-width}
+use Rattle.rules.proofs.Tests.{pick-if, among-parts}
+use Rattle.rules.proofs.Rows.{columns-width}
+use Rattle.rules.proofs.Sends.{replied-bound}
 use Rattle.rules.proofs.Good.{PlanKept}
 use Rattle.rules.proofs.Texts.{text-parts, texts-at}
 use Rattle.rules.proofs.Decoding.{decodedOk, decoded-ok}
 use Rattle.rules.proofs.Kept.{PossibleCore, planned-kept, possible-parts, good-parts}
-
--- ---- the text of a send
-
--- how many rows begin before a cell
-abbrev begun : ℕ → ℕ → ℕ
-begun w i = (i + (w - 1)) / w
-
-open-bound : (on : Bool) (v : ℕ) → length (openCell on v) ≤ 1
-unfolding openCell
-open-bound on v = pick-if (λ (l : List ℕ). length l ≤ 1) (guarded on v) (λ e. omega arith) (λ e. omega arith)
-
--- no separator comes before the first cell
-first-row : (w a : ℕ) → separator w a a ≡ []
-unfolding separator
-first-row w a =
-    pick-if (λ (l : List ℕ). l ≡ []) (both (eqb (a % w) 0) (ltb a a))
-    (λ e. absurd (omega (arith, ltb-true a a (both-parts (eqb (a % w) 0) (ltb a a) e .1)))) (λ e. refl)
-
-module _ {w : ℕ} (k : Width w) where
-  begun-next : (i : ℕ) → (begun w i ≤ begun w (suc i)) × (i % w ≡ 0 → 1 + begun w i ≤ begun w (suc i))
-  begun-next i =
-      by-width (λ (w : ℕ). (begun w i ≤ begun w (suc i)) × (i % w ≡ 0 → 1 + begun w i ≤ begun w (suc i)))
-      (omega arith) (omega arith) k
-
-  begun-range : (i : ℕ) → (1 ≤ begun w (suc i)) × (i ≤ 24 * w → begun w i ≤ 24)
-  begun-range i = by-width (λ (w : ℕ). (1 ≤ begun w (suc i)) × (i ≤ 24 * w → begun w i ≤ 24)) (omega arith) (omega arith) k
-
-  -- a separator comes only before a row's first cell
-  separator-bound : (a i : ℕ) → length (separator w a i) + begun w i ≤ begun w (suc i)
-  unfolding separator
-  separator-bound a i =
-      pick-if (λ (l : List ℕ). length l + begun w i ≤ begun w (suc i)) (both (eqb (i % w) 0) (ltb a i))
-      (λ e. omega (arith, begun-next i .1 (eqb-true (i % w) 0 (both-parts (eqb (i % w) 0) (ltb a i) e .0)))) (λ e. omega (arith, begun-next i))
-
-  -- a byte for each cell, and one for each row that begins
-  text-bound : (on : Bool) (a i e : ℕ) (l : List ℕ) → i + length l ≡ e → length (textFrom w on a i l) + begun w i ≤ length l + begun w e
-  unfolding textFrom
-  text-bound on a i e [] h = let q : e ≡ i = omega arith in rw q (omega arith)
-  text-bound on a i e (v ∷ l) h =
-      simp length-append (omega (arith, text-bound on a (suc i) e l (omega arith), separator-bound a i, open-bound on v))
-
-  cells-bound : (on : Bool) (a : ℕ) (l : List ℕ) → a + length l ≤ 24 * w → length (textFrom w on a a l) ≤ 24 * w + 23
-  unfolding textFrom
-  cells-bound on a [] h = omega arith
-  cells-bound on a (v ∷ l) h =
-      rw (first-row w a) (simp length-append
-      (omega (
-        arith,
-        text-bound on a (suc a) (suc a + length l) l refl,
-        begun-range a .0,
-        begun-range (suc a + length l) .1 (omega arith),
-        open-bound on v,
-      )))
-
-  pub part-bound : (on : Bool) (p : List ℕ) (a e : ℕ) → a ≤ e → e ≤ 24 * w → length (textOf w on p a e) ≤ 24 * w + 23
-  part-bound on p a e h k = cells-bound on a (take (e - a) (drop a p)) (omega (arith, length-take (e - a) (drop a p)))
-
-  replied-bound : (on : Bool) (p : List ℕ) (r : Reply) → GoodReply w r → length (replied w on p r) ≤ 24 * (w + 1)
-  unfolding replied
-  replied-bound on p Reply.Nothing h = omega arith
-  replied-bound on p Reply.Acknowledge h = omega arith
-  replied-bound on p Reply.Identity h = omega arith
-  replied-bound on p (Reply.Address r c) h = omega arith
-  replied-bound on p (Reply.SegmentAddress n r c) h = omega arith
-  replied-bound on p (Reply.Decimal r c) h = omega arith
-  replied-bound on p (Reply.Cell at) h = omega (arith, part-bound on p at (at + 1) (omega arith) (omega arith))
-  replied-bound on p (Reply.Text all a e) h = simp length-append (omega (arith, part-bound (pick all false on) p a e (h .0) (h .1)))
 
 -- ---- the inner step
 

@@ -9,7 +9,8 @@ use Rattle.rules.specs.Arguments.{isAttribute, featurePlace, isKey, isLa
 use Rattle.rules.specs.Slot.{slotOk, slotEnd, slotMost, slotLow, isText, allText, textOk, textsOk}
 use Rattle.rules.specs.Decode.{lookup, idleRule, escapeRule, judged, attributeContents, featureRule, fieldRule, splitRule, digitRule, decimalRowRule, decimalColumnRule, slotRule, textRule, spoiltRule, argumentRule, decodeRule}
 use Rattle.rules.specs.Plan.{unlessGuarded, scrolls, nextCell, atTop, upCell, reversePlan, downPlan, tabCell, backTabCell, addressPlan, movePlan, activate, isSegment, windowPlan, storing, advancing, storePlan, rowEditPlan, editPlan, clearPlan, settingPlan, sendPlan, excludedPlan, planRule}
-use Rattle.rules.specs.Carry.{applied, separator, openCell, textFrom, replied, landed, done, carried}
+use Rattle.rules.specs.Send.{openCell, cellPlace, textPlaces, places, bytesOf, replied}
+use Rattle.rules.specs.Carry.{applied, landed, done, carried}
 use Rattle.rules.specs.Step.{obeyed, innerRule, stepRule}
 use Rattle.rules.specs.Calls.{powerOnRule, joined, repeated, runRule, keySends, pressRule, ofStep, ofRun, ofPress, callRule, after, play}
 use Rattle.rules.specs.Room.{over}
@@ -22,6 +23,7 @@ use Rattle.rules.specs.WritingCases.{writingCases}
 use Rattle.rules.specs.ReplyCases.{replyCases}
 use Rattle.rules.specs.CallCases.{callCases}
 use Rattle.rules.specs.LabelCases.{message, labelling, labelCases}
+use Rattle.rules.specs.SendCases.{twoFields, twoLabelRows, labelOverRowEnd, sendCases}
 use Rattle.rules.specs.ByteCases.{span, lastAnswer, triedHold, bytesHold, low, high, digitBytes, attributeBytes, escapeBytes, firstBytes, argumentBytes, addressBytes, decimalBytes}
 use Rattle.rules.specs.PossibleCases.{placed, keyed, labelledAt, messaged, attributed, featured, stopped, shiftedOn, gathering, possibleStates, impossibleStates, allPossible, nonePossible}
 use Rattle.rules.specs.Cases.{CaseList}
@@ -29,7 +31,7 @@ use Rattle.rules.specs.Cases.{CaseList}
 pub cases : CaseList
 unfolding completes runCompletes callCompletes anyCompleted completesFrom stepCompletes same replies answers holds allHold casesHold host
     esc goTo labelled halves lower threeLetters lettersBelow pageOf cursorAt protectAt upperAt lowerAt belled fullKeys typed obeys refuses
-    obeysFrom refusesFrom countsOf restsOf segmentsOf modesOf stopsFrom movingCases writingCases replyCases callCases span lastAnswer
+    obeysFrom refusesFrom countsOf restsOf segmentsOf modesOf stopsFrom movingCases writingCases replyCases callCases twoFields twoLabelRows labelOverRowEnd sendCases span lastAnswer
     triedHold bytesHold low high digitBytes attributeBytes escapeBytes firstBytes argumentBytes addressBytes decimalBytes placed keyed
     labelledAt messaged shiftedOn gathering message labelling labelCases attributed featured stopped possibleStates impossibleStates allPossible nonePossible over powerOnRule columns rowEnd marksBy others
     startsFrom firstIn lastIn around aroundBack within filled shiftLeft shiftRight editShifted rowsShifted columnFilled segmentTop
@@ -37,7 +39,7 @@ unfolding completes runCompletes callCompletes anyCompleted completesFrom stepCo
     attributesOk featurePlace featuresOk isKey pendingOk noStops coreOk setupOk possible good lookup idleRule escapeRule judged attributeContents
     featureRule fieldRule splitRule digitRule decimalRowRule decimalColumnRule slotRule textRule spoiltRule argumentRule decodeRule unlessGuarded
     scrolls nextCell atTop upCell reversePlan downPlan tabCell backTabCell addressPlan movePlan activate isSegment windowPlan storing
-    advancing storePlan rowEditPlan editPlan clearPlan settingPlan sendPlan excludedPlan planRule applied separator openCell textFrom
+    advancing storePlan rowEditPlan editPlan clearPlan settingPlan sendPlan excludedPlan planRule applied openCell cellPlace textPlaces places bytesOf
     replied landed done carried obeyed innerRule stepRule joined repeated runRule keySends pressRule ofStep ofRun
     ofPress callRule after play
 cases = record {
@@ -46,6 +48,7 @@ cases = record {
   replying = refl;
   calling = refl;
   labels = refl;
+  sending = refl;
   first = refl;
   argument = refl;
   address = refl;

@@ -22,7 +22,8 @@ use Rattle.rules.specs.Search.{guardedAt}
 use Rattle.rules.specs.State.{number, idle, changed, gatheredAfter, setupAfter}
 use Rattle.rules.specs.Possible.{pendingOk, good}
 use Rattle.rules.specs.Decode.{decodeRule}
-use Rattle.rules.specs.Carry.{Effect, quiet, applied, replied, replyOf, landed, done, carried}
+use Rattle.rules.specs.Send.{places, bytesOf, replied}
+use Rattle.rules.specs.Carry.{Effect, quiet, applied, replyOf, landed, done, carried}
 use Rattle.rules.specs.Step.{Outcome, outcomeOf, obeyed, innerRule, stepRule}
 use Rattle.rules.specs.Left.{Left, Unchanged}
 use Rattle.rules.proofs.Tests.{pick-if, among-parts}
@@ -38,7 +39,7 @@ pub data Ended (p : List ℕ) (c : Core) : Effect → Type 0 where
 
 module _ (p : List ℕ) (c : Core) where
   carried-ends : (x : Plan) (room : ℕ) → Planned (idle c) x → Ended p c (carried p c x room)
-  unfolding carried done applied replied landed
+  unfolding carried done applied places bytesOf replied landed
   carried-ends x room (obeys e) =
       pick-if (Ended p c) (leb (length (replyOf (c .modes .protect) p x)) room) (λ t. ends (ap number e)) (λ t. keeps 6 refl (omega arith, λ e. omega (arith, e)))
   carried-ends x room (refuses a e) = rw (leb·zero room) (clears (number a) e)

@@ -5,6 +5,7 @@ pub mod Tests
 pub mod Rows
 pub mod Marks
 pub mod Lengths
+pub mod Sends
 pub mod Related
 pub mod Unrevealing
 pub mod ExcludedBytes

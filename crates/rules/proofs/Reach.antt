@@ -28,7 +28,7 @@ use Rattle.rules.specs.Arguments.{isAttribute, featurePlace, isKey, isLa
 use Rattle.rules.specs.Slot.{slotOk, slotEnd, slotMost, slotLow, isText, allText, textOk, textsOk}
 use Rattle.rules.specs.Possible.{powerOn, blank, unsplitOk, screenOk, attributesOk, featuresOk, pendingOk, noStops, coreOk, setupOk, possible, good}
 use Rattle.rules.specs.Decode.{lookup, idleRule, escapeRule, splitRule, digitRule, decimalRowRule, decimalColumnRule, slotRule, textRule, argumentRule, decodeRule}
-use Rattle.rules.specs.Carry.{digit}
+use Rattle.rules.specs.Send.{digit}
 use Rattle.rules.specs.Step.{Outcome, obeyed, innerRule, stepRule}
 use Rattle.rules.specs.Calls.{Ran, joined, repeated, runRule, play}
 use Rattle.rules.specs.Reach.{digits, opening, slotBytes, bytesFor, UnderWay, Reach}

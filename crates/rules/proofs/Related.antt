@@ -19,7 +19,8 @@ use Rattle.rules.specs.Cell.{protected}
 use Rattle.rules.specs.Row.{rowEnd}
 use Rattle.rules.specs.Search.{marksBy, guardedAt, firstMark, firstIn, editEnd}
 use Rattle.rules.specs.Change.{within, fillCell, filled, shiftLeft, shiftRight, shifted, editShifted, columnFilled}
-use Rattle.rules.specs.Carry.{applied, openCell, textFrom, replied}
+use Rattle.rules.specs.Send.{leftOut, cellPlace, textPlaces, openCell, places, bytesOf, replied}
+use Rattle.rules.specs.Carry.{applied}
 
 -- p and q are the pages at the start, x and y the pages now
 pub data Related : List ℕ → List ℕ → List ℕ → List ℕ → Type 0 where
@@ -97,19 +98,33 @@ related-guards none = refl
 related-guards (secret u v h) = rw (u, v, related-guards h)
 related-guards (public u h) = rw (related-guards h)
 
--- the text without guarded cells is the same
-related-text : (w a i : ℕ) {p q x y : List ℕ} → Related p q x y → textFrom w true a i x ≡ textFrom w true a i y
-unfolding textFrom openCell
-related-text w a i none = refl
-related-text w a i (secret u v h) = rw (u, v, related-text w a (suc i) h)
-related-text w a i (public u h) = rw (related-text w a (suc i) h)
+-- the text without protected cells is the same
+related-text : (w n : ℕ) (after : Bool) {p q x y : List ℕ} → Related p q x y → textPlaces w true n after x ≡ textPlaces w true n after y
+unfolding textPlaces cellPlace
+related-text w n after none = refl
+related-text w zero after (secret u v h) = rw (u, v, related-text w (w - 1) true h)
+related-text w (suc n) after (secret u v h) = rw (u, v, related-text w n true h)
+related-text w zero after (public {a} {c} u h) = rw (related-text w (w - 1) (protected c) h)
+related-text w (suc n) after (public {a} {c} u h) = rw (related-text w n (protected c) h)
 
 -- the text with all cells is as long
-related-all : (w a i : ℕ) {p q x y : List ℕ} → Related p q x y → length (textFrom w false a i x) ≡ length (textFrom w false a i y)
-unfolding textFrom openCell
-related-all w a i none = refl
-related-all w a i (secret u v h) = simp length-append (rw (related-all w a (suc i) h))
-related-all w a i (public u h) = simp length-append (rw (related-all w a (suc i) h))
+related-all : (w n : ℕ) {p q x y : List ℕ} → Related p q x y
+    → length (bytesOf (textPlaces w false n false x)) ≡ length (bytesOf (textPlaces w false n false y))
+unfolding textPlaces cellPlace bytesOf
+related-all w n none = refl
+related-all w zero (secret u v h) = rw (related-all w (w - 1) h)
+related-all w (suc n) (secret u v h) = rw (related-all w n h)
+related-all w zero (public u h) = rw (related-all w (w - 1) h)
+related-all w (suc n) (public u h) = rw (related-all w n h)
+
+-- an open cell is the same
+related-open : (i : ℕ) {p q x y : List ℕ} → Related p q x y → openCell true (getD x i 0) ≡ openCell true (getD y i 0)
+unfolding openCell
+related-open i none = refl
+related-open zero (secret u v h) = rw (u, v)
+related-open zero (public u h) = refl
+related-open (suc i) (secret u v h) = related-open i h
+related-open (suc i) (public u h) = related-open i h
 
 -- a reply that leaves out guarded cells
 abbrev pub conceals : Reply → Bool
@@ -123,29 +138,33 @@ conceals (Reply.Cell at) = true
 conceals (Reply.Text true a e) = false
 conceals (Reply.Text false a e) = true
 
+-- its places are the same
+related-places : (w : ℕ) (r : Reply) → conceals r ≡ true → {p q x y : List ℕ} → Related p q x y → places w true x r ≡ places w true y r
+unfolding places
+related-places w Reply.Nothing e h = refl
+related-places w Reply.Acknowledge e h = refl
+related-places w Reply.Identity e h = refl
+related-places w (Reply.Address r c) e h = refl
+related-places w (Reply.SegmentAddress n r c) e h = refl
+related-places w (Reply.Decimal r c) e h = refl
+related-places w (Reply.Cell at) e h = rw (related-open at h)
+related-places w (Reply.Text true a e) c h = absurd (false≢true c)
+related-places w (Reply.Text false a e) c h = related-text w w false (related-take (e - a) (related-drop a h))
+
 pub related-reply : (w : ℕ) (r : Reply) → conceals r ≡ true → {p q x y : List ℕ} → Related p q x y → replied w true x r ≡ replied w true y r
 unfolding replied
-related-reply w Reply.Nothing e h = refl
-related-reply w Reply.Acknowledge e h = refl
-related-reply w Reply.Identity e h = refl
-related-reply w (Reply.Address r c) e h = refl
-related-reply w (Reply.SegmentAddress n r c) e h = refl
-related-reply w (Reply.Decimal r c) e h = refl
-related-reply w (Reply.Cell at) e h = related-text w at at (related-take (at + 1 - at) (related-drop at h))
-related-reply w (Reply.Text true a e) c h = absurd (false≢true c)
-related-reply w (Reply.Text false a e) c h = rw (related-text w a a (related-take (e - a) (related-drop a h)))
+related-reply w r e h = ap bytesOf (related-places w r e h)
 
 -- any reply fits the room of both terminals or of neither
 pub related-reply-length : (w : ℕ) (r : Reply) {p q x y : List ℕ} → Related p q x y → length (replied w true x r) ≡ length (replied w true y r)
-unfolding replied
-related-reply-length w Reply.Nothing h = refl
-related-reply-length w Reply.Acknowledge h = refl
-related-reply-length w Reply.Identity h = refl
-related-reply-length w (Reply.Address r c) h = refl
-related-reply-length w (Reply.SegmentAddress n r c) h = refl
-related-reply-length w (Reply.Decimal r c) h = refl
+related-reply-length w Reply.Nothing h = ap length (related-reply w Reply.Nothing refl h)
+related-reply-length w Reply.Acknowledge h = ap length (related-reply w Reply.Acknowledge refl h)
+related-reply-length w Reply.Identity h = ap length (related-reply w Reply.Identity refl h)
+related-reply-length w (Reply.Address r c) h = ap length (related-reply w (Reply.Address r c) refl h)
+related-reply-length w (Reply.SegmentAddress n r c) h = ap length (related-reply w (Reply.SegmentAddress n r c) refl h)
+related-reply-length w (Reply.Decimal r c) h = ap length (related-reply w (Reply.Decimal r c) refl h)
 related-reply-length w (Reply.Cell at) h = ap length (related-reply w (Reply.Cell at) refl h)
-related-reply-length w (Reply.Text true a e) h = simp length-append (rw (related-all w a a (related-take (e - a) (related-drop a h))))
+related-reply-length w (Reply.Text true a e) h = unfold replied places in related-all w w (related-take (e - a) (related-drop a h))
 related-reply-length w (Reply.Text false a e) h = ap length (related-reply w (Reply.Text false a e) refl h)
 
 -- ---- what is written

@@ -49,7 +49,8 @@ use Rattle.rules.specs.Slot.{slotEnd, slotMost, slotLow, isText}
 use Rattle.rules.specs.Possible.{powerOn, good}
 use Rattle.rules.specs.Decode.{lookup, controls, escapes, idleRule, escapeRule, judged, featureRule, fieldRule, splitRule, digitRule, decimalRowRule, decimalColumnRule, slotRule, textRule, spoiltRule, argumentRule, decodeRule}
 use Rattle.rules.specs.Plan.{unlessGuarded, reversePlan, downPlan, addressPlan, movePlan, activate, windowPlan, advancing, storePlan, rowEditPlan, editPlan, clearPlan, settingPlan, sendPlan, excludedPlan, planRule}
-use Rattle.rules.specs.Carry.{Effect, replyOf, replied, done, carried}
+use Rattle.rules.specs.Send.{places, bytesOf, replied}
+use Rattle.rules.specs.Carry.{Effect, replyOf, done, carried}
 use Rattle.rules.specs.Step.{obeyed, innerRule, stepRule}
 use Rattle.rules.specs.Calls.{ofPress, callRule}
 use Rattle.rules.specs.ShiftedLine.{lineAfter, slotAwaited, upperText, upperUnderWay, ShiftedLine}
@@ -161,7 +162,7 @@ module _ (p : List ℕ) (c : Core) (g : List ℕ) (u : Setup) (room : ℕ) where
       (λ e. rw h) (λ e. refl)
 
   setting-line : (x : Setting) → setupAfter (carried p c (settingPlan (idle c) x) room .change) g u .shifted ≡ settingLine x (u .shifted)
-  unfolding settingPlan carried done replied setupAfter changed
+  unfolding settingPlan carried done places bytesOf replied setupAfter changed
   setting-line (Setting.Tab b) = rw (le-leb 0 room (omega arith))
   setting-line Setting.ClearTabs = rw (le-leb 0 room (omega arith))
   setting-line (Setting.Attribute n a) = rw (le-leb 0 room (omega arith))

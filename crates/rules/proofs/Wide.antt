@@ -9,7 +9,8 @@ use Rattle.rules.specs.Arguments.{isAttribute, featurePlace, isKey, isLa
 use Rattle.rules.specs.Slot.{slotOk, slotEnd, slotMost, slotLow, isText, allText, textOk, textsOk}
 use Rattle.rules.specs.Decode.{lookup, idleRule, escapeRule, judged, attributeContents, featureRule, fieldRule, splitRule, digitRule, decimalRowRule, decimalColumnRule, slotRule, textRule, spoiltRule, argumentRule, decodeRule}
 use Rattle.rules.specs.Plan.{unlessGuarded, scrolls, nextCell, atTop, upCell, reversePlan, downPlan, tabCell, backTabCell, addressPlan, movePlan, activate, isSegment, windowPlan, storing, advancing, storePlan, rowEditPlan, editPlan, clearPlan, settingPlan, sendPlan, excludedPlan, planRule}
-use Rattle.rules.specs.Carry.{applied, separator, openCell, textFrom, replied, landed, done, carried}
+use Rattle.rules.specs.Send.{openCell, cellPlace, textPlaces, places, bytesOf, replied}
+use Rattle.rules.specs.Carry.{applied, landed, done, carried}
 use Rattle.rules.specs.Step.{obeyed, innerRule}
 use Rattle.rules.specs.Calls.{ofStep, after}
 use Rattle.rules.specs.Bench.{same, replies, answers, holds, allHold}
@@ -23,6 +24,6 @@ unfolding same replies answers holds allHold esc goTo labelled typed wideHold wi
     noStops coreOk setupOk possible good lookup idleRule escapeRule judged attributeContents featureRule fieldRule splitRule digitRule decimalRowRule
     decimalColumnRule slotRule textRule spoiltRule argumentRule decodeRule unlessGuarded scrolls nextCell atTop upCell reversePlan downPlan
     tabCell backTabCell addressPlan movePlan activate isSegment windowPlan storing advancing storePlan rowEditPlan editPlan clearPlan
-    settingPlan sendPlan excludedPlan planRule applied separator openCell textFrom replied landed done carried obeyed
+    settingPlan sendPlan excludedPlan planRule applied openCell cellPlace textPlaces places bytesOf replied landed done carried obeyed
     innerRule ofStep after
 wide-cases = refl

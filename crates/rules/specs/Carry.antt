@@ -1,22 +1,21 @@
 -- A plan carried out: the only place that reads or writes a cell's contents.
 use mathlib.Core.Bool.{Bool, true, false}
 use mathlib.Core.List.{List, [], _∷_, _++_}
-use Prim.Native.Nat.{ℕ, zero, suc, _+_, _-_, _*_, _/_, _%_}
-use lib.Dec.{leb, ltb, eqb}
-use lib.ListN.{length, take, drop}
+use Prim.Native.Nat.{ℕ, _-_}
+use lib.Dec.{leb}
+use lib.ListN.{length}
 use Rattle.rules.specs.declared.Core.{Core}
 use Rattle.rules.specs.declared.Plan.{Plan}
 use Rattle.rules.specs.declared.Write.{Write}
 use Rattle.rules.specs.declared.Write.the-variants as Write
 use Rattle.rules.specs.declared.Change.{Change}
 use Rattle.rules.specs.declared.Change.the-variants as Change
-use Rattle.rules.specs.declared.Reply.{Reply}
-use Rattle.rules.specs.declared.Reply.the-variants as Reply
 use Rattle.rules.specs.declared.Land.{Land}
 use Rattle.rules.specs.declared.Land.the-variants as Land
-use Rattle.rules.specs.Cell.{pick, both, guarded, sent}
+use Rattle.rules.specs.Cell.{pick}
 use Rattle.rules.specs.Search.{guardedAt, settled}
 use Rattle.rules.specs.Change.{within, filled, columnFilled, editShifted, rowsShifted}
+use Rattle.rules.specs.Send.{replied}
 use Rattle.rules.specs.State.{number, widthOf, segmentStart, segmentEnd, withCursor, withScreen, unchanged}
 
 -- the page after a write, w being its width
@@ -27,36 +26,6 @@ applied w on (Write.FillAll a e v) p = within a e (filled false v) p
 applied w on (Write.Column top bottom c v) p = columnFilled w on v c (bottom - top) top p
 applied w on (Write.Edit right at v) p = editShifted w on right v at p
 applied w on (Write.Rows down top bottom) p = rowsShifted w down top bottom p
-
--- US before each row but the first of a send from cell a on, at cell i
-unfoldable pub separator : ℕ → ℕ → ℕ → List ℕ
-separator w a i = pick (both (eqb (i % w) 0) (ltb a i)) (0x1f ∷ []) []
-
--- a guarded cell is left out
-unfoldable pub openCell : Bool → ℕ → List ℕ
-openCell on v = pick (guarded on v) [] (sent v ∷ [])
-
--- the text of cells in a send from cell a on; the first of them is cell i
-unfoldable pub textFrom : ℕ → Bool → ℕ → ℕ → List ℕ → List ℕ
-textFrom w on a i [] = []
-textFrom w on a i (v ∷ l) = let r = textFrom w on a (suc i) l in separator w a i ++ (openCell on v ++ r)
-
--- the text of the cells a up to, not including, e
-abbrev pub textOf : ℕ → Bool → List ℕ → ℕ → ℕ → List ℕ
-textOf w on p a e = textFrom w on a a (take (e - a) (drop a p))
-
-abbrev pub digit : ℕ → ℕ
-digit n = 0x30 + n % 10
-
-unfoldable pub replied : ℕ → Bool → List ℕ → Reply → List ℕ
-replied w on p Reply.Nothing = []
-replied w on p Reply.Acknowledge = 0x06 ∷ []
-replied w on p Reply.Identity = 0x35 ∷ 0x30 ∷ 0x0d ∷ []
-replied w on p (Reply.Address r c) = r ∷ c ∷ 0x0d ∷ []
-replied w on p (Reply.SegmentAddress n r c) = n ∷ r ∷ c ∷ 0x0d ∷ []
-replied w on p (Reply.Decimal r c) = digit (r / 10) ∷ digit r ∷ 0x52 ∷ digit (c / 100) ∷ digit (c / 10) ∷ digit c ∷ 0x43 ∷ []
-replied w on p (Reply.Cell at) = textOf w on p at (at + 1)
-replied w on p (Reply.Text all a e) = textOf w (pick all false on) p a e ++ 0x0d ∷ []
 
 -- the active cursor goes where the plan says
 unfoldable pub landed : List Bool → Land → Core → Core

@@ -1,4 +1,4 @@
--- The worked cases, by the sentences of document 01: one statement.
+-- The worked cases, by the sentences of documents 01 and 02: one statement.
 use mathlib.Core.Path.{_≡_}
 use mathlib.Core.Bool.{true}
 use mathlib.Core.List.{[], _∷_}
@@ -13,6 +13,7 @@ use Rattle.rules.specs.WritingCases.{writingCases}
 use Rattle.rules.specs.ReplyCases.{replyCases}
 use Rattle.rules.specs.CallCases.{callCases}
 use Rattle.rules.specs.LabelCases.{labelCases}
+use Rattle.rules.specs.SendCases.{sendCases}
 use Rattle.rules.specs.ByteCases.{bytesHold, firstBytes, argumentBytes, addressBytes, decimalBytes}
 use Rattle.rules.specs.PossibleCases.{possibleStates, impossibleStates, allPossible, nonePossible}
 
@@ -22,6 +23,7 @@ pub record CaseList : Type 0 where
   pub replying : casesHold replyCases ≡ true
   pub calling : casesHold callCases ≡ true
   pub labels : casesHold labelCases ≡ true
+  pub sending : casesHold sendCases ≡ true
   -- which bytes, tried with all of them
   pub first : bytesHold firstBytes ≡ true
   pub argument : bytesHold argumentBytes ≡ true

@@ -8,6 +8,7 @@ pub mod Slot
 pub mod Possible
 pub mod Decode
 pub mod Plan
+pub mod Send
 pub mod Carry
 pub mod Room
 pub mod Step
@@ -26,6 +27,7 @@ pub mod MovingCases
 pub mod WritingCases
 pub mod ReplyCases
 pub mod CallCases
+pub mod SendCases
 pub mod ByteCases
 pub mod PossibleCases
 pub mod LabelCases

@@ -13,7 +13,7 @@ use Rattle.rules.specs.declared.Argument.{Argument}
 use Rattle.rules.specs.declared.Argument.the-variants as Argument
 use Rattle.rules.specs.Slot.{slotMost}
 use Rattle.rules.specs.Possible.{powerOn, blank, pendingOk}
-use Rattle.rules.specs.Carry.{digit}
+use Rattle.rules.specs.Send.{digit}
 use Rattle.rules.specs.Calls.{Call, runRule, play}
 
 -- the n digits of a number

@@ -27,8 +27,9 @@ use Rattle.rules.specs.State.{unchanged, widthOf, pageLength, segmentTop, segme
 use Rattle.rules.specs.Possible.{screenOk}
 use Rattle.rules.specs.Decode.{decodeRule, idleRule}
 use Rattle.rules.specs.Plan.{writing, unlessGuarded, storing, advancing, storePlan, addressPlan, movePlan, planRule}
+use Rattle.rules.specs.Send.{places as replyPlaces, bytesOf, replied}
+use Rattle.rules.specs.Carry.{effect, applied, landed, done, carried}
 use Rattle.rules.specs.Step.{obeyed, innerRule}
-use Rattle.rules.specs.Carry.{effect, applied, replied, landed, done, carried}
 use Rattle.rules.proofs.Tests.{both-true}
 use Rattle.rules.proofs.Marks.{hit, around-here, length-guards, length-others, guard-at, open-at}
 use Rattle.rules.proofs.Rows.{by-width, columns-width}
@@ -58,7 +59,7 @@ module _ (p : List ℕ) (c : Core) (size : length p ≡ pageLength (c .screen)) 
   -- a plan that writes, and then settles from an open cell of the segment
   carried-writing : (x : Write) (i : ℕ) → i < segmentEnd (c .screen) → getD (guardedAt on (applied w on x p)) i false ≡ false
       → carried p c (writing (idle c) x (Land.Settle i)) room ≡ effect 0 (textCore c i) unchanged (applied w on x p) []
-  unfolding carried done replied landed applied
+  unfolding carried done replyPlaces bytesOf replied landed applied
   carried-writing x i h e =
       let q = applied w on x p in
       let g = guardedAt on q in

@@ -184,6 +184,7 @@ fn control(b: u8) {
     match b {
         0x06 => out::text(b"<ACK>"),
         0x0d => out::text(b"<CR>"),
+        0x1c => out::text(b"<FS>"),
         0x1f => out::text(b"<US>"),
         _ => out::hex(b),
     }

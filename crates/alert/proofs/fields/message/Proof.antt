@@ -1,7 +1,7 @@
 -- `alert::fields::message` meets its contract.
-use Rattle.alert.proofs.Texts.{message-on, message-off}
-use borrow.Author.Needs.{needs}
+use Rattle.alert.proofs.Texts.{message-put}
 use denote.Ref.{now}
+use borrow.Author.Needs.{needs}
 use Rattle.alert.proofs.fields.message.Statement.{statement}
 use Rattle.alert.proofs.fields.message.Tie as tie
 
@@ -13,25 +13,11 @@ message-spec =
     (λ c. search needs)
     -- bytes-requires
     (λ c κs. search needs)
+    -- mode-note-requires
+    (λ c κs. search needs)
     -- lines-requires
-    (λ c κs. c .before .before .before .before .before .before .before .before .before .pre)
+    (λ c κs. c .before .before .before .before .before .before .before .before .before .before .before .before .pre)
     -- same-length
     (λ c. search needs)
     -- returns
-    (λ c.
-    let x = c .before .before .before .before .before .before .before .before .before .before .before .before .args in
-    let bytes′ = c .before .before .before .before .before .before .before .bytes in
-    let t1 = c .before .before .before .before .if1 in
-    let lines′ = c .before .before .lines in
-    message-on (x .width) (now (x .page)) (bytes′ .ensures) (x .protect) (t1 .taken) (lines′ .ensures))
-    -- unguarded-requires
-    (λ c κs. search needs)
-    -- same-length-2
-    (λ c. search needs)
-    -- returns-2
-    (λ c.
-    let x = c .before .before .before .before .before .before .before .before .before .before .before .before .args in
-    let bytes′ = c .before .before .before .before .before .before .before .bytes in
-    let t1 = c .before .before .before .before .if1 in
-    let unguarded′ = c .before .before .unguarded in
-    message-off (x .width) (now (x .page)) (bytes′ .ensures) (x .protect) (t1 .left) (unguarded′ .ensures)))
+    (λ c. message-put (c .before .before .before .before .before .before .before .before .before .before .before .before .before .before .before .args .width) (c .before .before .before .before .before .before .before .before .before .before .before .before .before .before .before .args .protect) (now (c .before .before .before .before .before .before .before .before .before .before .before .before .before .before .before .args .page)) (c .before .before .before .before .before .before .before .before .before .before .bytes .ensures) (c .before .before .before .before .before .before .mode-note .ensures) (c .before .before .lines .ensures)))

@@ -1,10 +1,12 @@
 -- `alert::fields::spell` meets its contract.
 use mathlib.Core.Path.{sym}
 use lib.Seq.{length-take-le}
-use Rattle.alert.proofs.Texts.{field-range, field-fits, spelled}
+use Rattle.alert.specs.Fields.{openCells}
+use Rattle.alert.proofs.Puts.{within}
+use Rattle.alert.proofs.Texts.{spelled}
 use native.Mathlib.Omega.{arith}
-use borrow.Author.Needs.{needs}
 use denote.Ref.{now}
+use borrow.Author.Needs.{needs}
 use Rattle.alert.proofs.fields.spell.Statement.{statement}
 use Rattle.alert.proofs.fields.spell.Tie as tie
 
@@ -12,27 +14,12 @@ pub spell-spec : {M : Type 1} → statement M
 spell-spec =
     tie.close
     (tie.spec
-    -- put-text-requires
-    (λ c κs.
-    let x = c .before .before .before .args in
-    let k = c .before .before .before .pre in
-    let r = field-range (k .0) (x .protect) (now (x .page)) (k .1 .0) (k .1 .1 .0) (k .1 .1 .1 .0) in
-    let f = field-fits (k .0) (x .protect) (now (x .page)) (k .1 .0) (k .1 .1 .0) (k .1 .1 .1 .0) in
-    (k .0, (r .0, (r .1 .1, (k .1 .0, omega (arith, f, k))))))
+    -- open-cells-requires
+    (λ c κs. c .before .before .before .pre .0)
     -- slice-reshare-prefix-trimmed
-    (λ c.
-    let k = c .before .before .before .before .before .before .pre in
-    let x = c .before .before .before .before .before .before .args in
-    let put-text′ = c .before .before .put-text in
-    let f = field-fits (k .0) (x .protect) (now (x .page)) (k .1 .0) (k .1 .1 .0) (k .1 .1 .1 .0) in
-    omega (arith, f, k, put-text′ .ensures .0, put-text′ .kept))
+    (λ c. within (c .before .before .open-cells .ensures) (omega arith))
     -- slice-aggregate-trimmed
-    (λ c.
-    let k = c .before .before .before .before .before .before .before .pre in
-    let x = c .before .before .before .before .before .before .before .args in
-    let put-text′ = c .before .before .before .put-text in
-    let f = field-fits (k .0) (x .protect) (now (x .page)) (k .1 .0) (k .1 .1 .0) (k .1 .1 .1 .0) in
-    sym (length-take-le _ _ (omega (arith, f, k, put-text′ .ensures .0, put-text′ .kept))))
+    (λ c. sym (length-take-le _ _ (within (c .before .before .before .open-cells .ensures) (omega arith))))
     -- trimmed-requires
     (λ c κs. search needs)
     -- same-length
@@ -40,7 +27,4 @@ spell-spec =
     -- returns
     (λ c.
     let x = c .before .before .before .before .before .before .before .before .args in
-    let k = c .before .before .before .before .before .before .before .before .pre in
-    let put-text′ = c .before .before .before .before .put-text in
-    let f = field-fits (k .0) (x .protect) (now (x .page)) (k .1 .0) (k .1 .1 .0) (k .1 .1 .1 .0) in
-    spelled (x .width) (x .protect) (now (x .page)) (x .at) (now (x .text)) (k .1 .1 .1 .0) (omega (arith, f, k)) (put-text′ .ensures .0) (put-text′ .ensures .1) (c .trimmed .ensures)))
+    spelled (openCells (now (x .part))) (now (x .text)) (omega (arith, c .before .before .before .before .before .before .before .before .pre .1)) (c .before .before .before .before .open-cells .ensures) (c .trimmed .ensures)))

@@ -43,6 +43,8 @@ put-bytes-spec =
     -- returns
     (λ c.
     let x = c .before .before .args in
-    let l = c .before .loop in
-    unstored (l .i) (bytes-none (now (x .bytes)) (l .i) (omega arith)) (l .inv .1 .1)
-    ∙ stored-over (now (x .bytes)) (now (x .room)) (c .before .before .pre)))
+    let l = c .before .loop in (
+      omega (arith, l .inv .0),
+      unstored (l .i) (bytes-none (now (x .bytes)) (l .i) (omega arith)) (l .inv .1 .1)
+          ∙ stored-over (now (x .bytes)) (now (x .room)) (c .before .before .pre),
+    )))

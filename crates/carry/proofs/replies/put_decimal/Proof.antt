@@ -27,11 +27,13 @@ put-decimal-spec =
     -- returns
     (λ c.
     let d = c .before .before .before .before .before in
-    c .before .before .put-bytes .ensures
-    ∙ rw (
-      d .before .before .before .before .digit .ensures,
-      d .before .before .before .digit2 .ensures,
-      d .before .before .digit3 .ensures,
-      d .before .digit4 .ensures,
-      d .digit5 .ensures,
+    let p = c .before .before .put-bytes .ensures in (
+      p .0,
+      p .1 ∙ rw (
+        d .before .before .before .before .digit .ensures,
+        d .before .before .before .digit2 .ensures,
+        d .before .before .digit3 .ensures,
+        d .before .digit4 .ensures,
+        d .digit5 .ensures,
+      ),
     )))

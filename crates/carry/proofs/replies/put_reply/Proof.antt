@@ -1,15 +1,16 @@
 -- `carry::replies::put_reply` meets its contract. In each arm the reply is the one that the match told.
 use native.Mathlib.Omega.{arith}
-use borrow.Author.Needs.{needs}
 use denote.Ref.{now}
-use Rattle.rules.specs.Carry.{replied}
+use Rattle.rules.specs.Send.{places, bytesOf, replied}
 use Rattle.rules.specs.Room.{over}
-use Rattle.carry.proofs.Bytes.{cell-put, text-fits, text-put}
+use Rattle.rules.proofs.Rows.{page-small}
+use Rattle.carry.proofs.Bytes.{cell-counted, cell-fits, cell-put, text-counted, text-fits, text-put}
+use borrow.Author.Needs.{needs}
 use Rattle.carry.proofs.replies.put_reply.Statement.{statement}
 use Rattle.carry.proofs.replies.put_reply.Tie as tie
 
 pub put-reply-spec : {M : Type 1} → statement M
-unfolding replied over
+unfolding places bytesOf replied over
 put-reply-spec =
     tie.close
     (tie.spec
@@ -45,76 +46,56 @@ put-reply-spec =
     (λ c κs. rw (c .before .before .x3 .given .1) at (c .before .before .before .before .before .before .pre .1 .1))
     -- enum-known-x-4
     (λ c. search needs)
-    -- cast-put-text
+    -- cast-put-cell
     (λ c. search needs)
-    -- cast-put-text-2
-    (λ c. search needs)
-    -- add-put-text
-    (λ c. search needs)
-    -- put-text-requires
+    -- put-cell-requires
     (λ c κs.
-    let told = c .before .before .x4 .given .1 in
-    let pre = c .before .before .before .before .before .before .pre in
-    (pre .1 .0 .1, (omega arith, (omega (arith, rw told at (pre .1 .0 .0)), (pre .0, rw told at (pre .1 .1))))))
+    let inside = rw (c .before .before .x4 .given .1) at (c .before .before .before .before .before .before .pre .1 .0 .0) in
+    (omega (arith, inside, c .before .before .before .before .before .before .pre .0), (omega (arith, c .before .before .before .before .before .before .pre .0, page-small (c .before .before .before .before .before .before .pre .1 .0 .1)), cell-fits (c .before .before .before .before .before .before .args .width) (c .before .before .before .before .before .before .args .on) (now (c .before .before .before .before .before .before .args .page)) (c .before .before .x4 .given .1) (now (c .before .before .before .before .before .before .args .room)) (c .before .before .before .before .before .before .pre .1 .1))))
     -- enum-known-x-5
     (λ c. search needs)
     -- leaves-out-requires
     (λ c κs. search needs)
-    -- cast-put-text-3
+    -- cast-put-text
     (λ c. search needs)
-    -- cast-put-text-4
+    -- cast-put-text-2
     (λ c. search needs)
-    -- put-text-requires-2
+    -- put-text-requires
     (λ c κs.
-    let told = c .before .before .before .x5 .given .1 in
-    let s = c .before .before .before .before .before .before .before in
-    let x = s .args in
-    let good = rw told at (s .pre .1 .0 .0) in
-    let fits = text-fits (x .width) (x .on) (now (x .page)) told (c .leaves-out .ensures) (now (x .room)) (s .pre .1 .1) in
-    (s .pre .1 .0 .1, (good .0, (omega (arith, good), (s .pre .0, omega (arith, fits))))))
-    -- slice-write-room
-    (λ c.
-    let l = c .before .before .before in
-    let s = l .before .before .before .before .before .before .before in
-    let x = s .args in
-    let fits = text-fits (x .width) (x .on) (now (x .page)) (l .before .before .before .x5 .given .1) (l .leaves-out .ensures) (now (x .room)) (s .pre .1 .1) in
-    omega (arith, fits, c .before .before .put-text2 .ensures .0, c .before .before .put-text2 .kept))
+    let good = rw (c .before .before .before .x5 .given .1) at (c .before .before .before .before .before .before .before .pre .1 .0 .0) in
+    let fits = text-fits (c .before .before .before .before .before .before .before .args .width) (c .before .before .before .before .before .before .before .args .on) (now (c .before .before .before .before .before .before .before .args .page)) (c .before .before .before .x5 .given .1) (c .leaves-out .ensures) (now (c .before .before .before .before .before .before .before .args .room)) (c .before .before .before .before .before .before .before .pre .1 .1) in
+    (c .before .before .before .before .before .before .before .pre .1 .0 .1, (good .0, (omega (arith, good, c .before .before .before .before .before .before .before .pre .0), (c .before .before .before .before .before .before .before .pre .0, fits)))))
     -- returns
-    (λ c. rw (c .enum-told .given .1))
+    (λ c. (rw (c .enum-told .given .1), rw (c .enum-told .given .1)))
     -- same-length
     (λ c. search needs)
     -- returns-2
-    (λ c. rw (c .before .before .before .before .before .enum-told2 .given .1) (c .before .before .put-bytes .ensures))
+    (λ c. (rw (c .before .before .before .before .before .enum-told2 .given .1) (c .before .before .put-bytes .ensures .0), rw (c .before .before .before .before .before .enum-told2 .given .1) (c .before .before .put-bytes .ensures .1)))
     -- same-length-2
     (λ c. search needs)
     -- returns-3
-    (λ c. rw (c .before .before .before .before .before .enum-told3 .given .1) (c .before .before .put-bytes2 .ensures))
+    (λ c. (rw (c .before .before .before .before .before .enum-told3 .given .1) (c .before .before .put-bytes2 .ensures .0), rw (c .before .before .before .before .before .enum-told3 .given .1) (c .before .before .put-bytes2 .ensures .1)))
     -- same-length-3
     (λ c. search needs)
     -- returns-4
-    (λ c. rw (c .before .before .before .before .before .before .x .given .1) (c .before .before .put-bytes3 .ensures))
+    (λ c. (rw (c .before .before .before .before .before .before .x .given .1) (c .before .before .put-bytes3 .ensures .0), rw (c .before .before .before .before .before .before .x .given .1) (c .before .before .put-bytes3 .ensures .1)))
     -- same-length-4
     (λ c. search needs)
     -- returns-5
-    (λ c. rw (c .before .before .before .before .before .before .x2 .given .1) (c .before .before .put-bytes4 .ensures))
+    (λ c. (rw (c .before .before .before .before .before .before .x2 .given .1) (c .before .before .put-bytes4 .ensures .0), rw (c .before .before .before .before .before .before .x2 .given .1) (c .before .before .put-bytes4 .ensures .1)))
     -- same-length-5
     (λ c. search needs)
     -- returns-6
-    (λ c. rw (c .before .before .before .before .before .x3 .given .1) (c .before .before .put-decimal .ensures))
+    (λ c. (rw (c .before .before .before .before .before .x3 .given .1) (c .before .before .put-decimal .ensures .0), rw (c .before .before .before .before .before .x3 .given .1) (c .before .before .put-decimal .ensures .1)))
     -- same-length-6
     (λ c. search needs)
     -- returns-7
     (λ c.
-    let s = c .before .before .before .before .before .before .before .before .before in
-    let x = s .args in
-    let told = c .before .before .before .before .before .x4 .given .1 in
-    cell-put (x .width) (x .on) (now (x .page)) told (now (x .room)) (s .pre .1 .1) (c .before .before .put-text .ensures .1))
+    let e = c .before .before .put-cell .ensures in
+    (cell-counted (c .before .before .before .before .before .before .before .before .before .args .width) (c .before .before .before .before .before .before .before .before .before .args .on) (now (c .before .before .before .before .before .before .before .before .before .args .page)) (c .before .before .before .before .before .x4 .given .1) (e .0), cell-put (c .before .before .before .before .before .before .before .before .before .args .width) (c .before .before .before .before .before .before .before .before .before .args .on) (now (c .before .before .before .before .before .before .before .before .before .args .page)) (c .before .before .before .before .before .x4 .given .1) (now (c .before .before .before .before .before .before .before .before .before .args .room)) (c .before .before .before .before .before .before .before .before .before .pre .1 .1) (e .1)))
     -- same-length-7
     (λ c. search needs)
     -- returns-8
     (λ c.
-    let l = c .before .before .before in
-    let s = l .before .before .before .before .before .before .before in
-    let x = s .args in
-    text-put (x .width) (x .on) (now (x .page)) (l .before .before .before .x5 .given .1) (l .leaves-out .ensures) (now (x .room)) (s .pre .1 .1)
-    (c .before .before .put-text2 .ensures .0) (c .before .before .put-text2 .ensures .1)))
+    let e = c .before .before .put-text .ensures in
+    (text-counted (c .before .before .before .before .before .before .before .before .before .before .args .width) (c .before .before .before .before .before .before .before .before .before .before .args .on) (now (c .before .before .before .before .before .before .before .before .before .before .args .page)) (c .before .before .before .before .before .before .x5 .given .1) (c .before .before .before .leaves-out .ensures) (e .0), text-put (c .before .before .before .before .before .before .before .before .before .before .args .width) (c .before .before .before .before .before .before .before .before .before .before .args .on) (now (c .before .before .before .before .before .before .before .before .before .before .args .page)) (c .before .before .before .before .before .before .x5 .given .1) (c .before .before .before .leaves-out .ensures) (now (c .before .before .before .before .before .before .before .before .before .before .args .room)) (c .before .before .before .before .before .before .before .before .before .before .pre .1 .1) (e .1))))

@@ -1,7 +1,7 @@
 -- `page::text::cell_length` meets its contract.
 use mathlib.Core.Path.{sym, _∙_}
+use Rattle.rules.specs.Send.{openCell}
 use borrow.Author.Needs.{needs}
-use Rattle.rules.specs.Carry.{openCell}
 use Rattle.page.proofs.text.cell_length.Statement.{statement}
 use Rattle.page.proofs.text.cell_length.Tie as tie
 
@@ -10,6 +10,10 @@ unfolding openCell
 cell-length-spec =
     tie.close
     (tie.spec
+    -- mul-is-guarded
+    (λ c. search needs)
+    -- shared-slice-read-is-guarded
+    (λ c. search needs)
     -- is-guarded-requires
     (λ c κs. search needs)
     -- returns

@@ -1,20 +1,19 @@
--- `page::text::put_text` meets its contract. The loop: putting the rows to come makes of the room what they make of it after the first row.
+-- `page::text::put_text` meets its contract. The loop: putting the rows to come makes of the room what all of them make of the first.
 use mathlib.Core.Path.{_∙_}
-use Prim.Native.Nat.{_-_}
-use native.Mathlib.Nat.{le-trans, le-of-lt}
+use Prim.Native.Nat.{_+_, _-_}
 use native.Mathlib.Omega.{arith}
 use denote.Ref.{now}
-use Rattle.page.proofs.Sends.{Sending, begin, finish, go, anew, on-page, first-range, first-fits, stop-range, nearer, row-fits, place}
 use lib.ListN.{length-set}
+use Rattle.rules.proofs.Rows.{width-range, page-small}
+use Rattle.page.proofs.Sends.{Sending, send-begin, cell-small, cell-fits, row-range, row-small, row-fits, send-next, last-fits, send-length, send-end}
 use Rattle.page.proofs.text.put_text.Statement.{statement}
 use Rattle.page.proofs.text.put_text.Tie as tie
 
 abbrev Inv-loop : tie.InvT-loop
-Inv-loop room₀ page width protect from to at₀ n₀ room at n =
-    Sending width protect page from to at₀ n₀ room₀ at n room
+Inv-loop room₀ page width out from to at₀ n₀ room at n = Sending width out page to from room₀ at n room
 
 abbrev μ-loop : tie.MeasureT-loop
-μ-loop room₀ page width protect from to at₀ n₀ room at n = to - at
+μ-loop room₀ page width out from to at₀ n₀ room at n = to - at
 
 pub put-text-spec : {M : Type 1} → statement M
 put-text-spec =
@@ -22,97 +21,51 @@ put-text-spec =
     (tie.spec
     Inv-loop
     μ-loop
-    -- row-stop-requires
-    (λ c κs. let k = c .before .before .pre in (k .0, (k .1 .0, rw (k .1 .1 .1 .0) at (k .1 .1 .0))))
-    -- mul-put-cells
-    (λ c.
-    let k = c .before .before .before .before .pre in
-    on-page (k .0) (le-trans (k .1 .0) (rw (k .1 .1 .1 .0) at (k .1 .1 .0))))
-    -- sub-put-cells
-    (λ c.
-    let k = c .before .before .before .before .pre in
-    first-range (k .0) (k .1 .0) (c .before .row-stop .ensures) .0)
-    -- part-put-cells-start
-    (λ c.
-    let k = c .before .before .before .before .pre in
-    first-range (k .0) (k .1 .0) (c .before .row-stop .ensures) .0)
-    -- part-put-cells-end
-    (λ c.
-    let k = c .before .before .before .before .pre in
-    le-trans (first-range (k .0) (k .1 .0) (c .before .row-stop .ensures) .1) (k .1 .1 .0))
-    -- put-cells-requires
-    (λ c κs.
-    let x = c .before .before .before .before .before .args in
-    let k = c .before .before .before .before .before .pre in
-    first-fits (k .0) (x .protect) (now (x .page)) (x .from) (x .to) (k .1 .1 .0) (k .1 .0) (c .before .before .row-stop .ensures)
-    (k .1 .1 .1 .1))
     -- loop-holds
+    (λ c. send-begin (c .before .before .pre .0) (c .before .before .pre .1 .0) (c .before .before .pre .1 .1 .0) (c .before .before .pre .1 .1 .1 .0) (c .before .before .pre .1 .1 .1 .1))
+    -- sub-loop
+    (λ c. c .loop .inv .counted .to)
+    -- add-end
     (λ c.
-    let x = c .before .before .before .before .before .before .before .before .args in
-    let k = c .before .before .before .before .before .before .before .before .pre in
-    let b = begin (k .0) (x .protect) (now (x .page)) (x .from) (x .to) (k .1 .1 .0) (k .1 .0)
-    (c .before .before .before .before .before .row-stop .ensures) (k .1 .1 .1 .1) (c .before .before .put-cells .ensures .0)
-    (c .before .before .put-cells .ensures .1) in
-    anew b)
-    -- row-stop-requires-2
+    let k = c .before .loop .inv .counted in
+    omega (arith, cell-small k, row-range k (c .loop-test .taken), k .inside, k .page, page-small (k .wide)))
+    -- mul-put-row
+    (λ c. cell-fits (c .before .before .loop .inv .counted))
+    -- sub-put-row
+    (λ c. omega arith)
+    -- part-put-row-start
+    (λ c. omega arith)
+    -- part-put-row-end
+    (λ c. row-range (c .before .before .loop .inv .counted) (c .before .loop-test .taken) .1)
+    -- put-row-requires
     (λ c κs.
-    let k = c .before .before .before .before .before .before .before .before .before .before .pre in
-    let i = c .before .loop .inv in
-    (i .wide, (i .to, rw (k .1 .1 .1 .0) at (k .1 .1 .0))))
+    let k = c .before .before .before .loop .inv .counted in
+    (row-small (k .wide) (now (c .before .before .before .before .before .before .args .page)) (c .before .before .before .loop .at) (c .before .before .before .loop .at + c .before .before .before .before .before .before .args .width) (k .page), omega (arith, row-fits (c .before .before .before .loop .inv) (c .before .before .loop-test .taken))))
     -- slice-write-room
-    (λ c. place (c .before .before .loop .inv) (c .before .loop-test .taken) (c .row-stop2 .ensures))
-    -- add-put-cells
-    (λ c. omega (
-      arith,
-      place (c .before .before .before .loop .inv) (c .before .before .loop-test .taken)
-          (c .before .row-stop2 .ensures),
-    ))
-    -- mul-put-cells-2
-    (λ c.
-    let k = c .before .before .before .before .before .before .before .before .before .before .before .before .pre in
-    let i = c .before .before .before .loop .inv in
-    on-page (i .wide) (le-trans (i .to) (rw (k .1 .1 .1 .0) at (k .1 .1 .0))))
-    -- sub-put-cells-2
-    (λ c.
-    let i = c .before .before .before .loop .inv in
-    le-of-lt (stop-range (i .wide) (c .before .before .loop-test .taken) (c .before .row-stop2 .ensures) .0))
-    -- part-put-cells-start-2
-    (λ c.
-    let i = c .before .before .before .loop .inv in
-    le-of-lt (stop-range (i .wide) (c .before .before .loop-test .taken) (c .before .row-stop2 .ensures) .0))
-    -- part-put-cells-end-2
-    (λ c.
-    let i = c .before .before .before .loop .inv in
-    le-trans (stop-range (i .wide) (c .before .before .loop-test .taken) (c .before .row-stop2 .ensures) .1) (i .inside))
-    -- put-cells-requires-2
-    (λ c κs. rw length-set (omega (
-      arith,
-      row-fits (c .before .before .before .before .loop .inv)
-          (c .before .before .before .loop-test .taken) (c .before .before .row-stop2 .ensures),
-    )))
+    (λ c. omega (arith, row-fits (c .before .before .before .before .before .before .loop .inv) (c .before .before .before .before .before .loop-test .taken), c .before .before .put-row .ensures .0, c .before .before .put-row .kept .0))
+    -- add-n
+    (λ c. omega (arith, row-fits (c .before .before .before .before .before .before .loop .inv) (c .before .before .before .before .before .loop-test .taken), c .before .before .put-row .ensures .0))
     -- loop-less
-    (λ c. nearer (c .before .before .before .before .before .before .before .loop .inv .wide)
-    (c .before .before .before .before .before .before .loop-test .taken)
-    (c .before .before .before .before .before .row-stop2 .ensures))
+    (λ c. omega (arith, width-range (c .before .before .before .before .before .before .loop .inv .counted .wide), c .before .before .before .before .before .loop-test .taken))
     -- loop-again
-    (λ c. go (c .before .before .before .before .before .before .before .loop .inv)
-    (c .before .before .before .before .before .before .loop-test .taken)
-    (c .before .before .before .before .before .row-stop2 .ensures) (c .before .before .put-cells2 .ensures .0)
-    (c .before .before .put-cells2 .ensures .1))
+    (λ c. send-next (c .before .before .before .before .before .before .loop .inv) (c .before .before .before .before .before .loop-test .taken) (c .before .before .put-row .ensures .0) (c .before .before .put-row .ensures .1))
+    -- mul-put-row-2
+    (λ c. cell-fits (c .before .before .loop .inv .counted))
+    -- sub-put-row-2
+    (λ c. c .before .before .loop .inv .counted .to)
+    -- part-put-row-start-2
+    (λ c. c .before .before .loop .inv .counted .to)
+    -- part-put-row-end-2
+    (λ c. c .before .before .loop .inv .counted .inside)
+    -- put-row-requires-2
+    (λ c κs.
+    let k = c .before .before .before .loop .inv .counted in
+    (row-small (k .wide) (now (c .before .before .before .before .before .before .args .page)) (c .before .before .before .loop .at) (c .before .before .before .before .before .before .args .to) (k .page), omega (arith, last-fits (c .before .before .before .loop .inv) (c .before .before .loop-test .left))))
+    -- slice-write-room-2
+    (λ c. omega (arith, last-fits (c .before .before .before .before .before .before .loop .inv) (c .before .before .before .before .before .loop-test .left), c .before .before .put-row2 .ensures .0, c .before .before .put-row2 .kept .0))
+    -- add-result
+    (λ c. omega (arith, last-fits (c .before .before .before .before .before .before .loop .inv) (c .before .before .before .before .before .loop-test .left), c .before .before .put-row2 .ensures .0))
     -- same-length
-    (λ c.
-    let x = c .before .before .before .before .before .before .before .before .before .before .args in
-    let k = c .before .before .before .before .before .before .before .before .before .before .pre in
-    let b = begin (k .0) (x .protect) (now (x .page)) (x .from) (x .to) (k .1 .1 .0) (k .1 .0)
-    (c .before .before .before .before .before .before .before .row-stop .ensures) (k .1 .1 .1 .1)
-    (c .before .before .before .before .put-cells .ensures .0) (c .before .before .before .before .put-cells .ensures .1) in
-    c .before .loop .inv .long ∙ b .long)
+    (λ c. length-set (c .before .before .put-row2 .last .0) (c .before .before .put-row2 .result) 0x0d ∙ c .before .before .put-row2 .kept .0 ∙ c .before .before .before .before .before .before .loop .inv .long)
     -- returns
-    (λ c.
-    let x = c .before .before .before .before .before .before .before .before .before .before .args in
-    let k = c .before .before .before .before .before .before .before .before .before .before .pre in
-    let b = begin (k .0) (x .protect) (now (x .page)) (x .from) (x .to) (k .1 .1 .0) (k .1 .0)
-    (c .before .before .before .before .before .before .before .row-stop .ensures) (k .1 .1 .1 .1)
-    (c .before .before .before .before .put-cells .ensures .0) (c .before .before .before .before .put-cells .ensures .1) in
-    let f = finish (c .before .loop .inv) (c .loop-test .left) in
-    (omega (arith, f .0, b .count), f .1 ∙ b .is)))
+    (λ c. (send-length (c .before .before .before .before .before .before .loop .inv) (c .before .before .before .before .before .loop-test .left) (c .before .before .put-row2 .ensures .0), send-end (c .before .before .before .before .before .before .loop .inv) (c .before .before .before .before .before .loop-test .left) (c .before .before .put-row2 .ensures .0) (c .before .before .put-row2 .ensures .1))))
