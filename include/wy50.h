@@ -72,7 +72,7 @@ typedef struct wy50_screen {
 
 /* Each mode is 0 (off) or 1 (on). */
 typedef struct wy50_modes {
-    uint8_t protect;       /* protected cells are guarded: not written, not sent, no place for the cursor */
+    uint8_t protect;       /* protected cells are guarded: not written, and no place for the cursor */
     uint8_t write_protect; /* what is written is protected */
     uint8_t insert;        /* what is written shifts the rest of the field */
     uint8_t autoscroll;    /* the last row scrolls */

@@ -266,12 +266,12 @@ static void bench(void)
     CHECK(FEED("\033)No\033(\033&") == 0 && page[0] == 206 && page[1] == 239);
     CHECK(FEED("\r") == 0 && state.screen.cursor0 == 2);
     CHECK(FEED("\b") == 0 && state.screen.cursor0 == 2);
-    CHECK(FEED("x\0334") == 0 && REPLIES("\x78\x20\x0d"));
+    CHECK(FEED("x\0334") == 0 && REPLIES("\x1c\x78\x20\x0d"));
     part("bench 5");
 
     power_on();
     CHECK(FEED("\033)Hi\033(\033&") == 0 && page[0] == 'H' + 128);
-    CHECK(FEED("\r\bx\0334") == 0 && REPLIES("\x78\x20\x0d"));
+    CHECK(FEED("\r\bx\0334") == 0 && REPLIES("\x1c\x78\x20\x0d"));
     part("bench 6");
 
     power_on();

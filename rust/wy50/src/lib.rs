@@ -149,14 +149,10 @@ impl Terminal {
         self.page.iter().copied().map(Cell)
     }
 
-    /// The open fields in reading order: the longest stretches of cells that are not guarded. A field goes on across rows and ends at the
-    /// segment's end. With protect mode off each segment is one field.
+    /// The open fields in reading order, as ESC 5 parts them: the longest stretches of cells within a row that are not guarded. With protect
+    /// mode off each row is one field.
     pub fn fields(&self) -> impl Iterator<Item = Field<'_>> + '_ {
-        let split = match usize::from(self.state.screen.split) {
-            row @ 2..=ROWS => (row - 1) * COLUMNS,
-            _ => CELLS,
-        };
-        cell::fields(&self.page, 0, split, self.protects()).chain(cell::fields(&self.page, split, CELLS, self.protects()))
+        (0..ROWS).flat_map(|row| cell::fields(&self.page, row * COLUMNS, (row + 1) * COLUMNS, self.protects()))
     }
 }
 
