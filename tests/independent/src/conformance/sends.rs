@@ -20,6 +20,7 @@ const STRETCHES: [&[(usize, usize)]; 9] = [
 impl Book {
     pub(super) fn sends(&mut self) {
         self.stretches();
+        self.sends_with_protect_off();
         self.longest_sends_with_marks();
         self.sends_in_segments();
     }
@@ -35,7 +36,7 @@ impl Book {
     fn stretches(&mut self) {
         for protect in [true, false] {
             for stretches in STRETCHES {
-                self.case("A2: each longest stretch of guarded cells within a row is one FS");
+                self.case("A2, A7: each longest stretch of marked cells within a row is one FS");
                 self.letters_with(stretches);
                 self.protect(protect);
                 for cursor in [0, 1, 2, 5, 71, 79, 80, 81, 159, 160, 239, 240, 400] {
@@ -63,6 +64,42 @@ impl Book {
             self.step_in(ESC, 0);
             self.step_in(b'4', room);
             self.pending(b"");
+        }
+    }
+
+    fn sends_with_protect_off(&mut self) {
+        self.case("A7: ESC 5 just after protect off gets no labels");
+        self.run(b"\x1b)Roast: \x1b(dark \x1b)Date: \x1b(18/07\x1b&");
+        self.run(b"\x1b'\x1b5\x1b4");
+        self.run(b"\x1b6\x1b7");
+        self.case("A7: the cursor's own cell, marked, is left out and read by ESC M");
+        self.letters_with(&[(4, 3)]);
+        for protect in [false, true] {
+            self.protect(protect);
+            self.cursor(0, 5);
+            self.run(b"\x1b4\x1b5");
+            self.step(ESC);
+            self.step(b'M');
+        }
+        self.case("A7: marks made with protect off are left out at once");
+        self.run(b"ab\x1b)cd\x1b(e\x1b4");
+        self.run(b"\x1b,\x1b4\x1b5");
+        self.run(b"\x1b+\x1b4\x1b5");
+        self.run(b"\x0c\x0c\x1bV\x0c\x1b4");
+        self.case("A7: all else still goes by guarded");
+        self.letters_with(&[(0, 3), (5, 2)]);
+        for commands in [
+            &b"x"[..],
+            b"\x0c",
+            b"\x08",
+            b"\x1bQ",
+            b"\x1bW",
+            b"\x1b&\x09",
+            b"\x1b'\x09",
+            b"\x1b;",
+        ] {
+            self.run(commands);
+            self.run(b"\x1b5");
         }
     }
 

@@ -40,6 +40,11 @@ impl Terminal {
         is_first.then_some(FS)
     }
 
+    /// By the cell's own mark, whatever protect mode says.
+    pub(super) fn is_marked(&self, place: usize) -> bool {
+        self.page[place].is_protected()
+    }
+
     pub(super) fn leaves_none_out(&self, _place: usize) -> bool {
         false
     }

@@ -33,6 +33,18 @@ fn stretches_go_as_one_mark() {
 }
 
 #[test]
+fn marked_cells_are_left_out_whatever_protect_mode_says() {
+    let mut terminal = form(b"ROASTabDATEc");
+    assert_eq!(
+        replies(&mut terminal, b"\x1b'\x1b5\x1b4"),
+        b"\x1cab\x1cc\r\x1cab\x1cc\r"
+    );
+    assert_eq!(replies(&mut terminal, b"\x1b6"), b"ROASTabDATEc\r");
+    terminal.state.cursors[0] = 0;
+    assert_eq!(replies(&mut terminal, b"\x1bM\x1b4"), b"R\x1c\r");
+}
+
+#[test]
 fn a_row_end_cuts_a_stretch() {
     let mut terminal = form(&[b'L'; 165]);
     assert_eq!(replies(&mut terminal, b"\x1b5"), b"\x1c\x1f\x1c\x1f\x1c\r");
