@@ -49,8 +49,8 @@ module _ (width : ℕ) (on : Bool) (p : List ℕ) {x : Reply} {at : ℕ} (told :
     pub cell-put : {w′ : List ℕ} → w′ ≡ stored 0 (openCell on (getD p at 0)) w → w′ ≡ over (replied width on p x) w
     cell-put h = h ∙ stored-over (openCell on (getD p at 0)) w cell-fits ∙ ap (λ (l : List ℕ). over l w) (sym cell-told)
 
--- a text: t is whether guarded cells are left out
-module _ (width : ℕ) (on : Bool) (p : List ℕ) {x : Reply} {all t : Bool} {a e : ℕ} (told : x ≡ Reply.Text all a e) (out : t ≡ leavesOut on all) where
+-- a text: t is whether protected cells are left out
+module _ (width : ℕ) (on : Bool) (p : List ℕ) {x : Reply} {all t : Bool} {a e : ℕ} (told : x ≡ Reply.Text all a e) (out : t ≡ leavesOut all) where
   text-told : replied width on p x ≡ bytesOf (textOf width t p a e)
   unfolding places replied
   text-told = rw (told, out)

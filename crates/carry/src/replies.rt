@@ -14,11 +14,11 @@ use page::text::put_text;
 use page::text::text_fits;
 use rules::Reply;
 
-// ESC 4 and ESC 5 leave guarded cells out, ESC 6 and ESC 7 send all.
-fn leaves_out(on: bool, all: bool) -> bool
-    ensures { λ r. ⌜ r ≡ leavesOut on all ⌝ }
+// ESC 4 and ESC 5 leave protected cells out, ESC 6 and ESC 7 send all.
+fn leaves_out(all: bool) -> bool
+    ensures { λ r. ⌜ r ≡ leavesOut all ⌝ }
 {
-    if all { false } else { on }
+    !all
 }
 
 // Whether so much room is enough for the reply.
@@ -37,7 +37,7 @@ pub fn reply_fits(page: &[u16], width: usize, on: bool, x: Reply, room: usize) -
         Reply::Text { all, from, to } => text_fits(
             page,
             width,
-            leaves_out(on, all),
+            leaves_out(all),
             from as usize,
             to as usize,
             room,
@@ -99,7 +99,7 @@ pub fn put_reply(page: &[u16], width: usize, on: bool, x: Reply, room: &mut [u8]
             room,
             page,
             width,
-            leaves_out(on, all),
+            leaves_out(all),
             from as usize,
             to as usize,
         ),

@@ -10,6 +10,7 @@ pub mod Related
 pub mod Unrevealing
 pub mod ExcludedBytes
 pub mod Noninterference
+pub mod Labels
 pub mod Screens
 pub mod Places
 pub mod Good

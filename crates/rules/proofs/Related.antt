@@ -1,7 +1,7 @@
 -- The relation between the pages of two terminals that noninterference keeps: a cell protected at the start holds in each terminal the
 -- number it had there, and any other cell holds one number in both.
 --     related-alike, related-cell, related-length     it holds at the start of pages that are alike; what it says of each cell
---     related-guards, related-reply, related-reply-length     what is read of two related pages agrees
+--     related-guards, related-open-text, related-reply, related-reply-length     what is read of two related pages agrees
 --     related-write     a write that spares guarded cells keeps it
 -- Assumes nothing.
 use mathlib.Core.Path.{_≡_, refl, sym, ap, _∙_}
@@ -137,6 +137,12 @@ conceals (Reply.Decimal r c) = true
 conceals (Reply.Cell at) = true
 conceals (Reply.Text true a e) = false
 conceals (Reply.Text false a e) = true
+
+-- the text of ESC 4 and ESC 5 is the same, protect mode on or off
+pub related-open-text : (w : ℕ) (on : Bool) (a e : ℕ) {p q x y : List ℕ} → Related p q x y
+    → replied w on x (Reply.Text false a e) ≡ replied w on y (Reply.Text false a e)
+unfolding places replied
+related-open-text w on a e h = ap bytesOf (related-text w w false (related-take (e - a) (related-drop a h)))
 
 -- its places are the same
 related-places : (w : ℕ) (r : Reply) → conceals r ≡ true → {p q x y : List ℕ} → Related p q x y → places w true x r ≡ places w true y r

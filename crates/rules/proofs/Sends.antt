@@ -47,7 +47,7 @@ places-small w on p (Reply.Address r c) = one (one (one none))
 places-small w on p (Reply.SegmentAddress n r c) = one (one (one (one none)))
 places-small w on p (Reply.Decimal r c) = one (one (one (one (one (one (one none))))))
 places-small w on p (Reply.Cell at) = small-pick (guarded on (getD p at 0)) (silent none) (one none)
-places-small w on p (Reply.Text all a e) = small-text w (leavesOut on all) w false (take (e - a) (drop a p))
+places-small w on p (Reply.Text all a e) = small-text w (leavesOut all) w false (take (e - a) (drop a p))
 
 pub bytes-most : {l : List (List ℕ)} → Small l → length (bytesOf l) ≤ length l
 unfolding bytesOf
@@ -93,4 +93,4 @@ module _ {w : ℕ} (k : Width w) where
   replied-bound on p (Reply.SegmentAddress n r c) h = omega (arith, bytes-most (places-small w on p (Reply.SegmentAddress n r c)))
   replied-bound on p (Reply.Decimal r c) h = omega (arith, bytes-most (places-small w on p (Reply.Decimal r c)))
   replied-bound on p (Reply.Cell at) h = omega (arith, bytes-most (places-small w on p (Reply.Cell at)))
-  replied-bound on p (Reply.Text all a e) h = part-bound (leavesOut on all) p a e (h .1)
+  replied-bound on p (Reply.Text all a e) h = part-bound (leavesOut all) p a e (h .1)

@@ -15,6 +15,7 @@ pub mod Step
 pub mod Calls
 pub mod Noninterference
 pub mod Completed
+pub mod Labels
 pub mod Good
 pub mod Steps
 pub mod Left

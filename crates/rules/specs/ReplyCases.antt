@@ -77,14 +77,14 @@ replyCases =
     -- ESC 6: the row from column 1 through the cursor, then CR, guarded cells too; ESC 4: the same with guarded cells left out
     ∷ obeys (0x41 ∷ 0x1f ∷ [] ++ labelled 1 1 ++ 0x42 ∷ [] ++ esc 0x26 ++ esc 0x36) (Replies (0x20 ∷ 0x4e ∷ 0x42 ∷ 0x20 ∷ 0x0d ∷ []) ∷ [])
     ∷ obeys (0x41 ∷ 0x1f ∷ [] ++ labelled 1 1 ++ 0x42 ∷ [] ++ esc 0x26 ++ esc 0x34) (Replies (0x20 ∷ 0x1c ∷ 0x42 ∷ 0x20 ∷ 0x0d ∷ []) ∷ [])
-    ∷ obeysFrom (0 ∷ 206 ∷ []) (cursorAt 2) (0x42 ∷ [] ++ esc 0x34) (Replies (0x20 ∷ 0x4e ∷ 0x42 ∷ 0x20 ∷ 0x0d ∷ []) ∷ [])
+    ∷ obeysFrom (0 ∷ 206 ∷ []) (cursorAt 2) (0x42 ∷ [] ++ esc 0x34) (Replies (0x20 ∷ 0x1c ∷ 0x42 ∷ 0x20 ∷ 0x0d ∷ []) ∷ [])
     ∷ obeysFrom (206 ∷ []) (protectAt 0) (esc 0x34) (Replies (0x1c ∷ 0x0d ∷ []) ∷ Cursor 0 ∷ [])
     -- ESC 7: segment home through the cursor, US between rows, then CR; ESC 5: guarded cells left out, the US stays
     ∷ obeys (0x41 ∷ 0x1f ∷ 0x42 ∷ [] ++ esc 0x37) (Replies (0x41 ∷ replicate 79 32 ++ 0x1f ∷ 0x42 ∷ 0x20 ∷ 0x0d ∷ []) ∷ [])
     ∷ obeysFrom (206 ∷ [] ++ replicate 79 0 ++ 206 ∷ []) (cursorAt 81) (0x42 ∷ [] ++ esc 0x26 ++ esc 0x37)
     (Replies (0x4e ∷ replicate 79 32 ++ 0x1f ∷ 0x4e ∷ 0x42 ∷ 0x20 ∷ 0x0d ∷ []) ∷ [])
     ∷ obeysFrom (206 ∷ [] ++ replicate 79 0 ++ 206 ∷ []) (cursorAt 81) (0x42 ∷ [] ++ esc 0x26 ++ esc 0x35) (Replies (0x1c ∷ replicate 79 32 ++ 0x1f ∷ 0x1c ∷ 0x42 ∷ 0x20 ∷ 0x0d ∷ []) ∷ [])
-    ∷ obeysFrom (206 ∷ []) (cursorAt 1) (0x42 ∷ [] ++ esc 0x35) (Replies (0x4e ∷ 0x42 ∷ 0x20 ∷ 0x0d ∷ []) ∷ [])
+    ∷ obeysFrom (206 ∷ []) (cursorAt 1) (0x42 ∷ [] ++ esc 0x35) (Replies (0x1c ∷ 0x42 ∷ 0x20 ∷ 0x0d ∷ []) ∷ [])
     ∷ obeysFrom lettersBelow (lowerAt 1041) (esc 0x37) (Replies (0x41 ∷ replicate 79 32 ++ 0x1f ∷ 0x42 ∷ 0x20 ∷ 0x0d ∷ []) ∷ [])
     ∷ obeysFrom lettersBelow (lowerAt 1041) (esc 0x35) (Replies (0x41 ∷ replicate 79 32 ++ 0x1f ∷ 0x42 ∷ 0x20 ∷ 0x0d ∷ []) ∷ [])
     ∷ []

@@ -1,6 +1,6 @@
--- What a reply sends (document 01, "Modes and replies", amended by request A2 of document 02): a reply is a row of places, each of which
+-- What a reply sends (document 01, "Modes and replies", amended by requests A2 and A7 of document 02): a reply is a row of places, each of which
 -- gives one byte or none, by the page as it stands.
-use mathlib.Core.Bool.{Bool, true, false}
+use mathlib.Core.Bool.{Bool, true, false, not}
 use mathlib.Core.List.{List, [], _∷_, _++_}
 use Prim.Native.Nat.{ℕ, zero, suc, _+_, _-_, _/_, _%_}
 use lib.ListN.{getD, take, drop}
@@ -20,9 +20,9 @@ digit n = 0x30 + n % 10
 unfoldable pub openCell : Bool → ℕ → List ℕ
 openCell on v = pick (guarded on v) [] (sent v ∷ [])
 
--- ESC 4 and ESC 5 leave guarded cells out, the protected ones in protect mode; ESC 6 and ESC 7 send all
-abbrev pub leavesOut : Bool → Bool → Bool
-leavesOut on all = pick all false on
+-- A7: ESC 4 and ESC 5 leave a cell out that is marked protected, whatever protect mode says; ESC 6 and ESC 7 send all
+abbrev pub leavesOut : Bool → Bool
+leavesOut all = not all
 
 abbrev pub leftOut : Bool → ℕ → Bool
 leftOut out v = both out (protected v)
@@ -51,7 +51,7 @@ places w on p (Reply.Address r c) = each (r ∷ c ∷ 0x0d ∷ [])
 places w on p (Reply.SegmentAddress n r c) = each (n ∷ r ∷ c ∷ 0x0d ∷ [])
 places w on p (Reply.Decimal r c) = each (digit (r / 10) ∷ digit r ∷ 0x52 ∷ digit (c / 100) ∷ digit (c / 10) ∷ digit c ∷ 0x43 ∷ [])
 places w on p (Reply.Cell at) = openCell on (getD p at 0) ∷ []
-places w on p (Reply.Text all a e) = textOf w (leavesOut on all) p a e
+places w on p (Reply.Text all a e) = textOf w (leavesOut all) p a e
 
 -- the bytes of some places, joined
 unfoldable pub bytesOf : List (List ℕ) → List ℕ
