@@ -59,7 +59,7 @@ impl fmt::Display for Row<'_> {
     }
 }
 
-/// An open field: cells that follow each other and are not guarded. It displays as the bytes that a send gives.
+/// A field: cells of a row that follow each other and are not marked protected. It displays as the bytes that a send gives.
 #[derive(Clone, Copy, Debug, PartialEq, Eq)]
 pub struct Field<'a> {
     start: usize,
@@ -88,12 +88,12 @@ fn write_cells(f: &mut fmt::Formatter<'_>, cells: &[u16]) -> fmt::Result {
 }
 
 /// The fields of the cells `from` up to `to`.
-pub(crate) fn fields(page: &[u16], from: usize, to: usize, protects: bool) -> impl Iterator<Item = Field<'_>> + '_ {
-    let guarded = move |at: usize| protects && Cell(page[at]).is_protected();
+pub(crate) fn fields(page: &[u16], from: usize, to: usize) -> impl Iterator<Item = Field<'_>> + '_ {
+    let marked = move |at: usize| Cell(page[at]).is_protected();
     let mut at = from;
     core::iter::from_fn(move || {
-        let start = (at..to).find(|&i| !guarded(i))?;
-        let end = (start..to).find(|&i| guarded(i)).unwrap_or(to);
+        let start = (at..to).find(|&i| !marked(i))?;
+        let end = (start..to).find(|&i| marked(i)).unwrap_or(to);
         at = end;
         Some(Field { start, cells: &page[start..end] })
     })

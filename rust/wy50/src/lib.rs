@@ -149,10 +149,10 @@ impl Terminal {
         self.page.iter().copied().map(Cell)
     }
 
-    /// The open fields in reading order, as ESC 5 parts them: the longest stretches of cells within a row that are not guarded. With protect
-    /// mode off each row is one field.
+    /// The fields in reading order, as ESC 5 sends them: the longest stretches of cells within a row that are not marked protected, whatever
+    /// protect mode says. So no label is in a field, before protect mode goes on and after it goes off.
     pub fn fields(&self) -> impl Iterator<Item = Field<'_>> + '_ {
-        (0..ROWS).flat_map(|row| cell::fields(&self.page, row * COLUMNS, (row + 1) * COLUMNS, self.protects()))
+        (0..ROWS).flat_map(|row| cell::fields(&self.page, row * COLUMNS, (row + 1) * COLUMNS))
     }
 }
 

@@ -142,6 +142,8 @@ fn fields() {
     let fields: Vec<_> = t.fields().map(|f| (f.start(), f.to_string())).collect();
     assert_eq!(fields, [(5, "dark ".to_string()), (78, "AC".to_string()), (80, "B".to_string())]);
     fed(&mut t, b"\x1b'");
+    assert_eq!(t.fields().map(|f| f.start()).collect::<Vec<_>>(), [5, 78, 80], "protect mode off tells no label");
+    fed(&mut t, b"\x1b+");
     assert_eq!(t.fields().map(|f| f.cells().len()).collect::<Vec<_>>(), [COLUMNS; ROWS]);
 }
 
