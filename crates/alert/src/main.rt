@@ -50,13 +50,14 @@ fn show(name: &[u8], page: &[u16], drawn: &[u16], p: Played, log: &[u8])
 {
     let state = p.state;
     let core = state.core;
+    let setup = state.setup;
     let screen = core.screen;
     let modes = core.modes;
     let protect = modes.protect;
     let pending = core.pending;
     let refusals = p.refusals;
     report::heading(name, p.bytes);
-    picture::show(page, protect, report::cursor_of(screen));
+    picture::show(page, protect, report::cursor_of(screen), setup);
     report::place(page, protect, screen);
     report::modes(modes);
     report::sequence(pending);

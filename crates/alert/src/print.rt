@@ -1,4 +1,6 @@
-// What only prints: the page in a frame, and what is told beside it. What members are sent is not made here.
+// What only prints: the page in a frame, the host message and the key labels, and what is told beside it. What members are sent is not made
+// here.
+pub mod lines;
 pub mod out;
 pub mod picture;
 pub mod report;

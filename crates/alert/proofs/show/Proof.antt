@@ -14,7 +14,7 @@ show-spec =
     -- cursor-of-requires
     (λ c κs. search needs)
     -- show-requires
-    (λ c κs. c .before .before .before .before .before .before .before .before .before .before .before .pre .0)
+    (λ c κs. c .before .before .before .before .before .before .before .before .before .before .before .before .pre .0)
     -- place-requires
     (λ c κs. search needs)
     -- modes-requires
@@ -23,14 +23,14 @@ show-spec =
     (λ c κs. search needs)
     -- show-guarded-requires
     (λ c κs.
-    let k = c .before .before .before .before .before .before .before .before .before .before .before .before .before .before .before .pre in
+    let k = c .before .before .before .before .before .before .before .before .before .before .before .before .before .before .before .before .pre in
     (k .0, (omega (arith, k), k .1 .1)))
     -- refused-requires
     (λ c κs. search needs)
     -- show-message-requires
     (λ c κs.
-    let k = c .before .before .before .before .before .before .before .before .before .before .before .before .before .before .before .before .before .pre in
-    let x = c .before .before .before .before .before .before .before .before .before .before .before .before .before .before .before .before .before .args in
+    let k = c .before .before .before .before .before .before .before .before .before .before .before .before .before .before .before .before .before .before .pre in
+    let x = c .before .before .before .before .before .before .before .before .before .before .before .before .before .before .before .before .before .before .args in
     (k .0, (now (x .drawn), k .1 .1)))
     -- replies-requires
     (λ c κs. search needs)

@@ -1,12 +1,14 @@
-// The page in a frame. A line under a row marks its open cells and the cursor; with protect mode off every cell is open, and only the
-// cursor is marked.
+// The page in a frame, the host message above it and the key labels below it. A line under a row marks its open cells and the cursor; with
+// protect mode off every cell is open, and only the cursor is marked.
 ghost use mathlib.Core.Path.{_≡_};
 ghost use Prim.Native.Nat.{_≤_};
 ghost use lib.ListN.{length};
 use crate::cells::trimmed;
+use crate::print::lines;
 use crate::print::out;
 use page::cell::is_open;
 use page::cell::sent_code;
+use rules::Setup;
 
 // What is seen of a cell: a graphic as #, any other as a send gives it.
 fn seen(v: u16) -> u8 {
@@ -138,10 +140,13 @@ fn legend(protect: bool) {
     out::text(b"    ^ cursor\n");
 }
 
-pub fn show(page: &[u16], protect: bool, cursor: usize)
+pub fn show(page: &[u16], protect: bool, cursor: usize, setup: Setup)
     requires { ⌜ length (now page) ≡ 1920 ⌝ }
 {
+    let message = setup.message;
+    let labels = setup.labels;
     let n = rows_used(page, protect, cursor);
+    lines::message(message);
     out::text(
         b"   +---------1---------2---------3---------4---------5---------6---------7---------8+\n",
     );
@@ -149,6 +154,7 @@ pub fn show(page: &[u16], protect: bool, cursor: usize)
     out::text(
         b"   +--------------------------------------------------------------------------------+\n",
     );
+    lines::labels(labels, setup.shifted);
     folded(n);
     legend(protect);
 }
