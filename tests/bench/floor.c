@@ -1,4 +1,4 @@
-/* The floors: a loop that stores text and ends lines by 0Dh and 0Ah, and one that shifts rows. */
+/* The floors: a loop that stores text and ends lines by 0Dh and 0Ah, one that shifts rows, and one that sends cells. */
 #include <stdbool.h>
 #include <stddef.h>
 #include <stdint.h>
@@ -94,4 +94,61 @@ void floor_shift(uint16_t *page, struct cursor *cursor, const uint8_t *bytes, si
         }
     }
     *cursor = c;
+}
+
+enum { PROTECTED = 0x80, FS = 0x1c, US = 0x1f };
+
+/* The code of a text cell from 20h to 7Eh, a space for any other cell. */
+static uint8_t sent(uint16_t cell)
+{
+    uint8_t code = cell & 0x7f;
+    return cell < 0x100 && code >= 0x20 && code < 0x7f ? code : ' ';
+}
+
+/* A row's cells; gives back where the reply goes on. */
+static uint8_t *send_row(const uint16_t *row, uint8_t *to)
+{
+    for (size_t k = 0; k < COLUMNS; k++)
+        *to++ = sent(row[k]);
+    return to;
+}
+
+/* The same with one FS for each stretch of protected cells. */
+static uint8_t *send_open(const uint16_t *row, uint8_t *to)
+{
+    bool out = false;
+    for (size_t k = 0; k < COLUMNS; k++) {
+        if (!(row[k] & PROTECTED))
+            *to++ = sent(row[k]);
+        else if (!out)
+            *to++ = FS;
+        out = row[k] & PROTECTED;
+    }
+    return to;
+}
+
+/* The whole page: US between rows, CR at the end. */
+static uint8_t *send_page(const uint16_t *page, bool all, uint8_t *to)
+{
+    for (size_t first = 0; first < CELLS; first += COLUMNS) {
+        if (first > 0)
+            *to++ = US;
+        to = all ? send_row(page + first, to) : send_open(page + first, to);
+    }
+    *to++ = 0x0d;
+    return to;
+}
+
+/* ESC 5 and ESC 7 with the cursor in the last cell; gives back how many bytes are replied. */
+size_t floor_send(const uint16_t *page, const uint8_t *bytes, size_t count, uint8_t *reply)
+{
+    uint8_t *to = reply;
+    bool escaped = false;
+    for (size_t i = 0; i < count; i++) {
+        uint8_t b = bytes[i];
+        if (escaped && (b == '5' || b == '7'))
+            to = send_page(page, b == '7', to);
+        escaped = !escaped && b == 0x1b;
+    }
+    return to - reply;
 }

@@ -10,14 +10,14 @@ mod state;
 mod terminal;
 mod workloads;
 
-use peers::{after, feed, play, Floor, Independent, Libvterm, Page, Peer, Proved, ShiftFloor, READ};
+use peers::{after, feed, play, Floor, Independent, Libvterm, Page, Peer, Proved, SendFloor, Sender, ShiftFloor, READ};
 use std::{
     fmt::Write,
     hint::black_box,
     process::{Command, ExitCode},
     time::Instant,
 };
-use workloads::{Shifts, Stream, Workload, SHIFTS, WORKLOADS};
+use workloads::{Shifts, Stream, Workload, SENDS, SHIFTS, WORKLOADS};
 use wy50::{Answer, State, Terminal, CELLS, LONGEST_REPLY};
 
 const ROUNDS: usize = 5;
@@ -26,8 +26,10 @@ const GROWTH: [usize; 3] = [1_000_000, 10_000_000, 100_000_000];
 const CALLS: usize = 1_000_000;
 const SHIFT_COUNT: usize = 10_000;
 const SHIFT_ROUNDS: usize = 50; // each is short
+const SEND_TURNS: usize = 2_000;
+const SEND_ROUNDS: usize = 50; // each is short
 
-/// Nanoseconds a byte or a row shift, where a peer has the workload.
+/// Nanoseconds a byte, a row shift or a reply byte, where a peer has the workload.
 struct Row {
     name: &'static str,
     proved: f64,
@@ -46,14 +48,18 @@ struct Single {
 
 fn main() -> ExitCode {
     let Some(path) = std::env::args().nth(1) else {
-        eprintln!("bench FILE: the tables go to FILE\nbench --scrolls: the scrolls alone, printed");
+        eprintln!("bench FILE: the tables go to FILE\nbench --scrolls, bench --sends: the scrolls or the sends alone, printed");
         return ExitCode::from(2);
     };
-    let scrolls = path == "--scrolls";
-    match if scrolls { scrolls_report() } else { report() } {
+    let (made, alone) = match path.as_str() {
+        "--scrolls" => (scrolls_report(), true),
+        "--sends" => (sends_report(), true),
+        _ => (report(), false),
+    };
+    match made {
         Ok(text) => {
             print!("{text}");
-            if !scrolls {
+            if !alone {
                 std::fs::write(path, text).expect("the file can be written");
             }
             ExitCode::SUCCESS
@@ -68,15 +74,17 @@ fn main() -> ExitCode {
 fn report() -> Result<String, String> {
     let rows = WORKLOADS.iter().map(row).collect::<Result<Vec<_>, _>>()?;
     let shifts = SHIFTS.iter().map(shift_row).collect::<Result<Vec<_>, _>>()?;
+    let sends = send_row()?;
     let growth = WORKLOADS.each_ref().map(grown);
     let singles = [single("step", 400.0, step), single("press", 300.0, press)];
     let mut out = String::new();
     introduction(&mut out);
     peers_table(&mut out, &rows);
     shifts_table(&mut out, &shifts);
+    sends_table(&mut out, &sends);
     growth_table(&mut out, &growth);
     singles_table(&mut out, &singles);
-    targets(&mut out, &rows, &shifts, &singles);
+    targets(&mut out, &rows, &shifts, &[sends], &singles);
     Ok(out)
 }
 
@@ -84,7 +92,15 @@ fn scrolls_report() -> Result<String, String> {
     let shifts = SHIFTS.iter().map(shift_row).collect::<Result<Vec<_>, _>>()?;
     let mut out = String::new();
     shifts_table(&mut out, &shifts);
-    targets(&mut out, &[], &shifts, &[]);
+    targets(&mut out, &[], &shifts, &[], &[]);
+    Ok(out)
+}
+
+fn sends_report() -> Result<String, String> {
+    let sends = send_row()?;
+    let mut out = String::new();
+    sends_table(&mut out, &sends);
+    targets(&mut out, &[], &[], &[sends], &[]);
     Ok(out)
 }
 
@@ -150,6 +166,44 @@ fn best_shifts(least: &mut f64, mut peer: impl Peer, stream: &[u8]) -> Page {
     feed(&mut peer, black_box(stream));
     *least = least.min(start.elapsed().as_nanos() as f64 / SHIFT_COUNT as f64);
     peer.page()
+}
+
+/// Sends on every terminal that has them, the terminals taking turns.
+fn send_row() -> Result<Row, String> {
+    let drawn = SENDS.drawn();
+    if let Some(difference) = peers::difference(&[&drawn[..], &SENDS.asked.repeat(SEND_TURNS)].concat()) {
+        return Err(format!("{}: {difference}", SENDS.name));
+    }
+    let (mut ours, mut theirs) = (after::<Proved>(&drawn), after::<Independent>(&drawn));
+    let mut plain = SendFloor::new(theirs.page());
+    let expected = theirs.reply_to(SENDS.asked).to_vec();
+    same_reply("the proved terminal", &mut ours, &expected)?;
+    same_reply("the floor", &mut plain, &expected)?;
+    let (mut proved, mut independent, mut floor) = (f64::MAX, f64::MAX, f64::MAX);
+    for _ in 0..SEND_ROUNDS {
+        proved = proved.min(timed_sends(&mut ours));
+        independent = independent.min(timed_sends(&mut theirs));
+        floor = floor.min(timed_sends(&mut plain));
+    }
+    same_reply("the proved terminal", &mut ours, &expected)?;
+    same_reply("the independent implementation", &mut theirs, &expected)?;
+    same_reply("the floor", &mut plain, &expected)?;
+    Ok(Row { name: SENDS.name, proved, independent, libvterm: None, floor: Some(floor) })
+}
+
+fn same_reply(who: &str, sender: &mut impl Sender, expected: &[u8]) -> Result<(), String> {
+    let reply = sender.reply_to(SENDS.asked);
+    if reply == expected {
+        return Ok(());
+    }
+    let same = reply.iter().zip(expected).take_while(|(a, b)| a == b).count();
+    Err(format!("{}: the reply of {who} differs from byte {same} on", SENDS.name))
+}
+
+fn timed_sends(sender: &mut impl Sender) -> f64 {
+    let start = Instant::now();
+    let replied: usize = (0..SEND_TURNS).map(|_| black_box(sender.reply_to(black_box(SENDS.asked))).len()).sum();
+    start.elapsed().as_nanos() as f64 / replied as f64
 }
 
 fn timed(stream: &[u8], play: fn(&[u8]) -> Page) -> (f64, Page) {
@@ -292,7 +346,30 @@ fn shifts_table(out: &mut String, rows: &[Row]) {
     line!(out);
 }
 
-/// A row of the two tables above, its times with so many digits after the point.
+fn sends_table(out: &mut String, row: &Row) {
+    line!(out, "## Sends");
+    line!(out);
+    line!(
+        out,
+        "Nanoseconds a reply byte, and in brackets how many times the proved terminal's that is. {} sends, the best of {SEND_ROUNDS}:",
+        2 * SEND_TURNS
+    );
+    line!(out);
+    line!(out, "- {}: {}", SENDS.name, SENDS.what);
+    line!(out);
+    line!(out, "| workload | proved | independent | libvterm | C loop over the cells |");
+    line!(out, "|---|---|---|---|---|");
+    peers_row(out, row, 2);
+    line!(out);
+    line!(
+        out,
+        "A read asks for one of each, and their replies are taken before the next; ESC 7 replies {LONGEST_REPLY} bytes, the most there are."
+    );
+    line!(out, "libvterm does not send its page. All replies are the same, byte by byte.");
+    line!(out);
+}
+
+/// A row of the three tables above, its times with so many digits after the point.
 fn peers_row(out: &mut String, row: &Row, digits: usize) {
     let beside = |time: Option<f64>| time.map_or("-".to_string(), |time| format!("{time:.digits$} ({:.2})", time / row.proved));
     line!(
@@ -332,21 +409,22 @@ fn singles_table(out: &mut String, singles: &[Single]) {
     line!(out);
 }
 
-fn targets(out: &mut String, rows: &[Row], shifts: &[Row], singles: &[Single]) {
+fn targets(out: &mut String, rows: &[Row], shifts: &[Row], sends: &[Row], singles: &[Single]) {
     line!(out, "## Targets");
     line!(out);
     line!(out, "| target | measured | |");
     line!(out, "|---|---|---|");
     let mut target =
         |what: &str, measured: String, met: bool| line!(out, "| {what} | {measured} | {} |", if met { "met" } else { "missed" });
-    let bytes = rows.iter().map(|row| (row, 3.0, "the C floor"));
-    let shifts = shifts.iter().map(|row| (row, 2.0, "C with memmove"));
-    for (row, most, floor) in bytes.chain(shifts) {
+    let bytes = rows.iter().map(|row| (row, Some((3.0, "the C floor"))));
+    let shifts = shifts.iter().map(|row| (row, Some((2.0, "C with memmove"))));
+    let sends = sends.iter().map(|row| (row, None));
+    for (row, within) in bytes.chain(shifts).chain(sends) {
         if let Some(time) = row.libvterm {
             let ratio = time / row.proved;
             target(&format!("{}: at least 3 times as fast as libvterm", row.name), format!("{ratio:.1}"), ratio >= 3.0);
         }
-        if let Some(time) = row.floor {
+        if let (Some(time), Some((most, floor))) = (row.floor, within) {
             let ratio = row.proved / time;
             target(&format!("{}: within {most} times {floor}", row.name), format!("{ratio:.2}"), ratio <= most);
         }

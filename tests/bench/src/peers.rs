@@ -5,7 +5,7 @@ use std::{
     ffi::{c_char, c_int, c_void},
     ops::Range,
 };
-use wy50::{Terminal, CELLS, COLUMNS, ROWS};
+use wy50::{Terminal, CELLS, COLUMNS, LONGEST_REPLY, ROWS};
 
 /// Bytes of a read, and of the reply room.
 pub const READ: usize = 4096;
@@ -36,6 +36,12 @@ pub fn play<P: Peer + Default>(stream: &[u8]) -> Page {
     after::<P>(stream).page()
 }
 
+/// A peer that sends its page.
+pub trait Sender {
+    /// The reply to a read; the reply room takes all of it.
+    fn reply_to(&mut self, bytes: &[u8]) -> &[u8];
+}
+
 /// The proved terminal.
 pub struct Proved {
     terminal: Terminal,
@@ -57,6 +63,14 @@ impl Peer for Proved {
 
     fn page(&self) -> Page {
         *self.terminal.page()
+    }
+}
+
+impl Sender for Proved {
+    fn reply_to(&mut self, bytes: &[u8]) -> &[u8] {
+        let fed = self.terminal.feed(bytes, &mut self.reply);
+        assert!(fed.rest.is_empty());
+        &self.reply[..fed.replied]
     }
 }
 
@@ -84,6 +98,14 @@ impl Peer for Independent {
     }
 }
 
+impl Sender for Independent {
+    fn reply_to(&mut self, bytes: &[u8]) -> &[u8] {
+        let run = self.terminal.run(bytes, &mut self.reply);
+        assert!(run.rest.is_empty());
+        &self.reply[..run.replied]
+    }
+}
+
 /// Both side by side: every count and reply, and the page after each read. What differs first, if anything does.
 pub fn difference(stream: &[u8]) -> Option<String> {
     let mut ours = Terminal::new();
@@ -94,8 +116,9 @@ pub fn difference(stream: &[u8]) -> Option<String> {
         while !read.is_empty() {
             let a = ours.feed(read, &mut our_reply);
             let b = theirs.run(read, &mut their_reply);
-            if (a.taken, a.replied, a.refused) != (b.taken, b.replied, b.refused) {
-                return Some(format!("from byte {at}: the counts are {a:?} and {b:?}"));
+            let counts = [(a.taken, a.replied, a.refused), (b.taken, b.replied, b.refused)];
+            if counts[0] != counts[1] {
+                return Some(format!("from byte {at}: bytes taken, replied and refused are {:?} and {:?}", counts[0], counts[1]));
             }
             if our_reply[..a.replied] != their_reply[..b.replied] {
                 return Some(format!("from byte {at}: the replies differ"));
@@ -113,6 +136,7 @@ pub fn difference(stream: &[u8]) -> Option<String> {
 extern "C" {
     fn floor_run(page: *mut u16, at: usize, bytes: *const u8, count: usize) -> usize;
     fn floor_shift(page: *mut u16, cursor: *mut Cursor, bytes: *const u8, count: usize);
+    fn floor_send(page: *const u16, bytes: *const u8, count: usize, reply: *mut u8) -> usize;
 }
 
 /// The floor of text, plain C.
@@ -172,6 +196,28 @@ impl Peer for ShiftFloor {
 
     fn page(&self) -> Page {
         self.page
+    }
+}
+
+/// The floor of sends, a plain C loop over the cells, with the cursor in the last cell.
+pub struct SendFloor {
+    page: Page,
+    reply: [u8; READ],
+}
+
+impl SendFloor {
+    pub fn new(page: Page) -> Self {
+        SendFloor { page, reply: [0; READ] }
+    }
+}
+
+impl Sender for SendFloor {
+    fn reply_to(&mut self, bytes: &[u8]) -> &[u8] {
+        assert!(bytes.len() / 2 * LONGEST_REPLY <= READ);
+        // SAFETY: the page has 1,920 cells, the pointer and the count are those of one slice, and there is room for a longest reply to every
+        // two bytes, which is all that they can ask for.
+        let count = unsafe { floor_send(self.page.as_ptr(), bytes.as_ptr(), bytes.len(), self.reply.as_mut_ptr()) };
+        &self.reply[..count]
     }
 }
 

@@ -126,6 +126,43 @@ fn edit_rows(w: &mut Writer) {
     }
 }
 
+/// Sends of a form that is drawn first.
+pub struct Sends {
+    pub name: &'static str,
+    pub what: &'static str,
+    /// A turn: what a read asks for.
+    pub asked: &'static [u8],
+}
+
+pub const SENDS: Sends = Sends {
+    name: "sends",
+    what: "ESC 5 and ESC 7 by turns over a protected form: in each row two labels of 16 cells, each before a field with an attribute and 4 to \
+           22 characters, and a label in the last cell of each row but the last, where the cursor stands",
+    asked: b"\x1b5\x1b7",
+};
+
+impl Sends {
+    /// The form, with protect mode on and the cursor in the last cell.
+    pub fn drawn(&self) -> Vec<u8> {
+        let mut writer = Writer::new();
+        for row in 0..ROWS {
+            for column in [0, COLUMNS / 2] {
+                writer.address(row, column);
+                writer.label(COLUMNS / 2 - FIELD_CELLS);
+                writer.only(b"\x1bG8");
+                writer.text(4, FIELD_CELLS - 2);
+            }
+            if row + 1 < ROWS {
+                writer.address(row, COLUMNS - 1);
+                writer.label(1);
+            }
+        }
+        writer.only(b"\x1b&");
+        writer.address(ROWS - 1, COLUMNS - 1);
+        writer.stream.wy50
+    }
+}
+
 const FIRST_FIELD_ROW: usize = 4;
 const FIELDS: usize = 16;
 const FIELD_COLUMN: usize = 20;
@@ -221,6 +258,13 @@ impl Writer {
             let letter = if self.random.below(6) == 0 { b' ' } else { b'a' + self.random.below(26) as u8 };
             self.both(&[letter]);
         }
+    }
+
+    /// Protected text.
+    fn label(&mut self, cells: usize) {
+        self.only(b"\x1b)");
+        self.text(cells, cells);
+        self.only(b"\x1b(");
     }
 
     /// Row and column count from 0.
