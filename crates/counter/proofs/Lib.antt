@@ -1,0 +1,12 @@
+pub mod Tests
+pub mod Fewest
+pub mod Tallies
+pub mod Texts
+pub mod Marks
+pub mod Counting
+pub mod Replies
+pub mod Questions
+pub mod Alike
+pub mod Countable
+pub mod Sizes
+pub mod Worked
