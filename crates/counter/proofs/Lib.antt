@@ -9,4 +9,4 @@ pub mod Questions
 pub mod Alike
 pub mod Countable
 pub mod Sizes
-pub mod Worked
+pub mod Cases

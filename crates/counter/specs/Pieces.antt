@@ -37,15 +37,6 @@ pieces r = pick (returns r) (cutAtMarks (before r)) []
 unfoldable pub pieceOf : List ℕ → ℕ → List ℕ
 pieceOf r n = pick (eqb n 0) [] (getD (pieces r) (n - 1) [])
 
--- texts joined with nothing between
-unfoldable pub joined : List (List ℕ) → List ℕ
-joined [] = []
-joined (t ∷ ts) = t ++ joined ts
-
--- the whole: the pieces from the first number to the last, joined
-unfoldable pub whole : List ℕ → ℕ → ℕ → List ℕ
-whole r first last = joined (take (last + 1 - first) (drop (first - 1) (pieces r)))
-
 -- a byte before a text without trailing spaces
 unfoldable pub kept : ℕ → List ℕ → List ℕ
 kept b [] = pick (eqb b space) [] (b ∷ [])
@@ -55,3 +46,12 @@ kept b (x ∷ l) = b ∷ x ∷ l
 unfoldable pub trimmed : List ℕ → List ℕ
 trimmed [] = []
 trimmed (b ∷ l) = kept b (trimmed l)
+
+-- texts joined with nothing between
+unfoldable pub joined : List (List ℕ) → List ℕ
+joined [] = []
+joined (t ∷ ts) = t ++ joined ts
+
+-- the whole: the pieces from the first number to the last, joined
+unfoldable pub whole : List ℕ → ℕ → ℕ → List ℕ
+whole r first last = joined (take (last + 1 - first) (drop (first - 1) (pieces r)))
