@@ -14,6 +14,7 @@ use crate::trace::hex_word;
 use crate::trace::named;
 use crate::trace::put;
 use crate::trace::text;
+use counter::Counted;
 use rules::Answer;
 use rules::State;
 
@@ -159,6 +160,41 @@ fn show(count: usize, s: State, page: &[u16], out: &mut [u8], at: usize) -> Call
     ending(out, n2, s, page)
 }
 
+// How a count went.
+fn result(out: &mut [u8], at: usize, c: Counted) -> usize {
+    match c {
+        Counted::Text(_, parts) => named(out, at, b"parts:", parts as usize),
+        Counted::NoReturn => text(out, at, b"no-cr"),
+        Counted::BadFirst => text(out, at, b"first"),
+        Counted::BadLast => text(out, at, b"last"),
+        Counted::BadByte(place) => named(out, at, b"byte:", place),
+    }
+}
+
+fn count_reply(
+    count: usize,
+    s: State,
+    input: &[u8],
+    first: usize,
+    last: usize,
+    page: &[u16],
+    out: &mut [u8],
+    at: usize,
+) -> Called {
+    let n = heading(out, at, count, b"count");
+    let n1 = text(out, n, b" result=");
+    let c = counter::count(input, first, last);
+    let n2 = result(out, n1, c);
+    ending(out, n2, s, page)
+}
+
+fn entry(count: usize, s: State, input: &[u8], page: &[u16], out: &mut [u8], at: usize) -> Called {
+    let parts = wy50_counter::wy50_count_parts(input);
+    let n = heading(out, at, count, b"entry");
+    let n1 = named(out, n, b" parts=", parts as usize);
+    ending(out, n1, s, page)
+}
+
 fn wide(v: u16) -> usize {
     v as usize
 }
@@ -190,6 +226,8 @@ pub fn call(
         Call::Step(b) => step(count, s, b, page, room, out, at),
         Call::Run => run(count, s, input, page, room, out, at),
         Call::Press(k) => press(count, s, k, page, room, out, at),
+        Call::Count(first, last) => count_reply(count, s, input, first, last, page, out, at),
+        Call::Entry => entry(count, s, input, page, out, at),
         Call::Show => show(count, s, page, out, at),
     }
 }

@@ -188,12 +188,23 @@ fn set_pending(s: Progress, line: &[u8]) -> Progress {
     t
 }
 
-// The bytes of a run go to the front of `bytes`, and this is how many there are; the other calls have none.
+// The bytes of a run or a count go to the front of `bytes`, and this is how many there are; the other calls have none.
 fn input_length(x: Call, line: &[u8], bytes: &mut [u8]) -> usize {
-    if let Call::Run = x {
-        text::byte_string(text::first(text::later(line)), bytes)
-    } else {
-        0
+    if has_input(x) {
+        return text::byte_string(text::first(text::later(line)), bytes);
+    }
+    0
+}
+
+fn has_input(x: Call) -> bool {
+    match x {
+        Call::On => false,
+        Call::Step(_) => false,
+        Call::Run => true,
+        Call::Press(_) => false,
+        Call::Count(_, _) => true,
+        Call::Entry => true,
+        Call::Show => false,
     }
 }
 

@@ -35,6 +35,9 @@ pub enum Call {
     Step(u8),
     Run,
     Press(u8),
+    // the numbers of the first and the last piece
+    Count(usize, usize),
+    Entry,
     Show,
 }
 
@@ -91,6 +94,9 @@ fn two_words(line: &[u8]) -> Command {
     }
     if same(word, b"message") {
         return Command::Message;
+    }
+    if same(word, b"entry") {
+        return Command::Call(Call::Entry, 0);
     }
     let n = number(later(line));
     if same(word, b"length") {
@@ -197,6 +203,9 @@ fn four_words(line: &[u8]) -> Command {
     let a = number(first(words));
     let b = number(first(later(words)));
     let c = number(later(later(words)));
+    if same(word, b"count") {
+        return count(b, c);
+    }
     if same(word, b"fill") {
         return fill(a, b, c);
     }
@@ -204,6 +213,13 @@ fn four_words(line: &[u8]) -> Command {
         return noise(a, b, c);
     }
     Command::Bad
+}
+
+fn count(first: usize, last: usize) -> Command {
+    if first == NONE {
+        return Command::Bad;
+    }
+    given(last != NONE, Command::Call(Call::Count(first, last), 0))
 }
 
 fn fill(i: usize, n: usize, v: usize) -> Command {
