@@ -4,6 +4,7 @@
 mod bench;
 mod book;
 mod calls;
+mod counter;
 mod moves;
 mod possible;
 mod protection;
@@ -33,5 +34,6 @@ pub fn script() -> Vec<u8> {
     book.protection_corners();
     book.texts();
     book.sends();
+    book.counter();
     book.text
 }

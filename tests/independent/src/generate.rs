@@ -1,5 +1,6 @@
 //! Random scripts that keep the terminal doing something.
 
+mod counts;
 mod excursions;
 mod phrases;
 mod scenes;
@@ -9,6 +10,7 @@ use crate::random::Random;
 use crate::state::Sequence;
 use crate::terminal::{Run, Terminal};
 use crate::transcript::{set, Line};
+pub use counts::count_line;
 use std::collections::VecDeque;
 
 const MOST_BYTES: usize = 60;
@@ -66,6 +68,7 @@ impl Generator {
             12..=14 => self.excursion(most_calls),
             15 => self.power_on(),
             16 => self.add(Line::Show),
+            17..=20 => self.count(),
             _ => self.call(),
         }
     }
@@ -83,7 +86,7 @@ impl Generator {
                 let Run { rest, .. } = self.terminal.run(bytes, &mut room[..*size]);
                 self.send_again_or_forget(rest);
             }
-            Line::Press { .. } | Line::Show => {}
+            Line::Press { .. } | Line::Show | Line::Count { .. } | Line::Entry(_) => {}
             _ => assert!(
                 set(&mut self.terminal, &line),
                 "a line that cannot be set: {line:?}"

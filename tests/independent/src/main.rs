@@ -2,6 +2,7 @@
 
 mod compare;
 mod conformance;
+mod counter;
 mod generate;
 mod pairs;
 mod program;
@@ -15,9 +16,11 @@ mod transcript;
 
 use compare::Amount;
 use program::Program;
+use random::Random;
 use std::io::{self, BufReader, BufWriter, Write};
 use std::process::ExitCode;
 use std::time::Duration;
+use transcript::Line;
 
 const USAGE: &str = "\
 independent replay                                  script on standard input, trace on standard output
@@ -25,6 +28,8 @@ independent generate SEED CALLS                     a random script
 independent conformance                             the conformance script
 independent compare PROGRAM SEED CALLS [CALLS EACH] random scripts for PROGRAM and our own terminal
 independent pairs PROGRAM SEED CALLS                pages that differ in protected cells alone
+independent counter                                 counts on standard input, results on standard output
+independent counter SEED LINES                      random counts
 In the place of CALLS, compare and pairs take --seconds S. PROGRAM may have arguments, as \"PATH replay\".";
 
 const BUFFER: usize = 1 << 16;
@@ -76,6 +81,11 @@ fn obey(words: &[&str]) -> io::Result<Option<bool>> {
             }
             _ => Ok(None),
         },
+        ["counter"] => answer_counts().map(Some),
+        ["counter", seed, lines] => match (seed.parse(), lines.parse()) {
+            (Ok(seed), Ok(lines)) => write_out(&random_counts(seed, lines)).map(Some),
+            _ => Ok(None),
+        },
         _ => Ok(None),
     }
 }
@@ -97,10 +107,30 @@ fn replay() -> io::Result<bool> {
     let mut trace = BufWriter::with_capacity(BUFFER, io::stdout().lock());
     let outcome = transcript::replay(script, &mut trace)?;
     trace.flush()?;
+    Ok(all_lines_fitted(outcome))
+}
+
+fn answer_counts() -> io::Result<bool> {
+    let lines = BufReader::with_capacity(BUFFER, io::stdin().lock());
+    let mut results = BufWriter::with_capacity(BUFFER, io::stdout().lock());
+    let outcome = counter::answer_lines(lines, &mut results)?;
+    results.flush()?;
+    Ok(all_lines_fitted(outcome))
+}
+
+fn all_lines_fitted(outcome: Result<(), usize>) -> bool {
     if let Err(line_number) = outcome {
         eprintln!("independent: line {line_number} fits none of the forms");
     }
-    Ok(outcome.is_ok())
+    outcome.is_ok()
+}
+
+fn random_counts(seed: u64, lines: usize) -> Vec<u8> {
+    let mut random = Random::new(seed);
+    let script: Vec<Line> = (0..lines)
+        .map(|_| generate::count_line(&mut random))
+        .collect();
+    transcript::write_script(&script)
 }
 
 fn random_script(seed: u64, calls: usize) -> Vec<u8> {

@@ -35,21 +35,22 @@ fn take_out_chunks<T: Clone>(
     shorter
 }
 
-/// Shortens a script by whole lines, then by the bytes of its runs.
+/// Shortens a script by whole lines, then by the bytes of its calls.
 pub fn shorten_script(script: &[Line], fails: &mut dyn FnMut(&[Line]) -> bool) -> Vec<Line> {
     let mut kept = shorten(script, fails);
     for place in 0..kept.len() {
-        if let Line::Run { bytes, room } = kept[place].clone() {
-            let bytes = shorten(&bytes, &mut |fewer| {
-                let mut changed = kept.clone();
-                changed[place] = Line::Run {
-                    bytes: fewer.to_vec(),
-                    room,
-                };
-                fails(&changed)
-            });
-            kept[place] = Line::Run { bytes, room };
-        }
+        let Some(bytes) = kept[place].bytes_mut().cloned() else {
+            continue;
+        };
+        let with_bytes = |kept: &[Line], bytes: &[u8]| {
+            let mut changed = kept.to_vec();
+            if let Some(old) = changed[place].bytes_mut() {
+                *old = bytes.to_vec();
+            }
+            changed
+        };
+        let fewest = shorten(&bytes, &mut |fewer| fails(&with_bytes(&kept, fewer)));
+        kept = with_bytes(&kept, &fewest);
     }
     shorten(&kept, fails)
 }

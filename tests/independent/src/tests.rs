@@ -1,5 +1,6 @@
 //! The bench list and the transcript's example.
 
+mod counter;
 mod sends;
 mod texts;
 

@@ -12,6 +12,7 @@ pub use line::{write_script, Line};
 use replay::Replay;
 pub use set::set;
 use std::io::{self, BufRead, Write};
+pub use write::push_number;
 
 const WIDEST_ROOM: usize = 4000;
 

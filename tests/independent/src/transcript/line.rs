@@ -1,10 +1,7 @@
-//! The lines of a script, written and read.
+//! The lines of a script.
 
-use super::words::*;
-use super::write::*;
-use crate::state::{COLUMNS, KEYS, LABELS};
-
-const LONGEST_PAGE: usize = 4000;
+mod parse;
+mod spell;
 
 /// One line of a script.
 #[derive(Clone, PartialEq, Eq, Debug)]
@@ -75,6 +72,12 @@ pub enum Line {
         room: usize,
     },
     Show,
+    Count {
+        reply: Vec<u8>,
+        first: usize,
+        last: usize,
+    },
+    Entry(Vec<u8>),
 }
 
 impl Line {
@@ -82,7 +85,13 @@ impl Line {
     pub fn is_output(&self) -> bool {
         matches!(
             self,
-            Line::On | Line::Step { .. } | Line::Run { .. } | Line::Press { .. } | Line::Show
+            Line::On
+                | Line::Step { .. }
+                | Line::Run { .. }
+                | Line::Press { .. }
+                | Line::Show
+                | Line::Count { .. }
+                | Line::Entry(_)
         )
     }
 
@@ -95,125 +104,14 @@ impl Line {
         }
     }
 
-    pub fn write(&self, out: &mut Vec<u8>) {
-        let word = |out: &mut Vec<u8>, word: &str| out.extend_from_slice(word.as_bytes());
+    /// The bytes that the line hands to a call, if it is one over many.
+    pub fn bytes_mut(&mut self) -> Option<&mut Vec<u8>> {
         match self {
-            Line::Length(count) => word(out, &format!("length {count}")),
-            Line::Noise { seed, mask, share } => word(out, &format!("noise {seed} {mask} {share}")),
-            Line::Cell { index, value } => word(out, &format!("cell {index} {value}")),
-            Line::Fill {
-                index,
-                count,
-                value,
-            } => word(out, &format!("fill {index} {count} {value}")),
-            Line::Active(segment) => word(out, &format!("active {segment}")),
-            Line::Cursor { segment, cell } => word(out, &format!("cursor {segment} {cell}")),
-            Line::Split(row) => word(out, &format!("split {row}")),
-            Line::Mode { mode, on } => word(out, &format!("mode {mode} {}", *on as u8)),
-            Line::Tab { column, on } => word(out, &format!("tab {column} {}", *on as u8)),
-            Line::Attribute { field, value } => word(out, &format!("attribute {field} {value}")),
-            Line::Feature { feature, value } => word(out, &format!("feature {feature} {value}")),
-            Line::Key { key, bytes } => {
-                word(out, &format!("key {key} "));
-                push_bytes(out, bytes);
-            }
-            Line::Bells(count) => word(out, &format!("bells {count}")),
-            Line::Pending { bytes, spoilt } => {
-                word(out, "pending ");
-                push_bytes(out, bytes);
-                word(out, if *spoilt { "+" } else { "" });
-            }
-            Line::Message(bytes) => {
-                word(out, "message ");
-                push_bytes(out, bytes);
-            }
-            Line::Label { label, bytes } => {
-                word(out, &format!("label {label} "));
-                push_bytes(out, bytes);
-            }
-            Line::Shifted(on) => word(out, &format!("shifted {}", *on as u8)),
-            Line::On => word(out, "on"),
-            Line::Step { byte, room } => word(out, &format!("step {byte:02x} {room}")),
-            Line::Run { bytes, room } => {
-                word(out, "run ");
-                push_bytes(out, bytes);
-                word(out, &format!(" {room}"));
-            }
-            Line::Press { value, room } => word(out, &format!("press {value:02x} {room}")),
-            Line::Show => word(out, "show"),
+            Line::Run { bytes, .. } => Some(bytes),
+            Line::Count { reply, .. } => Some(reply),
+            Line::Entry(text) => Some(text),
+            _ => None,
         }
-        out.push(b'\n');
-    }
-
-    pub fn parse(text: &str) -> Option<Line> {
-        let mut words = text.split(' ');
-        let line = match words.next()? {
-            "length" => Line::Length(number(words.next()?, LONGEST_PAGE)?),
-            "noise" => Line::Noise {
-                seed: number(words.next()?, u32::MAX as usize)? as u32,
-                mask: number(words.next()?, 0xFFFF)? as u16,
-                share: number(words.next()?, 0xFFFF)? as u16,
-            },
-            "cell" => Line::Cell {
-                index: number(words.next()?, LONGEST_PAGE)?,
-                value: number(words.next()?, 0xFFFF)? as u16,
-            },
-            "fill" => Line::Fill {
-                index: number(words.next()?, LONGEST_PAGE)?,
-                count: number(words.next()?, LONGEST_PAGE)?,
-                value: number(words.next()?, 0xFFFF)? as u16,
-            },
-            "active" => Line::Active(number(words.next()?, 255)? as u8),
-            "cursor" => Line::Cursor {
-                segment: number(words.next()?, 1)?,
-                cell: number(words.next()?, 0xFFFF)? as u16,
-            },
-            "split" => Line::Split(number(words.next()?, 255)? as u8),
-            "mode" => Line::Mode {
-                mode: number(words.next()?, 5)?,
-                on: flag(words.next()?)?,
-            },
-            "tab" => Line::Tab {
-                column: number(words.next()?, COLUMNS - 1)?,
-                on: flag(words.next()?)?,
-            },
-            "attribute" => Line::Attribute {
-                field: number(words.next()?, 3)?,
-                value: number(words.next()?, 255)? as u8,
-            },
-            "feature" => Line::Feature {
-                feature: number(words.next()?, 4)?,
-                value: number(words.next()?, 255)? as u8,
-            },
-            "key" => Line::Key {
-                key: number(words.next()?, KEYS - 1)?,
-                bytes: text_bytes(words.next()?)?,
-            },
-            "bells" => Line::Bells(number(words.next()?, 255)? as u8),
-            "pending" => pending(words.next()?)?,
-            "message" => Line::Message(text_bytes(words.next()?)?),
-            "label" => Line::Label {
-                label: number(words.next()?, LABELS - 1)?,
-                bytes: text_bytes(words.next()?)?,
-            },
-            "shifted" => Line::Shifted(flag(words.next()?)?),
-            "on" => Line::On,
-            "step" => Line::Step {
-                byte: hex_byte(words.next()?)?,
-                room: room(words.next()?)?,
-            },
-            "run" => Line::Run {
-                bytes: hex(words.next()?)?,
-                room: room(words.next()?)?,
-            },
-            "press" => Line::Press {
-                value: hex_byte(words.next()?)?,
-                room: room(words.next()?)?,
-            },
-            "show" => Line::Show,
-            _ => return None,
-        };
-        words.next().is_none().then_some(line)
     }
 }
 
@@ -223,12 +121,4 @@ pub fn write_script(script: &[Line]) -> Vec<u8> {
         line.write(&mut out);
     }
     out
-}
-
-fn pending(word: &str) -> Option<Line> {
-    let bare = word.strip_suffix('+');
-    Some(Line::Pending {
-        bytes: hex(bare.unwrap_or(word))?,
-        spoilt: bare.is_some(),
-    })
 }

@@ -6,6 +6,7 @@ use super::set::set;
 use super::state::write_state;
 use super::write::*;
 use super::WIDEST_ROOM;
+use crate::counter::{write_count, write_entry};
 use crate::terminal::{answer_number, Outcome, Run, Terminal};
 
 const ROOM_FILLER: u8 = 0xEE;
@@ -40,6 +41,14 @@ impl Replay {
             Line::Step { byte, room } => self.step(*byte, *room, out),
             Line::Run { bytes, room } => self.run(bytes, *room, out),
             Line::Press { value, room } => self.press(*value, *room, out),
+            Line::Count { reply, first, last } => {
+                out.extend_from_slice(b" count");
+                write_count(reply, *first, *last, out);
+            }
+            Line::Entry(text) => {
+                out.extend_from_slice(b" entry");
+                write_entry(text, out);
+            }
             _ => self.show(out),
         }
         write_state(&self.terminal.state, out);

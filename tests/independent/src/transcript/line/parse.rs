@@ -1,0 +1,94 @@
+//! The lines of a script, read.
+
+use super::Line;
+use crate::state::{COLUMNS, KEYS, LABELS};
+use crate::transcript::words::*;
+
+const LONGEST_PAGE: usize = 4000;
+
+impl Line {
+    pub fn parse(text: &str) -> Option<Line> {
+        let mut words = text.split(' ');
+        let line = match words.next()? {
+            "length" => Line::Length(number(words.next()?, LONGEST_PAGE)?),
+            "noise" => Line::Noise {
+                seed: number(words.next()?, u32::MAX as usize)? as u32,
+                mask: number(words.next()?, 0xFFFF)? as u16,
+                share: number(words.next()?, 0xFFFF)? as u16,
+            },
+            "cell" => Line::Cell {
+                index: number(words.next()?, LONGEST_PAGE)?,
+                value: number(words.next()?, 0xFFFF)? as u16,
+            },
+            "fill" => Line::Fill {
+                index: number(words.next()?, LONGEST_PAGE)?,
+                count: number(words.next()?, LONGEST_PAGE)?,
+                value: number(words.next()?, 0xFFFF)? as u16,
+            },
+            "active" => Line::Active(number(words.next()?, 255)? as u8),
+            "cursor" => Line::Cursor {
+                segment: number(words.next()?, 1)?,
+                cell: number(words.next()?, 0xFFFF)? as u16,
+            },
+            "split" => Line::Split(number(words.next()?, 255)? as u8),
+            "mode" => Line::Mode {
+                mode: number(words.next()?, 5)?,
+                on: flag(words.next()?)?,
+            },
+            "tab" => Line::Tab {
+                column: number(words.next()?, COLUMNS - 1)?,
+                on: flag(words.next()?)?,
+            },
+            "attribute" => Line::Attribute {
+                field: number(words.next()?, 3)?,
+                value: number(words.next()?, 255)? as u8,
+            },
+            "feature" => Line::Feature {
+                feature: number(words.next()?, 4)?,
+                value: number(words.next()?, 255)? as u8,
+            },
+            "key" => Line::Key {
+                key: number(words.next()?, KEYS - 1)?,
+                bytes: text_bytes(words.next()?)?,
+            },
+            "bells" => Line::Bells(number(words.next()?, 255)? as u8),
+            "pending" => pending(words.next()?)?,
+            "message" => Line::Message(text_bytes(words.next()?)?),
+            "label" => Line::Label {
+                label: number(words.next()?, LABELS - 1)?,
+                bytes: text_bytes(words.next()?)?,
+            },
+            "shifted" => Line::Shifted(flag(words.next()?)?),
+            "on" => Line::On,
+            "step" => Line::Step {
+                byte: hex_byte(words.next()?)?,
+                room: room(words.next()?)?,
+            },
+            "run" => Line::Run {
+                bytes: hex(words.next()?)?,
+                room: room(words.next()?)?,
+            },
+            "press" => Line::Press {
+                value: hex_byte(words.next()?)?,
+                room: room(words.next()?)?,
+            },
+            "show" => Line::Show,
+            "count" => Line::Count {
+                reply: hex(words.next()?)?,
+                first: number(words.next()?, usize::MAX)?,
+                last: number(words.next()?, usize::MAX)?,
+            },
+            "entry" => Line::Entry(hex(words.next()?)?),
+            _ => return None,
+        };
+        words.next().is_none().then_some(line)
+    }
+}
+
+fn pending(word: &str) -> Option<Line> {
+    let bare = word.strip_suffix('+');
+    Some(Line::Pending {
+        bytes: hex(bare.unwrap_or(word))?,
+        spoilt: bare.is_some(),
+    })
+}

@@ -1,0 +1,65 @@
+//! The lines of a script, written.
+
+use super::Line;
+use crate::transcript::write::*;
+
+impl Line {
+    pub fn write(&self, out: &mut Vec<u8>) {
+        let word = |out: &mut Vec<u8>, word: &str| out.extend_from_slice(word.as_bytes());
+        match self {
+            Line::Length(count) => word(out, &format!("length {count}")),
+            Line::Noise { seed, mask, share } => word(out, &format!("noise {seed} {mask} {share}")),
+            Line::Cell { index, value } => word(out, &format!("cell {index} {value}")),
+            Line::Fill {
+                index,
+                count,
+                value,
+            } => word(out, &format!("fill {index} {count} {value}")),
+            Line::Active(segment) => word(out, &format!("active {segment}")),
+            Line::Cursor { segment, cell } => word(out, &format!("cursor {segment} {cell}")),
+            Line::Split(row) => word(out, &format!("split {row}")),
+            Line::Mode { mode, on } => word(out, &format!("mode {mode} {}", *on as u8)),
+            Line::Tab { column, on } => word(out, &format!("tab {column} {}", *on as u8)),
+            Line::Attribute { field, value } => word(out, &format!("attribute {field} {value}")),
+            Line::Feature { feature, value } => word(out, &format!("feature {feature} {value}")),
+            Line::Key { key, bytes } => {
+                word(out, &format!("key {key} "));
+                push_bytes(out, bytes);
+            }
+            Line::Bells(count) => word(out, &format!("bells {count}")),
+            Line::Pending { bytes, spoilt } => {
+                word(out, "pending ");
+                push_bytes(out, bytes);
+                word(out, if *spoilt { "+" } else { "" });
+            }
+            Line::Message(bytes) => {
+                word(out, "message ");
+                push_bytes(out, bytes);
+            }
+            Line::Label { label, bytes } => {
+                word(out, &format!("label {label} "));
+                push_bytes(out, bytes);
+            }
+            Line::Shifted(on) => word(out, &format!("shifted {}", *on as u8)),
+            Line::On => word(out, "on"),
+            Line::Step { byte, room } => word(out, &format!("step {byte:02x} {room}")),
+            Line::Run { bytes, room } => {
+                word(out, "run ");
+                push_bytes(out, bytes);
+                word(out, &format!(" {room}"));
+            }
+            Line::Press { value, room } => word(out, &format!("press {value:02x} {room}")),
+            Line::Show => word(out, "show"),
+            Line::Count { reply, first, last } => {
+                word(out, "count ");
+                push_bytes(out, reply);
+                word(out, &format!(" {first} {last}"));
+            }
+            Line::Entry(text) => {
+                word(out, "entry ");
+                push_bytes(out, text);
+            }
+        }
+        out.push(b'\n');
+    }
+}
