@@ -1,5 +1,5 @@
 # make test: the gate. make demo: the gateway's main job on two host streams. make fuzz SECONDS=60 SEED=7: the differential test for longer.
-# make lib: the library for C and Rust. make test-face: its tests. make fuzz-face SECONDS=60: random calls. make install PREFIX=/usr/local.
+# make lib: the libraries for C and Rust, terminal and counter. make test-face: their tests. make fuzz-face SECONDS=60: random calls. make install PREFIX=/usr/local.
 # make bench: times beside the peers, to docs/BENCHMARKS.md.
 
 .PHONY: test demo fuzz lib test-face fuzz-face install bench
@@ -8,7 +8,9 @@ SECONDS ?= 60
 SEED ?= 1
 PREFIX ?= /usr/local
 LIB := target/staticlib/libwy50.a
-PARTS := $(addprefix crates/,rules page state plan carry terminal wy50)
+COUNTER := target/staticlib/libwy50_counter.a
+TERMINAL := $(addprefix crates/,rules page state plan carry terminal)
+sources = crates.txt $(shell find $(1) -name '*.rt' -o -name '*.antt')
 
 test:
 	@tests/gate
@@ -25,13 +27,17 @@ fuzz:
 	@test -x target/bin/replay || rt check replay
 	@$$(tests/build-independent) compare target/bin/replay $(SEED) --seconds $(SECONDS)
 
-lib: $(LIB)
+lib: $(LIB) $(COUNTER)
 
-$(LIB): $(shell find $(PARTS) -name '*.rt' -o -name '*.antt') crates.txt
+$(LIB): $(call sources,$(TERMINAL) crates/wy50)
 	rt staticlib wy50
 	@touch $@
 
-test-face: $(LIB)
+$(COUNTER): $(call sources,$(TERMINAL) crates/counter crates/wy50_counter)
+	rt staticlib wy50_counter
+	@touch $@
+
+test-face: lib
 	@tests/face/run
 
 fuzz-face: $(LIB)
@@ -39,13 +45,15 @@ fuzz-face: $(LIB)
 	$(CC) -std=c99 -Wall -Wextra -Werror -O1 -g -fsanitize=address,undefined -fno-sanitize-recover=all -Iinclude tests/face/fuzz.c $(LIB) -o target/face/fuzz
 	target/face/fuzz $(SECONDS)
 
-install: $(LIB)
+install: lib
 	install -d $(DESTDIR)$(PREFIX)/lib/pkgconfig $(DESTDIR)$(PREFIX)/include
-	install -m 644 $(LIB) $(DESTDIR)$(PREFIX)/lib/libwy50.a
-	install -m 644 include/wy50.h $(DESTDIR)$(PREFIX)/include/wy50.h
-	sed -e 's|@PREFIX@|$(PREFIX)|' -e "s|@VERSION@|$$(cat VERSION)|" wy50.pc.in > $(DESTDIR)$(PREFIX)/lib/pkgconfig/wy50.pc
+	install -m 644 $(LIB) $(COUNTER) $(DESTDIR)$(PREFIX)/lib
+	install -m 644 include/wy50.h include/wy50_counter.h $(DESTDIR)$(PREFIX)/include
+	for name in wy50 wy50_counter; do \
+	    sed -e 's|@PREFIX@|$(PREFIX)|' -e "s|@VERSION@|$$(cat VERSION)|" $$name.pc.in > $(DESTDIR)$(PREFIX)/lib/pkgconfig/$$name.pc || exit 1; \
+	done
 
-bench: $(LIB)
+bench: lib
 	@echo '#include <vterm.h>' | $(CC) -E - >/dev/null 2>&1 || { echo 'make bench needs libvterm: apt-get install -y libvterm-dev'; exit 1; }
 	@CARGO_TARGET_DIR=target/bench cargo build --release --offline --quiet --manifest-path tests/bench/Cargo.toml
 	@target/bench/release/bench docs/BENCHMARKS.md
