@@ -1,4 +1,4 @@
-/* The floors: a loop that stores text and ends lines by 0Dh and 0Ah, one that shifts rows, and one that sends cells. */
+/* The floors: a loop that stores text and ends lines by 0Dh and 0Ah, one that shifts rows, one that sends cells, and one that counts text parts. */
 #include <stdbool.h>
 #include <stddef.h>
 #include <stdint.h>
@@ -151,4 +151,25 @@ size_t floor_send(const uint16_t *page, const uint8_t *bytes, size_t count, uint
         escaped = !escaped && b == 0x1b;
     }
     return to - reply;
+}
+
+/* The parts of a text; UINT64_MAX for a byte outside the alphabet. */
+uint64_t floor_count(const uint8_t *text, size_t count)
+{
+    uint64_t units = 0, parts = 0, held = 153;
+    while (count > 0 && text[count - 1] == ' ')
+        count--;
+    for (size_t i = 0; i < count; i++) {
+        uint8_t b = text[i];
+        unsigned cost = b == '^' || b == '{' || b == '}' || b == '\\' || b == '[' || b == '~' || b == ']' || b == '|' ? 2 : 1;
+        if (b < 0x20 || b >= 0x7f || b == '`')
+            return UINT64_MAX;
+        units += cost;
+        held += cost;
+        if (held > 153) {
+            parts++;
+            held = cost;
+        }
+    }
+    return units == 0 ? 0 : units <= 160 ? 1 : parts;
 }

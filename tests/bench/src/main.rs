@@ -1,5 +1,5 @@
-//! Times the proved terminal beside its peers, prints the tables, and writes them to the file that is named. It fails if the proved terminal
-//! and the independent implementation differ.
+//! Times the proved terminal and the proved counter beside their peers, prints the tables, and writes them to the file that is named. It
+//! fails if the proved terminal and the independent implementation differ, or the counter and the plain loop.
 
 mod peers;
 #[allow(dead_code)]
@@ -10,14 +10,16 @@ mod state;
 mod terminal;
 mod workloads;
 
-use peers::{after, feed, play, Floor, Independent, Libvterm, Page, Peer, Proved, SendFloor, Sender, ShiftFloor, READ};
+use peers::{
+    after, feed, floor_parts, play, proved_parts, Counter, Floor, Independent, Libvterm, Page, Peer, Proved, SendFloor, Sender, ShiftFloor, READ,
+};
 use std::{
     fmt::Write,
     hint::black_box,
     process::{Command, ExitCode},
     time::Instant,
 };
-use workloads::{Shifts, Stream, Workload, SENDS, SHIFTS, WORKLOADS};
+use workloads::{Shifts, Stream, Workload, ALERTS, SENDS, SHIFTS, WORKLOADS};
 use wy50::{Answer, State, Terminal, CELLS, LONGEST_REPLY};
 
 const ROUNDS: usize = 5;
@@ -28,6 +30,8 @@ const SHIFT_COUNT: usize = 10_000;
 const SHIFT_ROUNDS: usize = 50; // each is short
 const SEND_TURNS: usize = 2_000;
 const SEND_ROUNDS: usize = 50; // each is short
+const ALERT_BYTES: usize = 1_000_000;
+const ALERT_ROUNDS: usize = 50; // each is short
 
 /// Nanoseconds a byte, a row shift or a reply byte, where a peer has the workload.
 struct Row {
@@ -36,6 +40,12 @@ struct Row {
     independent: f64,
     libvterm: Option<f64>,
     floor: Option<f64>,
+}
+
+/// Nanoseconds a byte of an alert.
+struct Counted {
+    proved: f64,
+    floor: f64,
 }
 
 /// Nanoseconds a call, with the keys unprogrammed and with all of them full.
@@ -48,12 +58,13 @@ struct Single {
 
 fn main() -> ExitCode {
     let Some(path) = std::env::args().nth(1) else {
-        eprintln!("bench FILE: the tables go to FILE\nbench --scrolls, bench --sends: the scrolls or the sends alone, printed");
+        eprintln!("bench FILE: the tables go to FILE\nbench --scrolls, --sends, --counts: these alone, printed");
         return ExitCode::from(2);
     };
     let (made, alone) = match path.as_str() {
         "--scrolls" => (scrolls_report(), true),
         "--sends" => (sends_report(), true),
+        "--counts" => (counts_report(), true),
         _ => (report(), false),
     };
     match made {
@@ -75,6 +86,7 @@ fn report() -> Result<String, String> {
     let rows = WORKLOADS.iter().map(row).collect::<Result<Vec<_>, _>>()?;
     let shifts = SHIFTS.iter().map(shift_row).collect::<Result<Vec<_>, _>>()?;
     let sends = send_row()?;
+    let counted = counts()?;
     let growth = WORKLOADS.each_ref().map(grown);
     let singles = [single("step", 400.0, step), single("press", 300.0, press)];
     let mut out = String::new();
@@ -82,9 +94,10 @@ fn report() -> Result<String, String> {
     peers_table(&mut out, &rows);
     shifts_table(&mut out, &shifts);
     sends_table(&mut out, &sends);
+    counts_table(&mut out, &counted);
     growth_table(&mut out, &growth);
     singles_table(&mut out, &singles);
-    targets(&mut out, &rows, &shifts, &[sends], &singles);
+    targets(&mut out, &rows, &shifts, &[sends], &singles, &[counted]);
     Ok(out)
 }
 
@@ -92,7 +105,7 @@ fn scrolls_report() -> Result<String, String> {
     let shifts = SHIFTS.iter().map(shift_row).collect::<Result<Vec<_>, _>>()?;
     let mut out = String::new();
     shifts_table(&mut out, &shifts);
-    targets(&mut out, &[], &shifts, &[], &[]);
+    targets(&mut out, &[], &shifts, &[], &[], &[]);
     Ok(out)
 }
 
@@ -100,7 +113,15 @@ fn sends_report() -> Result<String, String> {
     let sends = send_row()?;
     let mut out = String::new();
     sends_table(&mut out, &sends);
-    targets(&mut out, &[], &[], &[sends], &[]);
+    targets(&mut out, &[], &[], &[sends], &[], &[]);
+    Ok(out)
+}
+
+fn counts_report() -> Result<String, String> {
+    let counted = counts()?;
+    let mut out = String::new();
+    counts_table(&mut out, &counted);
+    targets(&mut out, &[], &[], &[], &[], &[counted]);
     Ok(out)
 }
 
@@ -204,6 +225,28 @@ fn timed_sends(sender: &mut impl Sender) -> f64 {
     let start = Instant::now();
     let replied: usize = (0..SEND_TURNS).map(|_| black_box(sender.reply_to(black_box(SENDS.asked))).len()).sum();
     start.elapsed().as_nanos() as f64 / replied as f64
+}
+
+/// Counts of alerts, the counters taking turns.
+fn counts() -> Result<Counted, String> {
+    let texts = ALERTS.texts(ALERT_BYTES);
+    if let Some(place) = texts.iter().position(|text| proved_parts(text) != floor_parts(text)) {
+        return Err(format!("{}: the parts of text {place} differ", ALERTS.name));
+    }
+    let (mut proved, mut floor) = (f64::MAX, f64::MAX);
+    for _ in 0..ALERT_ROUNDS {
+        proved = proved.min(timed_counts(&texts, proved_parts));
+        floor = floor.min(timed_counts(&texts, floor_parts));
+    }
+    Ok(Counted { proved, floor })
+}
+
+fn timed_counts(texts: &[Vec<u8>], parts: Counter) -> f64 {
+    let start = Instant::now();
+    for text in texts {
+        black_box(parts(black_box(text)));
+    }
+    start.elapsed().as_nanos() as f64 / texts.iter().map(Vec::len).sum::<usize>() as f64
 }
 
 fn timed(stream: &[u8], play: fn(&[u8]) -> Page) -> (f64, Page) {
@@ -369,7 +412,26 @@ fn sends_table(out: &mut String, row: &Row) {
     line!(out);
 }
 
-/// A row of the three tables above, its times with so many digits after the point.
+fn counts_table(out: &mut String, counted: &Counted) {
+    line!(out, "## Counts");
+    line!(out);
+    line!(
+        out,
+        "Nanoseconds a byte of an alert, and in brackets how many times the proved counter's that is. {} MB, the best of {ALERT_ROUNDS}:",
+        ALERT_BYTES / 1_000_000
+    );
+    line!(out);
+    line!(out, "- {}: {}", ALERTS.name, ALERTS.what);
+    line!(out);
+    line!(out, "| workload | proved | C loop over the bytes |");
+    line!(out, "|---|---|---|");
+    line!(out, "| {} | {:.2} | {:.2} ({:.2}) |", ALERTS.name, counted.proved, counted.floor, counted.floor / counted.proved);
+    line!(out);
+    line!(out, "All parts are the same, text by text.");
+    line!(out);
+}
+
+/// A row of the first three tables, its times with so many digits after the point.
 fn peers_row(out: &mut String, row: &Row, digits: usize) {
     let beside = |time: Option<f64>| time.map_or("-".to_string(), |time| format!("{time:.digits$} ({:.2})", time / row.proved));
     line!(
@@ -409,7 +471,7 @@ fn singles_table(out: &mut String, singles: &[Single]) {
     line!(out);
 }
 
-fn targets(out: &mut String, rows: &[Row], shifts: &[Row], sends: &[Row], singles: &[Single]) {
+fn targets(out: &mut String, rows: &[Row], shifts: &[Row], sends: &[Row], singles: &[Single], counts: &[Counted]) {
     line!(out, "## Targets");
     line!(out);
     line!(out, "| target | measured | |");
@@ -430,6 +492,10 @@ fn targets(out: &mut String, rows: &[Row], shifts: &[Row], sends: &[Row], single
         }
         let ratio = row.independent / row.proved;
         target(&format!("{}: no slower than the independent implementation", row.name), format!("{ratio:.2}"), ratio >= 1.0);
+    }
+    for counted in counts {
+        let ratio = counted.proved / counted.floor;
+        target(&format!("{}: within 2 times the C loop", ALERTS.name), format!("{ratio:.2}"), ratio <= 2.0);
     }
     for single in singles {
         target(&format!("{}: at most {} ns", single.name, single.most), format!("{:.0}", single.full), single.full <= single.most);

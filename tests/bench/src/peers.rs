@@ -137,6 +137,19 @@ extern "C" {
     fn floor_run(page: *mut u16, at: usize, bytes: *const u8, count: usize) -> usize;
     fn floor_shift(page: *mut u16, cursor: *mut Cursor, bytes: *const u8, count: usize);
     fn floor_send(page: *const u16, bytes: *const u8, count: usize, reply: *mut u8) -> usize;
+    fn floor_count(text: *const u8, count: usize) -> u64;
+}
+
+/// A text's parts, by one of the peers.
+pub type Counter = fn(&[u8]) -> u64;
+
+pub fn proved_parts(text: &[u8]) -> u64 {
+    wy50_counter::count_text(text).map_or(u64::MAX, |count| count.parts)
+}
+
+pub fn floor_parts(text: &[u8]) -> u64 {
+    // SAFETY: the pointer and the count are those of one slice.
+    unsafe { floor_count(text.as_ptr(), text.len()) }
 }
 
 /// The floor of text, plain C.

@@ -163,6 +163,36 @@ impl Sends {
     }
 }
 
+/// Alerts that are counted.
+pub struct Alerts {
+    pub name: &'static str,
+    pub what: &'static str,
+}
+
+pub const ALERTS: Alerts =
+    Alerts { name: "counts", what: "texts of 20 to 600 characters, one in 32 of them of two units, and up to 40 trailing spaces" };
+
+impl Alerts {
+    /// Texts of at least `size` bytes in all.
+    pub fn texts(&self, size: usize) -> Vec<Vec<u8>> {
+        const TWO_UNITS: &[u8] = b"^{}\\[~]|";
+        let mut writer = Writer::new();
+        let (mut texts, mut total) = (Vec::new(), 0);
+        while total < size {
+            writer.text(20, 600);
+            let mut text = std::mem::take(&mut writer.stream.wy50);
+            for _ in 0..text.len() / 32 {
+                let place = writer.random.below(text.len());
+                text[place] = TWO_UNITS[writer.random.below(TWO_UNITS.len())];
+            }
+            text.resize(text.len() + writer.random.below(41), b' ');
+            total += text.len();
+            texts.push(text);
+        }
+        texts
+    }
+}
+
 const FIRST_FIELD_ROW: usize = 4;
 const FIELDS: usize = 16;
 const FIELD_COLUMN: usize = 20;
