@@ -1,7 +1,7 @@
--- Alike terminals with protect mode on get the same count.
---     alike-count     the statement of specs/Ask
+-- Alike terminals are told the same count.
+--     alike-count, labels-uncounted     the statements of specs/Ask
 -- Assumes nothing.
-use mathlib.Core.Path.{_≡_, refl, ap}
+use mathlib.Core.Path.{_≡_, refl, sym, ap, subst, _∙_}
 use mathlib.Core.Bool.{Bool, true, false}
 use mathlib.Core.List.{List, [], _∷_}
 use Prim.Native.Nat.{ℕ, _-_}
@@ -12,10 +12,11 @@ use Rattle.rules.specs.declared.Pending.{Pending}
 use Rattle.rules.specs.Cell.{pick, both}
 use Rattle.rules.specs.Possible.{good, powerOn}
 use Rattle.rules.specs.Step.{stepRule}
-use Rattle.rules.specs.Calls.{Run, Given, ofRun, callRule, after, play, runRule}
-use Rattle.rules.specs.Noninterference.{afterEscape, anyOf, excludedBytes, completes, runCompletes, callCompletes, anyCompleted}
+use Rattle.rules.specs.Calls.{Ran, Run, Given, ofRun, callRule, after, play, runRule}
+use Rattle.rules.specs.Noninterference.{Alike, afterEscape, anyOf, excludedBytes, completes, runCompletes, callCompletes, anyCompleted}
 use Rattle.rules.proofs.Noninterference.{noninterference}
-use Rattle.counter.specs.Ask.{isIdle, question, asking, askRule, AlikeCount}
+use Rattle.counter.specs.Ask.{isIdle, question, asking, askRule, AlikeCount, Unrevealed, LabelsUncounted}
+use Rattle.counter.proofs.Replies.{openText, idle-is, open-alike, by-room, asked-done, asked-stopped, asked-nothing, asked-refused}
 
 -- ---- asking completes none of the six
 
@@ -75,3 +76,47 @@ alike-count p q s t first last room on alike =
     let x = noninterference p q s t (Run l room ∷ []) on alike (asking-not p s room) in
     let y = same-given p q s t l room (x .given) in
     rw (y .0, y .1, alike .pages .length, alike .state)
+
+-- ---- in any mode
+
+good-alike : {p q : List ℕ} {s : State} → Alike p q s s → good p s ≡ good q s
+unfolding good
+good-alike a = rw (a .pages .length)
+
+-- what a run that asks gives, but for the page
+pub record Same (a b : Ran) : Type 0 where
+  pub answer : a .answer ≡ b .answer
+  pub reply : a .reply ≡ b .reply
+
+same-asking : (p q : List ℕ) (s : State) (room : ℕ) → Alike p q s s → Same (asking p s room) (asking q s room)
+same-asking p q s room a = by-tests (good p s) (isIdle (s .core .pending)) refl refl
+  where
+    by-tests : (t u : Bool) → good p s ≡ t → isIdle (s .core .pending) ≡ u → Same (asking p s room) (asking q s room)
+    by-tests false u g e =
+        let x = asked-refused p s room g in
+        let y = asked-refused q s room (sym (good-alike a) ∙ g) in
+        record { answer = x .answer ∙ sym (y .answer); reply = x .reply ∙ sym (y .reply) }
+    by-tests true false g e = rw (asked-nothing p s room g e, asked-nothing q s room (sym (good-alike a) ∙ g) e) (record { answer = refl; reply = refl })
+    by-tests true true g e =
+        let i = idle-is (s .core .pending) e in
+        let k = sym (good-alike a) ∙ g in
+        let o = open-alike p q s g k i a in
+        by-room p s room g i
+        (λ h.
+        let x = asked-done p s room g i h in
+        let y = asked-done q s room k i (rw o at h) in
+        record { answer = x .answer ∙ sym (y .answer); reply = x .reply ∙ (o ∙ sym (y .reply)) })
+        (λ h.
+        let x = asked-stopped p s room g i h in
+        let y = asked-stopped q s room k i (rw o at h) in
+        record { answer = x .answer ∙ sym (y .answer); reply = x .reply ∙ sym (y .reply) })
+
+unrevealed : (p q : List ℕ) (s : State) (room : ℕ) → Alike p q s s → Unrevealed p q s s room
+unfolding askRule
+unrevealed p q s room a =
+    let x = same-asking p q s room a in
+    record { reply = x .reply; told = λ first last. rw (x .answer, x .reply, a .pages .length) }
+
+pub labels-uncounted : LabelsUncounted
+labels-uncounted p q s t room a =
+    subst (λ (u : State). Unrevealed p q s u room) (a .state) (unrevealed p q s room (record { state = refl; pages = a .pages }))

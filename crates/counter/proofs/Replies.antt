@@ -1,11 +1,14 @@
 -- What the terminal replies to ESC 5.
 --     asked-done, asked-stopped     the run that asks, by whether its reply fits
---     asking-page                   the page is as it was, whatever is asked
+--     asked-nothing, asked-refused  inside a sequence, and on a bad page or state
+--     asking-page, asking-fits      on every path: the page is as it was, and the reply fits
+--     open-alike                    what is sent depends on no protected cell's contents
 --     replies-to-asking             the statement of specs/Ask
 -- Assumes nothing.
 use mathlib.Core.Path.{_≡_, refl, sym, ap, _∙_}
 use mathlib.Core.Bool.{Bool, true, false, false≢true}
 use mathlib.Core.List.{List, [], _∷_, _++_, append-nil, append-assoc}
+use mathlib.Core.Logic.{inr}
 use Prim.Native.Nat.{ℕ, zero, suc, _+_, _-_, _*_, _≤_, _<_}
 use native.Mathlib.Nat.{sub-zero}
 use native.Mathlib.Omega.{arith}
@@ -30,7 +33,9 @@ use Rattle.rules.specs.Step.{Outcome, outcomeOf, obeyed, innerRule, stepRule}
 use Rattle.rules.specs.Left.{cleared}
 use Rattle.rules.specs.Steps.{Refused}
 use Rattle.rules.specs.Calls.{Ran, ended, joined, repeated, runRule}
+use Rattle.rules.specs.Noninterference.{Alike}
 use Rattle.rules.proofs.Kept.{step-good}
+use Rattle.rules.proofs.Labels.{labels-stay-in}
 use Rattle.rules.proofs.Bound.{step-taken}
 use Rattle.rules.proofs.Run.{run-refused, run-go, run-stop, run-done}
 use Rattle.rules.proofs.Tests.{both-true}
@@ -193,6 +198,19 @@ module _ (p : List ℕ) (s : State) (room : ℕ) (g : good p s ≡ true) (e : s 
       let o : stepRule p t 0x35 room ≡ stops p t = second ∙ rw (lt-leb (length (openText p (s .core))) room k) in
       absurd (false≢true (sym (step-taken p t 0x35 room good-escaped h) ∙ ap (λ (o : Outcome). eqb (o .answer) 6) o)))
 
+-- ---- what is sent depends on no protected cell's contents
+
+pub open-alike : (p q : List ℕ) (s : State) → good p s ≡ true → good q s ≡ true → s .core .pending ≡ Pending.Idle → Alike p q s s
+    → openText p (s .core) ≡ openText q (s .core)
+unfolding openText
+open-alike p q s g k e a =
+    let t = under s Pending.Escape in
+    let room = length (openText p (s .core)) + length (openText q (s .core)) in
+    let x : stepRule p t 0x35 room ≡ sends p t = second p s room g e ∙ rw (le-leb (length (openText p (s .core))) room (omega arith)) in
+    let y : stepRule q t 0x35 room ≡ sends q t = second q s room k e ∙ rw (le-leb (length (openText q (s .core))) room (omega arith)) in
+    let z = labels-stay-in p q t t 0x35 room (record { state = refl; pages = a .pages }) refl (inr refl) in
+    sym (ap (λ (o : Outcome). o .reply) x) ∙ (z .reply ∙ ap (λ (o : Outcome). o .reply) y)
+
 -- ---- on every path
 
 -- inside a sequence nothing is asked
@@ -228,6 +246,16 @@ asking-page p s room = by-tests (good p s) (isIdle (s .core .pending)) refl refl
     by-tests true true g e =
         let i = idle-is (s .core .pending) e in
         by-room p s room g i (λ h. asked-done p s room g i h .page) (λ h. asked-stopped p s room g i h .page)
+
+pub asking-fits : (p : List ℕ) (s : State) (room : ℕ) → length ((asking p s room) .reply) ≤ room
+asking-fits p s room = by-tests (good p s) (isIdle (s .core .pending)) refl refl
+  where
+    by-tests : (t u : Bool) → good p s ≡ t → isIdle (s .core .pending) ≡ u → length ((asking p s room) .reply) ≤ room
+    by-tests false u g e = rw (asked-refused p s room g .reply) (omega arith)
+    by-tests true false g e = rw (asked-nothing p s room g e) (omega arith)
+    by-tests true true g e =
+        let i = idle-is (s .core .pending) e in
+        by-room p s room g i (λ h. rw (asked-done p s room g i h .reply) h) (λ h. rw (asked-stopped p s room g i h .reply) (omega arith))
 
 pub replies-to-asking : RepliesToAsking
 unfolding openText

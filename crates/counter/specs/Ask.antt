@@ -116,3 +116,11 @@ abbrev pub AlikeCount : Type 0
 AlikeCount =
     (p q : List ℕ) (s t : State) (first last room : ℕ) → s .core .modes .protect ≡ true → Alike p q s t
     → askRule p s first last room ≡ askRule q t first last room
+
+-- request A7: so it is in any mode, protect mode on or off, and the reply itself is the same
+pub record Unrevealed (p q : List ℕ) (s t : State) (room : ℕ) : Type 0 where
+  pub reply : (asking p s room) .reply ≡ (asking q t room) .reply
+  pub told : (first last : ℕ) → askRule p s first last room ≡ askRule q t first last room
+
+abbrev pub LabelsUncounted : Type 0
+LabelsUncounted = (p q : List ℕ) (s t : State) (room : ℕ) → Alike p q s t → Unrevealed p q s t room
