@@ -1,7 +1,7 @@
 pub mod Loops
 pub mod Puts
 pub mod Texts
+pub mod Messages
 pub mod Labels
 pub mod Watching
-pub mod Private
 pub mod Short

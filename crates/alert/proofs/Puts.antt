@@ -1,13 +1,13 @@
 -- Laws of a text that is put into a room.
 --     none, and, one, full                    a text in parts
---     within, put-fits                        where the text ends, and what it is where there is room
+--     within                                  where the text ends
 --     decimal-put                             a number
 --     Left, begin, go, byte-on, text-done, done          a loop that puts a text: what is left to put makes of the room what the whole makes of the first
 -- Assumes nothing.
 use mathlib.Core.Path.{_≡_, refl, sym, ap, subst, _∙_}
 use mathlib.Core.Bool.{Bool, true, false}
 use mathlib.Core.List.{List, [], _∷_, _++_}
-use Prim.Native.Nat.{ℕ, suc, _+_, _/_, _≤_, _<_}
+use Prim.Native.Nat.{ℕ, _+_, _/_, _≤_, _<_}
 use native.Mathlib.Numerals.{add-one}
 use native.Mathlib.Omega.{arith}
 use lib.Dec.{leb, ltb}
@@ -16,7 +16,6 @@ use lib.Seq.{drop-cons}
 use borrow.Author.Tests.{lt-ltb, le-ltb, ltb-true}
 use Rattle.rules.specs.Cell.{pick}
 use Rattle.rules.specs.Send.{digit}
-use Rattle.page.specs.Room.{stored}
 use Rattle.alert.specs.Room.{Room, upTo, putByte, put, Puts, decimalOf}
 
 put-append : (x y : List ℕ) (r : Room) → put (x ++ y) r ≡ put y (put x r)
@@ -80,15 +79,6 @@ inside (b ∷ x) n w h =
 
 pub within : {x : List ℕ} {n r : ℕ} {w v : List ℕ} → Puts x n w r v → n ≤ length w → r ≤ length v
 within {x} {n} {w = w} p h = subst (λ (z : Room). Inside z) (sym (p .is)) (inside x n w h)
-
--- ---- a text for which there is room
-
-pub put-fits : (x : List ℕ) (n : ℕ) (w : List ℕ) → n + length x ≤ length w → put x (upTo n w) ≡ upTo (n + length x) (stored n x w)
-unfolding put stored
-put-fits [] n w h = let e : n + 0 ≡ n = omega arith in rw e
-put-fits (b ∷ x) n w h =
-    let e : n + suc (length x) ≡ n + 1 + length x = omega arith in
-    rw (lt-ltb n (length w) (omega arith), e) (put-fits x (n + 1) (set w n b) (omega (arith, length-set w n b)))
 
 -- ---- numbers
 

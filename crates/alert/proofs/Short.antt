@@ -1,21 +1,31 @@
--- The message has its room.
---     short     no message is longer than its room
+-- What members are sent has its room.
+--     short     no message is longer: 211 bytes, and 17 for each byte of the longest reply
 -- Assumes nothing.
 use mathlib.Core.Path.{_≡_, refl, ap}
 use mathlib.Core.Bool.{Bool, true, false}
 use mathlib.Core.List.{List, [], _∷_, _++_}
-use Prim.Native.Nat.{ℕ, zero, suc, _+_, _-_, _*_, _/_, _%_, _≤_, _<_}
+use Prim.Native.Nat.{ℕ, suc, _+_, _-_, _*_, _/_, _≤_}
 use native.Mathlib.Omega.{arith}
 use lib.Dec.{leb, eqb}
-use lib.ListN.{length, length-append, take, drop}
-use Rattle.rules.specs.Cell.{pick, both}
-use Rattle.rules.specs.Row.{Width}
-use Rattle.rules.specs.Search.{editEnd}
+use lib.ListN.{length, length-append}
+use lib.Seq.{length-take-le}
+use Rattle.rules.specs.declared.State.{State}
+use Rattle.rules.specs.Cell.{pick}
 use Rattle.rules.specs.Send.{digit}
-use Rattle.rules.proofs.Marks.{length-guards}
-use Rattle.alert.specs.Room.{words, decimalOf, countOf, placeOf}
-use Rattle.alert.specs.Fields.{marked, openCells, trimmed, startsAt, startsFrom, fieldStarts, fieldText, told, fieldLine, fieldLines, openText, modeNote, message}
-use Rattle.alert.proofs.Texts.{columns, field-fits}
+use Rattle.counter.specs.declared.Counted.{Counted}
+use Rattle.counter.specs.declared.Counted.the-variants as Counted
+use Rattle.counter.specs.declared.Told.{Told}
+use Rattle.counter.specs.declared.Told.the-variants as Told
+use Rattle.counter.specs.Words.{words}
+use Rattle.counter.specs.Pieces.{returns, before, isMark, onto, cutAtMarks, pieces, joined}
+use Rattle.counter.specs.Ask.{askRule}
+use Rattle.counter.specs.Walk.{marksIn}
+use Rattle.counter.proofs.Fewest.{joined-onto}
+use Rattle.counter.proofs.Marks.{pieces-length}
+use Rattle.counter.proofs.Counting.{some-byte}
+use Rattle.counter.proofs.Replies.{asking-fits}
+use Rattle.alert.specs.Room.{decimalOf, countOf}
+use Rattle.alert.specs.Message.{modeNote, isShown, pieceLine, pieceLines, countLine, toldLine, sent, replyRoom, replyOf, lastOf, message}
 
 pick-most : (t : Bool) (x y : List ℕ) (n : ℕ) → length x ≤ n → length y ≤ n → length (pick t x y) ≤ n
 pick-most true x y n a b = a
@@ -36,78 +46,82 @@ count-short n word =
     let b = pick-most (eqb n 1) [] (words "s") 1 (omega arith) (omega arith) in
     simp length-append (omega arith)
 
-place-short : (w at : ℕ) → length (placeOf w at) ≤ 21
-unfolding placeOf
-place-short w at =
-    let a = decimal-short (at / w + 1) in
-    let b = decimal-short (at % w + 1) in
+-- ---- the lines of pieces
+
+line-short : (first last k : ℕ) (t : List ℕ) → length (pieceLine first last k t) ≤ 17 + length t
+unfolding pieceLine
+line-short first last k t =
+    let d = decimal-short k in
+    pick-most (isShown first last k t) (words "  piece " ++ decimalOf k ++ words ": \"" ++ t ++ words "\"\n") [] (17 + length t)
+    (simp length-append (omega arith)) (omega arith)
+
+lines-short : (first last k : ℕ) (ts : List (List ℕ)) → length (pieceLines first last k ts) ≤ 17 * length ts + length (joined ts)
+unfolding pieceLines joined
+lines-short first last k [] = omega arith
+lines-short first last k (t ∷ ts) =
+    let a = line-short first last k t in
+    let b = lines-short first last (suc k) ts in
     simp length-append (omega arith)
 
-trimmed-short : (l : List ℕ) → length (trimmed l) ≤ length l
-unfolding trimmed
-trimmed-short [] = omega arith
-trimmed-short (x ∷ l) =
-    let r = trimmed-short l in
-    pick-most (both (eqb (length (trimmed l)) 0) (eqb x 32)) [] (x ∷ trimmed l) (suc (length l)) (omega arith) (omega arith)
+joined-next : (b : ℕ) (l : List ℕ) → length (joined (cutAtMarks l)) + marksIn l ≡ length l → (s : Bool)
+    → length (joined (pick s ([] ∷ cutAtMarks l) (onto b (cutAtMarks l)))) + (pick s 1 0 + marksIn l) ≡ suc (length l)
+unfolding joined
+joined-next b l e true = omega arith
+joined-next b l e false = omega (arith, ap length (joined-onto b (cutAtMarks l)))
 
-told-short : (t : List ℕ) (n : ℕ) → 5 ≤ n → length t ≤ n → length (told t) ≤ n
-unfolding told
-told-short t n h k = pick-most (eqb (length t) 0) (words "empty") t n (omega arith) k
+joined-length : (l : List ℕ) → length (joined (cutAtMarks l)) + marksIn l ≡ length l
+unfolding cutAtMarks joined marksIn
+joined-length [] = refl
+joined-length (b ∷ l) = joined-next b l (joined-length l) (isMark b)
 
-starts-short : (w : ℕ) (g : List Bool) (at n : ℕ) → length (startsFrom w g at n) ≤ n
-unfolding startsFrom
-starts-short w g at zero = omega arith
-starts-short w g at (suc n) =
-    let r = starts-short w g (suc at) n in
-    pick-most (startsAt w g at) (at ∷ startsFrom w g (suc at) n) (startsFrom w g (suc at) n) (suc n) (omega arith) (omega arith)
+pieces-short : (first last : ℕ) (r : List ℕ) → length (pieceLines first last 1 (pieces r)) ≤ 17 * length r
+unfolding pieces pieceLines
+pieces-short first last r = by-test (returns r) refl
+  where
+    by-test : (t : Bool) → returns r ≡ t → length (pieceLines first last 1 (pick t (cutAtMarks (before r)) [])) ≤ 17 * length r
+    by-test true e =
+        let h = some-byte r e in
+        let b = length-take-le (length r - 1) r (omega arith) in
+        let l = lines-short first last 1 (cutAtMarks (before r)) in
+        omega (arith, pieces-length (before r), joined-length (before r))
+    by-test false e = omega arith
+
+-- ---- what is told
+
+counted-short : (c : Counted) → length (countLine c) ≤ 90
+unfolding countLine
+counted-short (Counted.Text u n) =
+    let a = count-short u (words "unit") in
+    let b = count-short n (words "text part") in
+    simp length-append (omega arith)
+counted-short Counted.NoReturn = omega arith
+counted-short Counted.BadFirst = omega arith
+counted-short Counted.BadLast = omega arith
+counted-short (Counted.BadByte n) = let a = decimal-short n in simp length-append (omega arith)
+
+told-short : (t : Told) → length (toldLine t) ≤ 90
+unfolding toldLine
+told-short (Told.Counted c) = counted-short c
+told-short Told.BadPage = omega arith
+told-short Told.BadState = omega arith
+told-short Told.UnderWay = omega arith
+told-short Told.NoRoom = omega arith
 
 note-short : (on : Bool) → length (modeNote on) ≤ 73
 unfolding modeNote
 note-short true = omega arith
 note-short false = omega arith
 
-module _ {w : ℕ} (k : Width w) (p : List ℕ) (n : length p ≡ 24 * w) where
-  field-short : (at : ℕ) → at < 24 * w → length (fieldText w p at) ≤ 132
-  unfolding fieldText
-  field-short at h =
-      let e = editEnd w (marked p) at in
-      omega (arith, field-fits k p {at = at} {e = e} n h refl, trimmed-short (openCells (take (e - at) (drop at p))))
+sent-short : (on : Bool) (t : Told) (r : List ℕ) (first last : ℕ) → length (sent on t r first last) ≤ 211 + 17 * length r
+unfolding sent
+sent-short on t r first last =
+    let a = note-short on in
+    let b = pieces-short first last r in
+    let c = told-short t in
+    simp length-append (omega arith)
 
-  line-short : (j at : ℕ) → at < 24 * w → length (fieldLine w p j at) ≤ 183
-  unfolding fieldLine
-  line-short j at h =
-      let a = decimal-short j in
-      let b = place-short w at in
-      let c = count-short (editEnd w (marked p) at - at) (words "cell") in
-      let d = told-short (fieldText w p at) 132 (omega arith) (field-short at h) in
-      simp length-append (omega arith)
-
-  lines-first : (b : Bool) (j at m : ℕ) (t : List ℕ) → at < 24 * w → length (fieldLines w p j t) ≤ 183 * m
-      → length (fieldLines w p (suc j) t) ≤ 183 * m → length (fieldLines w p j (pick b (at ∷ t) t)) ≤ 183 * suc m
-  unfolding fieldLines
-  lines-first true j at m t h x y = let l = line-short j at h in simp length-append (omega arith)
-  lines-first false j at m t h x y = omega arith
-
-  lines-short : (j at m : ℕ) → at + m ≤ 24 * w → length (fieldLines w p j (startsFrom w (marked p) at m)) ≤ 183 * m
-  unfolding startsFrom fieldLines
-  lines-short j at zero h = omega arith
-  lines-short j at (suc m) h =
-      lines-first (startsAt w (marked p) at) j at m (startsFrom w (marked p) (suc at) m) (omega arith)
-      (lines-short j (suc at) m (omega arith)) (lines-short (suc j) (suc at) m (omega arith))
-
-  open-short : length (openText w p) ≤ 183 * length p
-  unfolding openText
-  open-short =
-      let g = length-guards true p in
-      let c = columns k in
-      let l = lines-short 1 0 (length (marked p)) (omega arith) in
-      pick-most (eqb (length (fieldStarts w (marked p))) 0) (words "  There is no open cell.\n")
-      (fieldLines w p 1 (fieldStarts w (marked p))) (183 * length p) (omega arith) (omega arith)
-
-  -- the message of a page of 24 rows
-  pub short : (on : Bool) → length (message w on p) ≤ 113 + 183 * length p
-  unfolding message
-  short on =
-      let o = open-short in
-      let m = note-short on in
-      simp length-append (omega arith)
+pub short : (p : List ℕ) (s : State) (first : ℕ) (all : Bool) (last : ℕ) → length (message p s first all last) ≤ 211 + 17 * replyRoom
+unfolding message
+short p s first all last =
+    let e = lastOf all last (replyOf p s) in
+    omega (arith, sent-short (s .core .modes .protect) (askRule p s first e replyRoom) (replyOf p s) first e, asking-fits p s replyRoom)

@@ -73,6 +73,5 @@ fed-more {n} {m} {x} {y} e a b = record {
 }
 
 pub came : (lent : List ℕ) {first kept page drawn : List ℕ} {n : ℕ} {s t : State} → s ≡ powerOn → first ≡ (powerOnRule lent) .page
-    → Fed n (watch first kept s) (watch page drawn t) → Came page drawn (t .core .modes .protect)
-came lent {kept = kept} {n = n} {t = t} es ep f =
-    record { lent = lent; kept = kept; room = n; state = t; fed = rw ep at (rw es at f); protect = refl }
+    → Fed n (watch first kept s) (watch page drawn t) → Came page drawn t
+came lent {kept = kept} {n = n} es ep f = record { lent = lent; kept = kept; room = n; fed = rw ep at (rw es at f) }

@@ -1,11 +1,12 @@
 -- The guarded cells: how many there are, and whether one has changed since protect mode went on.
 use Prim.Native.Nat.{ℕ, suc}
-use mathlib.Core.Bool.{Bool, true, false}
+use mathlib.Core.Bool.{Bool, true}
 use mathlib.Core.List.{List, [], _∷_, _++_}
 use lib.Dec.{eqb}
 use lib.ListN.{length}
 use Rattle.rules.specs.Cell.{pick, guarded}
-use Rattle.alert.specs.Room.{words, countOf, placeOf}
+use Rattle.counter.specs.Words.{words}
+use Rattle.alert.specs.Room.{countOf, placeOf}
 
 -- how many cells are guarded
 unfoldable pub guardedCells : Bool → List ℕ → ℕ

@@ -1,6 +1,5 @@
 pub mod Cells
 pub mod Room
-pub mod Fields
+pub mod Message
 pub mod Guarded
 pub mod Watch
-pub mod Private

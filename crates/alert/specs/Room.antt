@@ -1,22 +1,12 @@
 -- A text that is built in a lent room, byte after byte, and its words and numbers.
-use Prim.Native.Nat.{ℕ, zero, suc, _+_, _/_, _%_}
-use Prim.Native.Char.{code}
-use Prim.Native.String.{String, len, charAt}
+use Prim.Native.Nat.{ℕ, _+_, _/_, _%_}
 use mathlib.Core.Path.{_≡_}
 use mathlib.Core.List.{List, [], _∷_, _++_}
 use lib.Dec.{leb, ltb, eqb}
 use lib.ListN.{length, set}
 use Rattle.rules.specs.Cell.{pick}
 use Rattle.rules.specs.Send.{digit}
-
--- the codes of n characters of a text, from place i on
-abbrev pub codes : ℕ → ℕ → String → List ℕ
-codes zero i s = []
-codes (suc n) i s = code (charAt s i) ∷ codes n (suc i) s
-
--- a text that stands in quotes
-abbrev pub words : String → List ℕ
-words s = codes (len s) 0 s
+use Rattle.counter.specs.Words.{words}
 
 -- a room and the place of its next byte
 pub record Room : Type 0 where

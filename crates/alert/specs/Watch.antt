@@ -48,11 +48,9 @@ pub record Fed (n : ℕ) (x y : Watch) : Type 0 where
   pub bytes : List ℕ
   pub is : y ≡ watchedAll n x bytes
 
--- some bytes from power-on leave this page and protect mode so, and `drawn` is the page as it was when protect mode last went on
-pub record Came (page drawn : List ℕ) (on : Bool) : Type 0 where
+-- some bytes from power-on leave this page and this state, and `drawn` is the page as it was when protect mode last went on
+pub record Came (page drawn : List ℕ) (s : State) : Type 0 where
   pub lent : List ℕ
   pub kept : List ℕ
   pub room : ℕ
-  pub state : State
-  pub fed : Fed room (watch ((powerOnRule lent) .page) kept powerOn) (watch page drawn state)
-  pub protect : on ≡ state .core .modes .protect
+  pub fed : Fed room (watch ((powerOnRule lent) .page) kept powerOn) (watch page drawn s)

@@ -1,8 +1,9 @@
-// Plays a host stream to the terminal and shows what came of it: the page, what was refused, the open text that members would be sent, and
-// the replies. The stream is standard input, or the file that the first argument names.
+// Plays a host stream to the terminal and shows what came of it: the page, what was refused, what members are sent, and the replies. The
+// stream is standard input, or the file that is named; --first and --last choose the pieces that members are sent.
 mod cells;
-mod fields;
 mod guarded;
+mod message;
+mod options;
 mod print;
 mod put;
 mod stream;
@@ -14,9 +15,11 @@ ghost use lib.ListN.{length};
 ghost use Rattle.alert.specs.Watch.{Came};
 use libc::STDERR_FILENO;
 use libc::STDIN_FILENO;
+use options::Options;
 use print::out;
 use print::picture;
 use print::report;
+use rules::State;
 use stream::Played;
 
 const COLUMNS: usize = 80;
@@ -28,25 +31,25 @@ fn unreadable(name: &[u8]) {
 }
 
 // Prints what is told of the guarded cells.
-fn show_guarded(page: &[u16], drawn: &[u16], protect: bool)
-    requires { ⌜ (length (now page) ≡ 1920) × ((length (now drawn) ≡ 1920) × Came (now page) (now drawn) protect) ⌝ }
+fn show_guarded(page: &[u16], drawn: &[u16], state: State)
+    requires { ⌜ (length (now page) ≡ 1920) × ((length (now drawn) ≡ 1920) × Came (now page) (now drawn) state) ⌝ }
 {
     let mut room = [0u8; 256];
-    let n = guarded::line(&mut room, page, drawn, COLUMNS, protect);
+    let n = guarded::line(&mut room, page, drawn, COLUMNS, state.core.modes.protect);
     out::text(&room[..n]);
 }
 
-// Prints what members would be sent. Its room is 113 bytes and 183 for each cell: no message is longer.
-fn show_message(page: &[u16], protect: bool)
-    requires { ⌜ (length (now page) ≡ 1920) × ((drawn : List ℕ) × Came (now page) drawn protect) ⌝ }
+// Prints what members are sent. Its room is 211 bytes and 17 for each of the longest reply: no message is longer.
+fn show_message(page: &mut [u16], state: State, o: Options)
+    requires { ⌜ ((drawn : List ℕ) × Came (now page) drawn state) ⌝ }
 {
-    let mut room = [0u8; 351473];
-    let n = fields::message(&mut room, page, COLUMNS, protect);
+    let mut room = [0u8; 33259];
+    let n = message::message(&mut room, page, state, o.first, o.all, o.last);
     out::text(&room[..n]);
 }
 
-fn show(name: &[u8], page: &[u16], drawn: &[u16], p: Played, log: &[u8])
-    requires { ⌜ (length (now page) ≡ 1920) × ((length (now drawn) ≡ 1920) × Came (now page) (now drawn) (p .state .core .modes .protect)) ⌝ }
+fn show(name: &[u8], page: &mut [u16], drawn: &[u16], p: Played, log: &[u8], o: Options)
+    requires { ⌜ (length (now page) ≡ 1920) × ((length (now drawn) ≡ 1920) × Came (now page) (now drawn) (p .state)) ⌝ }
 {
     let state = p.state;
     let core = state.core;
@@ -61,13 +64,13 @@ fn show(name: &[u8], page: &[u16], drawn: &[u16], p: Played, log: &[u8])
     report::place(page, protect, screen);
     report::modes(modes);
     report::sequence(pending);
-    show_guarded(page, drawn, protect);
+    show_guarded(page, drawn, state);
     report::refused(refusals, p.bytes, p.clean);
-    show_message(page, protect);
+    show_message(page, state, o);
     report::replies(p, log);
 }
 
-fn play(fd: i32, name: &[u8]) {
+fn play(fd: i32, name: &[u8], o: Options) {
     let mut page = [0u16; 1920];
     let mut before = [0u16; 1920];
     let mut drawn = [0u16; 1920];
@@ -78,18 +81,14 @@ fn play(fd: i32, name: &[u8]) {
         unreadable(name);
         return;
     }
-    show(name, &page, &drawn, p, &log);
+    show(name, &mut page, &drawn, p, &log, o);
 }
 
-fn main() {
-    if os::arg_count() < 2 {
-        play(STDIN_FILENO, b"standard input");
-        return;
-    }
+fn play_file(o: Options) {
     let mut path = io::buffer();
-    let n = os::arg(1, &mut path);
+    let n = os::arg(o.file, &mut path);
     if os::errno() != 0 {
-        unreadable(b"the file of the first argument");
+        unreadable(b"the file that is named");
         return;
     }
     let fd = os::open_read(&path[..n]);
@@ -97,6 +96,22 @@ fn main() {
         unreadable(&path[..n]);
         return;
     }
-    play(fd, &path[..n]);
+    play(fd, &path[..n], o);
     libc::close(fd);
+}
+
+fn main() {
+    let o = options::read();
+    if o.bad {
+        io::write_all(
+            STDERR_FILENO,
+            b"usage: alert [--first PIECE] [--last PIECE] [FILE]\n",
+        );
+        return;
+    }
+    if o.file == 0 {
+        play(STDIN_FILENO, b"standard input", o);
+        return;
+    }
+    play_file(o);
 }

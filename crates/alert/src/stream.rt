@@ -289,7 +289,7 @@ pub fn play(
     log: &mut [u8],
 ) -> Played
     requires { ⌜ (length (now page) ≡ length (now before)) × (length (now page) ≡ length (now drawn)) ⌝ }
-    ensures { λ r. ⌜ Came (now (page .exit)) (now (drawn .exit)) (r .state .core .modes .protect) ⌝ }
+    ensures { λ r. ⌜ Came (now (page .exit)) (now (drawn .exit)) (r .state) ⌝ }
 {
     let p = start(page);
     pieces(fd, page, before, drawn, p, room, log)

@@ -1,7 +1,6 @@
 -- `alert::show` is safe and ends. The pages that it shows are those that the stream left.
-use native.Mathlib.Omega.{arith}
-use borrow.Author.Needs.{needs}
 use denote.Ref.{now}
+use borrow.Author.Needs.{needs}
 use Rattle.alert.proofs.show.Statement.{statement}
 use Rattle.alert.proofs.show.Tie as tie
 
@@ -14,7 +13,7 @@ show-spec =
     -- cursor-of-requires
     (λ c κs. search needs)
     -- show-requires
-    (λ c κs. c .before .before .before .before .before .before .before .before .before .before .before .before .pre .0)
+    (λ c κs. c .before .before .before .before .before .before .before .before .before .before .before .before .before .pre .0)
     -- place-requires
     (λ c κs. search needs)
     -- modes-requires
@@ -22,17 +21,14 @@ show-spec =
     -- sequence-requires
     (λ c κs. search needs)
     -- show-guarded-requires
-    (λ c κs.
-    let k = c .before .before .before .before .before .before .before .before .before .before .before .before .before .before .before .before .pre in
-    (k .0, (omega (arith, k), k .1 .1)))
+    (λ c κs. let k = c .before .before .before .before .before .before .before .before .before .before .before .before .before .before .before .before .before .before .before .pre in (k .0, (k .1 .0, k .1 .1)))
     -- refused-requires
     (λ c κs. search needs)
     -- show-message-requires
-    (λ c κs.
-    let k = c .before .before .before .before .before .before .before .before .before .before .before .before .before .before .before .before .before .before .pre in
-    let x = c .before .before .before .before .before .before .before .before .before .before .before .before .before .before .before .before .before .before .args in
-    (k .0, (now (x .drawn), k .1 .1)))
+    (λ c κs. (now (c .before .before .before .before .before .before .before .before .before .before .before .before .before .before .before .before .before .before .before .before .before .before .args .drawn), c .before .before .before .before .before .before .before .before .before .before .before .before .before .before .before .before .before .before .before .before .before .before .pre .1 .1))
     -- replies-requires
     (λ c κs. search needs)
+    -- same-length
+    (λ c. search needs)
     -- returns
     (λ c. search needs))

@@ -1,6 +1,6 @@
 -- `alert::stream::keep` is safe and ends.
 use mathlib.Core.Path.{_≡_}
-use Prim.Native.Nat.{ℕ, _+_, _-_, _≤_, _<_}
+use Prim.Native.Nat.{_-_, _≤_}
 use lib.ListN.{length}
 use borrow.Author.Needs.{needs}
 use Rattle.alert.proofs.stream.keep.Statement.{statement}

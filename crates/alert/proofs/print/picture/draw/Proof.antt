@@ -1,6 +1,6 @@
 -- `alert::print::picture::draw` is safe and ends.
 use mathlib.Core.Path.{_≡_}
-use Prim.Native.Nat.{ℕ, _+_, _-_, _≤_, _<_}
+use Prim.Native.Nat.{_-_, _≤_}
 use lib.ListN.{length}
 use borrow.Author.Needs.{needs}
 use Rattle.alert.proofs.print.picture.draw.Statement.{statement}

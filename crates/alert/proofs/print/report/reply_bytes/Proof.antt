@@ -1,5 +1,5 @@
 -- `alert::print::report::reply_bytes` is safe and ends.
-use Prim.Native.Nat.{ℕ, _+_, _-_, _≤_, _<_}
+use Prim.Native.Nat.{_-_, _≤_}
 use lib.ListN.{length}
 use borrow.Author.Needs.{needs}
 use Rattle.alert.proofs.print.report.reply_bytes.Statement.{statement}
