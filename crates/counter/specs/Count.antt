@@ -44,6 +44,6 @@ countRule r first last =
 abbrev pub Exact : Type 0
 Exact = (l : List ℕ) → length l ≤ 9223372036854775807 → capped (units (trimmed l)) ≡ units (trimmed l)
 
--- a text has no more parts than bytes, so the largest number is never a text's parts
+-- a text that fits in memory never has the largest number of parts
 abbrev pub FewParts : Type 0
 FewParts = (l : List ℕ) → length l ≤ largest → parts (trimmed l) < largest
