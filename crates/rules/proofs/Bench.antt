@@ -1,5 +1,6 @@
 -- The marked cases hold: the rules are computed on the page of 1,920 cells.
 use mathlib.Core.Path.{refl}
+use Rattle.rules.specs.Cell.{same}
 use Rattle.rules.specs.Row.{columns, rowEnd}
 use Rattle.rules.specs.Search.{marksBy, others, startsFrom, firstIn, lastIn, around, aroundBack}
 use Rattle.rules.specs.Change.{within, filled, shiftLeft, shiftRight, editShifted, rowsShifted, columnFilled}
@@ -13,7 +14,7 @@ use Rattle.rules.specs.Send.{openCell, cellPlace, textPlaces, places, by
 use Rattle.rules.specs.Carry.{applied, landed, done, carried}
 use Rattle.rules.specs.Step.{obeyed, innerRule, stepRule}
 use Rattle.rules.specs.Calls.{joined, repeated, runRule, keySends, pressRule, ofStep, ofRun, ofPress, callRule, after, play}
-use Rattle.rules.specs.Bench.{same, replies, answers, holds, allHold, casesHold, host, label, table, BenchList}
+use Rattle.rules.specs.Bench.{replies, answers, holds, allHold, casesHold, host, label, table, BenchList}
 
 pub bench : BenchList
 unfolding same replies answers holds allHold casesHold host label table columns rowEnd marksBy others startsFrom firstIn lastIn around aroundBack

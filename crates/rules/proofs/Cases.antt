@@ -1,5 +1,6 @@
 -- The worked cases hold: the rules are computed on the page of 1,920 cells.
 use mathlib.Core.Path.{refl}
+use Rattle.rules.specs.Cell.{same}
 use Rattle.rules.specs.Row.{columns, rowEnd}
 use Rattle.rules.specs.Search.{marksBy, others, startsFrom, firstIn, lastIn, around, aroundBack}
 use Rattle.rules.specs.Change.{within, filled, shiftLeft, shiftRight, editShifted, rowsShifted, columnFilled}
@@ -16,7 +17,7 @@ use Rattle.rules.specs.Calls.{powerOnRule, joined, repeated, runRule, ke
 use Rattle.rules.specs.Room.{over}
 use Rattle.rules.specs.Noninterference.{completes, runCompletes, callCompletes, anyCompleted}
 use Rattle.rules.specs.Completed.{completesFrom, stepCompletes}
-use Rattle.rules.specs.Bench.{same, replies, answers, countsOf, restsOf, segmentsOf, modesOf, stopsFrom, holds, allHold, casesHold, host}
+use Rattle.rules.specs.Bench.{replies, answers, countsOf, restsOf, segmentsOf, modesOf, stopsFrom, holds, allHold, casesHold, host}
 use Rattle.rules.specs.Inputs.{esc, goTo, labelled, halves, lower, threeLetters, lettersBelow, pageOf, cursorAt, protectAt, upperAt, lowerAt, belled, fullKeys, typed, obeys, refuses, obeysFrom, refusesFrom}
 use Rattle.rules.specs.MovingCases.{movingCases}
 use Rattle.rules.specs.WritingCases.{writingCases}
@@ -24,6 +25,9 @@ use Rattle.rules.specs.ReplyCases.{replyCases}
 use Rattle.rules.specs.CallCases.{callCases}
 use Rattle.rules.specs.LabelCases.{message, labelling, labelCases}
 use Rattle.rules.specs.SendCases.{twoFields, twoLabelRows, labelOverRowEnd, sendCases}
+use Rattle.rules.specs.RowList.{firstColumn, rowNumbers}
+use Rattle.rules.specs.RowCalls.{stepRowsRule, runRowsRule, rowsAfter, canRebuild, rowCallRule, rowAfter, rowPlay}
+use Rattle.rules.specs.RowCases.{rowsWith, openRows, rowHolds, rowCasesHold, fromPowerOn, rowCases}
 use Rattle.rules.specs.ByteCases.{span, lastAnswer, triedHold, bytesHold, low, high, digitBytes, attributeBytes, escapeBytes, firstBytes, argumentBytes, addressBytes, decimalBytes}
 use Rattle.rules.specs.PossibleCases.{placed, keyed, labelledAt, messaged, attributed, featured, stopped, shiftedOn, gathering, possibleStates, impossibleStates, allPossible, nonePossible}
 use Rattle.rules.specs.Cases.{CaseList}
@@ -41,7 +45,8 @@ unfolding completes runCompletes callCompletes anyCompleted completesFrom stepCo
     scrolls nextCell atTop upCell reversePlan downPlan tabCell backTabCell addressPlan movePlan activate isSegment windowPlan storing
     advancing storePlan rowEditPlan editPlan clearPlan settingPlan sendPlan excludedPlan planRule applied openCell cellPlace textPlaces places bytesOf
     replied landed done carried obeyed innerRule stepRule joined repeated runRule keySends pressRule ofStep ofRun
-    ofPress callRule after play
+    ofPress callRule after play firstColumn rowNumbers stepRowsRule runRowsRule rowsAfter canRebuild rowCallRule rowAfter rowPlay rowsWith openRows
+    rowHolds rowCasesHold fromPowerOn rowCases
 cases = record {
   moving = refl;
   writing = refl;
@@ -49,6 +54,8 @@ cases = record {
   calling = refl;
   labels = refl;
   sending = refl;
+  rows = refl;
+  wide-rows = refl;
   first = refl;
   argument = refl;
   address = refl;

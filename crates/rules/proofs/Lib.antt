@@ -24,5 +24,7 @@ pub mod Left
 pub mod Press
 pub mod Reach
 pub mod Completed
+pub mod RowSteps
+pub mod RowNoninterference
 pub mod KeyStore
 pub mod ShiftedLine

@@ -3,6 +3,7 @@
 -- agree and the pages stay related (Related). By induction over the bytes of a run and over the calls nothing else tells the two apart.
 --     noninterference     demand 3
 --     start-related, call-agrees, related-kept     its start, one call, its end: for calls in another form
+--     guards-agree, good-agrees     which cells are guarded, and whether page and state are good, in both
 -- Assumes nothing.
 use mathlib.Core.Path.{_≡_, refl, sym, ap, _∙_}
 use mathlib.Core.Bool.{Bool, true, false, false≢true}
@@ -65,7 +66,7 @@ landed-on g (Land.Settle i) c on = on
 
 -- protect mode is a variable here: `rw` of a state's own field would rewrite the state
 module _ (on : Bool) (e : on ≡ true) {p q x y : List ℕ} (h : Related p q x y) where
-  guards-agree : guardedAt on x ≡ guardedAt on y
+  pub guards-agree : guardedAt on x ≡ guardedAt on y
   guards-agree = rw e (related-guards h)
 
   length-agrees : (k : Plan) → length (replyOf on x k) ≡ length (replyOf on y k)
@@ -78,7 +79,7 @@ module _ (on : Bool) (e : on ≡ true) {p q x y : List ℕ} (h : Related p q x y
   pages-related k f = rw e (related-write (planWidth k) (k .second) (f .second) (related-write (planWidth k) (k .first) (f .first) h))
 
 module _ {p q x y : List ℕ} (h : Related p q x y) (s : State) (on : protects s ≡ true) where
-  good-agrees : good x s ≡ good y s
+  pub good-agrees : good x s ≡ good y s
   unfolding good
   good-agrees = rw (related-length h)
 

@@ -1,5 +1,6 @@
 -- The cases at 132 columns hold: the rules are computed on the page of 3,168 cells.
 use mathlib.Core.Path.{refl}
+use Rattle.rules.specs.Cell.{same}
 use Rattle.rules.specs.Row.{columns, rowEnd}
 use Rattle.rules.specs.Search.{marksBy, others, startsFrom, firstIn, lastIn, around, aroundBack}
 use Rattle.rules.specs.Change.{within, filled, shiftLeft, shiftRight, editShifted, rowsShifted, columnFilled}
@@ -13,7 +14,7 @@ use Rattle.rules.specs.Send.{openCell, cellPlace, textPlaces, places, by
 use Rattle.rules.specs.Carry.{applied, landed, done, carried}
 use Rattle.rules.specs.Step.{obeyed, innerRule}
 use Rattle.rules.specs.Calls.{ofStep, after}
-use Rattle.rules.specs.Bench.{same, replies, answers, holds, allHold}
+use Rattle.rules.specs.Bench.{replies, answers, holds, allHold}
 use Rattle.rules.specs.Inputs.{esc, goTo, labelled, typed}
 use Rattle.rules.specs.Wide.{wideHold, wideTable, WideList}
 

@@ -8,7 +8,7 @@ use lib.ListN.{getD, take, replicate}
 use Rattle.rules.specs.declared.State.{State}
 use Rattle.rules.specs.declared.Screen.{Screen}
 use Rattle.rules.specs.declared.Modes.{Modes}
-use Rattle.rules.specs.Cell.{pick, both}
+use Rattle.rules.specs.Cell.{pick, both, same}
 use Rattle.rules.specs.State.{cursorOf, shortBytes, labelPlace}
 use Rattle.rules.specs.Possible.{powerOn, blank}
 use Rattle.rules.specs.Calls.{Call, Step, Press, Given, Played, play}
@@ -35,12 +35,6 @@ pub data Claim : Type 0 where
   Message : List ℕ → Claim
   Label : ℕ → List ℕ → Claim
   Shifted : Bool → Claim
-
-unfoldable pub same : List ℕ → List ℕ → Bool
-same [] [] = true
-same [] (y ∷ ys) = false
-same (x ∷ xs) [] = false
-same (x ∷ xs) (y ∷ ys) = both (eqb x y) (same xs ys)
 
 unfoldable pub replies : List Given → List ℕ
 replies [] = []

@@ -1,11 +1,12 @@
 -- The worked cases, by the sentences of documents 01 and 02: one statement.
 use mathlib.Core.Path.{_≡_}
-use mathlib.Core.Bool.{true}
-use mathlib.Core.List.{[], _∷_}
+use mathlib.Core.Bool.{true, false}
+use mathlib.Core.List.{[], _∷_, _++_}
 use lib.ListN.{replicate}
 use Rattle.rules.specs.Possible.{powerOn}
 use Rattle.rules.specs.Room.{over}
 use Rattle.rules.specs.Calls.{powerOnRule}
+use Rattle.rules.specs.RowList.{rowList}
 use Rattle.rules.specs.Completed.{SixCompleted}
 use Rattle.rules.specs.Bench.{casesHold}
 use Rattle.rules.specs.MovingCases.{movingCases}
@@ -14,6 +15,7 @@ use Rattle.rules.specs.ReplyCases.{replyCases}
 use Rattle.rules.specs.CallCases.{callCases}
 use Rattle.rules.specs.LabelCases.{labelCases}
 use Rattle.rules.specs.SendCases.{sendCases}
+use Rattle.rules.specs.RowCases.{rowsWith, rowCases, rowCasesHold}
 use Rattle.rules.specs.ByteCases.{bytesHold, firstBytes, argumentBytes, addressBytes, decimalBytes}
 use Rattle.rules.specs.PossibleCases.{possibleStates, impossibleStates, allPossible, nonePossible}
 
@@ -24,6 +26,8 @@ pub record CaseList : Type 0 where
   pub calling : casesHold callCases ≡ true
   pub labels : casesHold labelCases ≡ true
   pub sending : casesHold sendCases ≡ true
+  pub rows : rowCasesHold rowCases ≡ true
+  pub wide-rows : rowList 132 (replicate 79 true ++ replicate 3089 false) ≡ 53 ∷ 80 ∷ rowsWith 132 1 23
   -- which bytes, tried with all of them
   pub first : bytesHold firstBytes ≡ true
   pub argument : bytesHold argumentBytes ≡ true

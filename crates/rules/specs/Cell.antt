@@ -1,6 +1,7 @@
 -- One cell's number (document 01, "The page and the state").
 use Prim.Native.Nat.{ℕ, _+_, _*_, _/_, _%_}
 use mathlib.Core.Bool.{Bool, true, false, not}
+use mathlib.Core.List.{List, [], _∷_}
 use lib.Dec.{leb, ltb, eqb}
 use Rattle.rules.specs.declared.Contents.{Contents}
 use Rattle.rules.specs.declared.Contents.the-variants as Contents
@@ -19,6 +20,13 @@ either a b = pick a true b
 -- one of the n numbers from `first` on
 abbrev pub among : ℕ → ℕ → ℕ → Bool
 among first n v = both (leb first v) (ltb v (first + n))
+
+-- two lists of numbers are equal
+unfoldable pub same : List ℕ → List ℕ → Bool
+same [] [] = true
+same [] (y ∷ l) = false
+same (x ∷ k) [] = false
+same (x ∷ k) (y ∷ l) = both (eqb x y) (same k l)
 
 abbrev pub code : ℕ → ℕ
 code v = v % 128

@@ -14,6 +14,8 @@ pub mod Room
 pub mod Step
 pub mod Calls
 pub mod Noninterference
+pub mod RowList
+pub mod RowCalls
 pub mod Completed
 pub mod Labels
 pub mod Good
@@ -29,6 +31,7 @@ pub mod WritingCases
 pub mod ReplyCases
 pub mod CallCases
 pub mod SendCases
+pub mod RowCases
 pub mod ByteCases
 pub mod PossibleCases
 pub mod LabelCases

@@ -1,0 +1,140 @@
+-- The calls with a row list (document 02, A5). A list of the wrong length, or one that disagrees at entry, answers 7, and nothing has changed;
+-- else they give what the calls without it give, and the list is that of the page and the state that they leave.
+use mathlib.Core.Path.{_≡_}
+use mathlib.Core.Bool.{Bool, true, false}
+use mathlib.Core.List.{List, [], _∷_, _++_}
+use Prim.Native.Nat.{ℕ, _*_}
+use lib.Dec.{eqb}
+use lib.ListN.{length}
+use Rattle.rules.specs.declared.State.{State}
+use Rattle.rules.specs.Cell.{pick, both}
+use Rattle.rules.specs.Row.{height}
+use Rattle.rules.specs.Possible.{good}
+use Rattle.rules.specs.Step.{Outcome, stepRule}
+use Rattle.rules.specs.Calls.{Ran, ended, runRule, Call, Step, Run, Called, ofStep, ofRun, callRule, Given, Played, play}
+use Rattle.rules.specs.Noninterference.{anyCompleted, AlikePages, Indistinguishable}
+use Rattle.rules.specs.RowList.{rowsOf, agrees}
+
+-- l is the list
+unfoldable pub stepRowsRule : List ℕ → List ℕ → State → ℕ → ℕ → Outcome
+stepRowsRule p l s b room =
+    let r = stepRule p s b room in pick (agrees l p s) r (record { answer = 7; state = s; page = p; reply = [] })
+
+unfoldable pub runRowsRule : List ℕ → List ℕ → State → List ℕ → ℕ → Ran
+runRowsRule p l s bytes room = let r = runRule p s bytes room in pick (agrees l p s) r (ended p s 7 bytes)
+
+-- the list after a call that left the page p′ and the state s′
+unfoldable pub rowsAfter : List ℕ → List ℕ → State → List ℕ → State → List ℕ
+rowsAfter p l s p′ s′ = pick (agrees l p s) (rowsOf p′ s′) l
+
+-- the rebuild reads no old number: a list of the wrong length, a page of the wrong length or an impossible state answers 7
+unfoldable pub canRebuild : List ℕ → List ℕ → State → Bool
+canRebuild p l s = both (eqb (length l) (2 * height)) (good p s)
+
+abbrev pub rebuildAnswer : List ℕ → List ℕ → State → ℕ
+rebuildAnswer p l s = pick (canRebuild p l s) 0 7
+
+abbrev pub rebuilt : List ℕ → List ℕ → State → List ℕ
+rebuilt p l s = pick (canRebuild p l s) (rowsOf p s) l
+
+-- ---- lists of calls
+
+-- what a caller keeps from call to call
+pub record Session : Type 0 where
+  pub page : List ℕ
+  pub rows : List ℕ
+  pub state : State
+
+-- a call without the list, the step and the run with it, the rebuild; the key press takes none
+pub data RowCall : Type 0 where
+  Bare : Call → RowCall
+  ListStep : ℕ → ℕ → RowCall
+  ListRun : List ℕ → ℕ → RowCall
+  Rebuild : RowCall
+
+pub record RowCalled : Type 0 where
+  pub called : Called
+  pub rows : List ℕ
+
+abbrev pub left : RowCalled → Session
+left r = record { page = r .called .page; rows = r .rows; state = r .called .given .state }
+
+-- a call that took the list
+abbrev pub listed : Session → Called → RowCalled
+listed x r = record { called = r; rows = rowsAfter (x .page) (x .rows) (x .state) (r .page) (r .given .state) }
+
+-- the rebuild changes neither page nor state
+abbrev pub answering : Session → ℕ → Called
+answering x n = record { given = record { answer = n; counts = []; reply = []; rest = []; state = x .state }; page = x .page }
+
+unfoldable pub rowCallRule : Session → RowCall → RowCalled
+rowCallRule x (Bare c) = record { called = callRule (x .page) (x .state) c; rows = x .rows }
+rowCallRule x (ListStep b room) = listed x (ofStep (stepRowsRule (x .page) (x .rows) (x .state) b room))
+rowCallRule x (ListRun bytes room) = listed x (ofRun (runRowsRule (x .page) (x .rows) (x .state) bytes room))
+rowCallRule x Rebuild = record {
+  called = answering x (rebuildAnswer (x .page) (x .rows) (x .state));
+  rows = rebuilt (x .page) (x .rows) (x .state);
+}
+
+-- each call is made on what the last one left; the list is part of what it gives back
+pub record RowPlayed : Type 0 where
+  pub given : List Given
+  pub lists : List (List ℕ)
+  pub session : Session
+
+unfoldable pub rowAfter : RowCalled → RowPlayed → RowPlayed
+rowAfter c r = record { given = c .called .given ∷ r .given; lists = c .rows ∷ r .lists; session = r .session }
+
+unfoldable pub rowPlay : List RowCall → Session → RowPlayed
+rowPlay [] x = record { given = []; lists = []; session = x }
+rowPlay (c ∷ cs) x = let r = rowCallRule x c in rowAfter r (rowPlay cs (left r))
+
+-- the calls without lists that a list of calls comes to: one refused for its list comes to none, and so does the rebuild
+unfoldable pub bareCall : Session → RowCall → List Call
+bareCall x (Bare c) = c ∷ []
+bareCall x (ListStep b room) = pick (agrees (x .rows) (x .page) (x .state)) (Step b room ∷ []) []
+bareCall x (ListRun bytes room) = pick (agrees (x .rows) (x .page) (x .state)) (Run bytes room ∷ []) []
+bareCall x Rebuild = []
+
+unfoldable pub bareCalls : List RowCall → Session → List Call
+bareCalls [] x = []
+bareCalls (c ∷ cs) x = bareCall x c ++ bareCalls cs (left (rowCallRule x c))
+
+-- what the request says: with a list that agrees a step, and a run, give what they give without it, and the list agrees after it; so do the
+-- page and the state after a list of calls
+pub record EqualResults : Type 0 where
+  pub step : (p l : List ℕ) (s : State) (b room : ℕ) → agrees l p s ≡ true → stepRowsRule p l s b room ≡ stepRule p s b room
+  pub run : (p l : List ℕ) (s : State) (bytes : List ℕ) (room : ℕ) → agrees l p s ≡ true → runRowsRule p l s bytes room ≡ runRule p s bytes room
+  pub agreed : (p l : List ℕ) (s : State) (p′ : List ℕ) (s′ : State) → agrees l p s ≡ true → agrees (rowsAfter p l s p′ s′) p′ s′ ≡ true
+  pub page : (cs : List RowCall) (x : Session) → rowPlay cs x .session .page ≡ play (bareCalls cs x) (x .page) (x .state) .page
+  pub state : (cs : List RowCall) (x : Session) → rowPlay cs x .session .state ≡ play (bareCalls cs x) (x .page) (x .state) .state
+
+-- one that disagrees answers 7, and nothing has changed
+pub record Disagreeing : Type 0 where
+  pub step : (p l : List ℕ) (s : State) (b room : ℕ) → agrees l p s ≡ false
+      → stepRowsRule p l s b room ≡ record { answer = 7; state = s; page = p; reply = [] }
+  pub run : (p l : List ℕ) (s : State) (bytes : List ℕ) (room : ℕ) → agrees l p s ≡ false → runRowsRule p l s bytes room ≡ ended p s 7 bytes
+  pub kept : (p l : List ℕ) (s : State) (p′ : List ℕ) (s′ : State) → agrees l p s ≡ false → rowsAfter p l s p′ s′ ≡ l
+  -- such are all lists that are not 48 long
+  pub length : (p l : List ℕ) (s : State) → (lib.ListN.length l ≡ 48 → ⊥) → agrees l p s ≡ false
+
+-- the rebuild answers 0 exactly if its list is 48 long and page and state are good, and then the list agrees; else it is left
+pub record Rebuilding : Type 0 where
+  pub done : (p l : List ℕ) (s : State) → length l ≡ 48 → good p s ≡ true → (rebuildAnswer p l s ≡ 0) × (agrees (rebuilt p l s) p s ≡ true)
+  pub bad-length : (p l : List ℕ) (s : State) → (length l ≡ 48 → ⊥) → (rebuildAnswer p l s ≡ 7) × (rebuilt p l s ≡ l)
+  pub bad : (p l : List ℕ) (s : State) → good p s ≡ false → (rebuildAnswer p l s ≡ 7) × (rebuilt p l s ≡ l)
+
+-- ---- demand 3: "both terminals start with the same such list, and it counts among the modes"
+
+pub record RowIndistinguishable (p q : List ℕ) (a b : RowPlayed) : Type 0 where
+  pub calls : Indistinguishable p q (record { given = a .given; state = a .session .state; page = a .session .page })
+      (record { given = b .given; state = b .session .state; page = b .session .page })
+  pub lists : a .lists ≡ b .lists
+  pub rows : a .session .rows ≡ b .session .rows
+
+-- the same list l, right or wrong; none of the six is completed by the calls that the first terminal's come to
+abbrev pub RowDemand3 : Type 0
+RowDemand3 =
+    (p q l : List ℕ) (s : State) (calls : List RowCall) → s .core .modes .protect ≡ true → AlikePages p q
+    → anyCompleted (bareCalls calls (record { page = p; rows = l; state = s })) p s ≡ false
+    → RowIndistinguishable p q (rowPlay calls (record { page = p; rows = l; state = s })) (rowPlay calls (record { page = q; rows = l; state = s }))
