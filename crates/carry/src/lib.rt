@@ -3,8 +3,11 @@ ghost use mathlib.Core.Path.{_≡_};
 ghost use lib.ListN.{length};
 ghost use Rattle.rules.specs.State.{pageLength};
 ghost use Rattle.rules.specs.Good.{GoodPlan};
-ghost use Rattle.rules.specs.Carry.{carried};
+ghost use Rattle.rules.specs.Search.{guardedAt};
+ghost use Rattle.rules.specs.RowList.{Beside};
+ghost use Rattle.rules.specs.Carry.{planWidth, carried};
 ghost use Rattle.carry.specs.Carried.{Carried};
+ghost use Rattle.carry.specs.Rows.{BesideAfter};
 
 mod landing; // where the cursor goes
 mod replies; // what is replied: whether it fits, and its bytes
@@ -20,12 +23,19 @@ use rules::CoreResult;
 use rules::Plan;
 use rules::SetupChange;
 use state::screen::width_of;
-use writes::write;
+use writes::write_both;
 
 // The room is judged before anything is written: a reply longer than it answers 6, and nothing has changed.
-pub fn carry_out(page: &mut [u16], core: Core, plan: Plan, room: &mut [u8]) -> CoreResult
-    requires { ⌜ (length (now page) ≡ pageLength (plan .next .screen)) × GoodPlan plan ⌝ }
-    ensures { λ r. ⌜ Carried (carried (now (page .entry)) core plan (length (now (room .entry)))) r (now (page .exit)) (now (room .entry)) (now (room .exit)) ⌝ }
+// A row list beside the page follows it.
+pub fn carry_out(
+    page: &mut [u16],
+    rows: &mut [u16],
+    core: Core,
+    plan: Plan,
+    room: &mut [u8],
+) -> CoreResult
+    requires { ⌜ (length (now page) ≡ pageLength (plan .next .screen)) × (GoodPlan plan × Beside (planWidth plan) (guardedAt (core .modes .protect) (now page)) (now rows)) ⌝ }
+    ensures { λ r. ⌜ Carried (carried (now (page .entry)) core plan (length (now (room .entry)))) r (now (page .exit)) (now (room .entry)) (now (room .exit)) × BesideAfter (planWidth plan) (carried (now (page .entry)) core plan (length (now (room .entry)))) (now (rows .exit)) ⌝ }
 {
     let on = core.modes.protect;
     let screen = plan.next.screen;
@@ -42,12 +52,11 @@ pub fn carry_out(page: &mut [u16], core: Core, plan: Plan, room: &mut [u8]) -> C
     }
     let n = put_reply(page, width, on, reply, room);
     let first = plan.first;
-    write(page, width, on, first);
     let second = plan.second;
-    write(page, width, on, second);
     let next = plan.next;
+    write_both(page, rows, width, on, next.modes.protect, first, second);
     let place = plan.land;
-    let c = land(page, next, place);
+    let c = land(page, rows, next, place);
     let answer = plan.answer;
     let x = plan.change;
     let change = Change::Set(x);

@@ -1,17 +1,25 @@
-// What a plan writes to the page.
+// What a plan writes to the page, and the row list after it.
 ghost use mathlib.Core.Path.{_≡_};
 ghost use Prim.Native.Nat.{_*_};
 ghost use lib.ListN.{length};
 ghost use Rattle.rules.specs.Row.{Width};
 ghost use Rattle.rules.specs.Good.{GoodWrite};
 ghost use Rattle.rules.specs.Carry.{applied};
+ghost use Rattle.rules.specs.Search.{guardedAt};
+ghost use Rattle.rules.specs.RowList.{Beside};
+ghost use Rattle.carry.specs.Rows.{keepsGuards as keepsOf, touchedTop, touchedBottom};
+use page::cell::is_guarded;
 use page::change::fill_cells;
 use page::change::fill_column;
 use page::change::shift_edit_run;
 use page::change::shift_rows;
+use page::rows::rebuild;
+use page::rows::recount;
+use page::search::row_of;
 use rules::Write;
+use state::logic::and;
 
-pub fn write(page: &mut [u16], width: usize, on: bool, w: Write)
+fn write(page: &mut [u16], width: usize, on: bool, w: Write)
     requires { ⌜ (length (now page) ≡ 24 * width) × (GoodWrite width w × Width width) ⌝ }
     ensures { λ r. ⌜ now (page .exit) ≡ applied width on w (now (page .entry)) ⌝ }
 {
@@ -57,4 +65,120 @@ pub fn write(page: &mut [u16], width: usize, on: bool, w: Write)
             bottom as usize,
         ),
     }
+}
+
+// Whether a write leaves which cells are guarded as it is.
+fn keeps_guards(on: bool, w: Write) -> bool
+    ensures { λ r. ⌜ r ≡ keepsOf on w ⌝ }
+{
+    match w {
+        Write::Nothing => true,
+        Write::Fill {
+            from: _,
+            to: _,
+            value,
+        } => !is_guarded(on, value),
+        Write::FillAll {
+            from: _,
+            to: _,
+            value: _,
+        } => !on,
+        Write::Column {
+            top: _,
+            bottom: _,
+            column: _,
+            value,
+        } => !is_guarded(on, value),
+        Write::Edit {
+            right: _,
+            at: _,
+            value,
+        } => !is_guarded(on, value),
+        Write::Rows {
+            down: _,
+            top: _,
+            bottom: _,
+        } => !on,
+    }
+}
+
+// The rows that are counted again after a write: the first, and the one past the last.
+struct RowSpan {
+    top: usize,
+    bottom: usize,
+}
+
+fn touched(width: usize, w: Write) -> RowSpan
+    requires { ⌜ Width width ⌝ }
+    ensures { λ r. ⌜ (r .top ≡ touchedTop width w) × (r .bottom ≡ touchedBottom width w) ⌝ }
+{
+    match w {
+        Write::Nothing => RowSpan { top: 0, bottom: 0 },
+        Write::Fill { from, to, value: _ } => {
+            let top = row_of(width, from as usize);
+            let bottom = row_of(width, to as usize + (width - 1));
+            RowSpan {
+                top: top,
+                bottom: bottom,
+            }
+        }
+        Write::FillAll {
+            from: _,
+            to: _,
+            value: _,
+        } => RowSpan { top: 0, bottom: 24 },
+        Write::Column {
+            top: _,
+            bottom: _,
+            column: _,
+            value: _,
+        } => RowSpan { top: 0, bottom: 24 },
+        Write::Edit {
+            right: _,
+            at,
+            value: _,
+        } => {
+            let row = row_of(width, at as usize);
+            RowSpan {
+                top: row,
+                bottom: row + 1,
+            }
+        }
+        Write::Rows {
+            down: _,
+            top: _,
+            bottom: _,
+        } => RowSpan { top: 0, bottom: 24 },
+    }
+}
+
+// Both writes of a plan, and the row list after them; protect mode becomes `after`.
+pub fn write_both(
+    page: &mut [u16],
+    rows: &mut [u16],
+    width: usize,
+    on: bool,
+    after: bool,
+    first: Write,
+    second: Write,
+)
+    requires { ⌜ (length (now page) ≡ 24 * width) × (GoodWrite width first × (GoodWrite width second × (Width width × Beside width (guardedAt on (now page)) (now rows)))) ⌝ }
+    ensures { λ r. ⌜ (now (page .exit) ≡ applied width on second (applied width on first (now (page .entry)))) × Beside width (guardedAt after (now (page .exit))) (now (rows .exit)) ⌝ }
+{
+    write(page, width, on, first);
+    write(page, width, on, second);
+    if rows.len() == 0 {
+        return;
+    }
+    if !and(on == after, keeps_guards(on, second)) {
+        rebuild(rows, page, width, after);
+        return;
+    }
+    if keeps_guards(on, first) {
+        return;
+    }
+    let t = touched(width, first);
+    let top = t.top;
+    let bottom = t.bottom;
+    recount(rows, page, width, after, top, bottom);
 }

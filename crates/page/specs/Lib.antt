@@ -1,3 +1,4 @@
 pub mod Moved
 pub mod Room
 pub mod Text
+pub mod RowList

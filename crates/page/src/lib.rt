@@ -2,5 +2,6 @@
 // Each function gives what its definition in `rules` gives. The width is a parameter where rows matter.
 pub mod cell;
 pub mod change;
+pub mod rows;
 pub mod search;
 pub mod text;

@@ -55,7 +55,7 @@ fn is_marked(page: &[u16], protect: bool, mark: Mark, at: usize) -> bool
 }
 
 // The first marked cell from `from` up to `end`, or `end`.
-fn first_marked(page: &[u16], protect: bool, mark: Mark, from: usize, end: usize) -> usize
+pub fn first_marked(page: &[u16], protect: bool, mark: Mark, from: usize, end: usize) -> usize
     requires { ⌜ (from ≤ end) × (end ≤ length (now page)) ⌝ }
     ensures { λ r. ⌜ r ≡ firstIn (marksOf mark (guardedAt protect (now (page .entry)))) from end ⌝ }
 {

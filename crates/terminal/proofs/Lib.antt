@@ -5,3 +5,6 @@ pub mod TextSteps
 pub mod TextRuns
 pub mod Calls
 pub mod Noninterference
+pub mod RowRuns
+pub mod RowCalls
+pub mod RowNoninterference

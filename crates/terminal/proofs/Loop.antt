@@ -5,6 +5,7 @@
 --     begin, stop, go, finish     the loop's start, a byte that answers 6, any other byte, the end of the input
 --     ready     what the loop hands to the inner step meets what that asks
 --     page-size, room-size, back-size     the page and the room keep their lengths
+--     stop-beside, go-beside, ended-beside     the row list after a byte, and after the loop
 --     more-replied, more-refused     the counts stay within the lengths of the room and of the input
 -- Assumes nothing.
 use mathlib.Core.Path.{_≡_, refl, sym, ap, ap₂, subst, subst₂, _∙_}
@@ -28,18 +29,24 @@ use Rattle.rules.specs.declared.Setup.{Setup}
 use Rattle.rules.specs.declared.State.{State}
 use Rattle.rules.specs.declared.SetupChange.the-variants as SetupChange
 use Rattle.rules.specs.Cell.{among}
-use Rattle.rules.specs.State.{number, pageLength, changed, gatheredAfter, setupAfter}
+use Rattle.rules.specs.Row.{columns}
+use Rattle.rules.specs.Search.{guardedAt}
+use Rattle.rules.specs.RowList.{Beside}
+use Rattle.rules.specs.State.{number, widthOf, pageLength, changed, gatheredAfter, setupAfter}
 use Rattle.rules.specs.Possible.{screenOk, pendingOk, good}
 use Rattle.rules.specs.Carry.{Effect}
 use Rattle.rules.specs.Step.{Outcome, innerRule, stepRule}
 use Rattle.rules.specs.Room.{over}
 use Rattle.rules.specs.Calls.{Ran, ended, refusal, repeated}
 use Rattle.rules.specs.Steps.{preceded}
+use Rattle.rules.specs.Left.{leaves}
 use Rattle.rules.proofs.Tests.{pick-if}
 use Rattle.rules.proofs.Kept.{good-parts, possible-parts, step-keeps, step-good}
 use Rattle.rules.proofs.Left.{step-left}
 use Rattle.rules.proofs.Run.{run-stop, run-go, run-done, preceded-none, preceded-joined}
+use Rattle.page.proofs.RowList.{beside-is}
 use Rattle.carry.specs.Carried.{Carried}
+use Rattle.carry.specs.Rows.{BesideAfter}
 use Rattle.terminal.specs.declared.bytes.Ended.{Ended}
 use Rattle.terminal.specs.Promise.{Completed}
 use Rattle.terminal.specs.Loop.{isNothing, stateOf, lastAnswer, Looped}
@@ -251,6 +258,28 @@ module _ {p₀ : List ℕ} {s₀ : State} {input w₀ p w : List ℕ} {c : Core}
           last = eqb-true _ _ t ∙ sym (R .last ∙ rw (cons, a6));
         }))
 
+    -- the row list after it
+    pub stop-beside : eqb (number (r .answer)) 6 ≡ true → {l : List ℕ}
+        → BesideAfter (widthOf (c .screen)) (innerRule p c (u .tabs) (getD input i 0) (length (lentTail n w))) l
+        → Beside (widthOf (c .screen)) (guardedAt (c .modes .protect) p′) l
+    stop-beside t {l} k =
+        let a6 : o .answer ≡ 6 = made .answer ∙ sym (S .answer) ∙ eqb-true _ _ t in
+        let left = step-left p s b (length w₀ - n) (λ z. absurd (omega (arith, z, a6))) in
+        let core : e .core ≡ c = sym (made .core) ∙ ap (λ (x : State). x .core) (left .state ∙ ap (λ (k : ℕ). leaves k s) a6) in
+        beside-is (widthOf (c .screen)) (ap₂ (λ (d : Core) (q : List ℕ). guardedAt (d .modes .protect) q) core (sym (S .page)))
+        (subst (λ (x : List ℕ). BesideAfter (widthOf (c .screen)) (innerRule p c (u .tabs) b (length x)) l) (tail-lent n w) k)
+
+    pub go-beside : eqb (number (r .answer)) 6 ≡ false → {l : List ℕ}
+        → BesideAfter (widthOf (c .screen)) (innerRule p c (u .tabs) (getD input i 0) (length (lentTail n w))) l
+        → Beside (widthOf (r .core .screen)) (guardedAt (r .core .modes .protect) p′) l
+    go-beside t {l} k =
+        let core : r .core ≡ o .state .core = S .core (rw (sym (S .answer)) t) ∙ sym (made .core) in
+        let wide : widthOf (c .screen) ≡ widthOf (r .core .screen) =
+        sym (ap columns (ap (λ (d : Core). d .screen .wide) core ∙ step-keeps p s b (length w₀ - n) .wide)) in
+        subst (λ (m : ℕ). Beside m (guardedAt (r .core .modes .protect) p′) l) wide
+        (beside-is (widthOf (c .screen))
+        (ap₂ (λ (d : Core) (q : List ℕ). guardedAt (d .modes .protect) q) (sym (lent .core (rw (sym (lent .answer)) t))) (sym (lent .page))) k)
+
     -- the reply stands behind those of the bytes before
     sum : length (take n w ++ o .reply) ≡ n + r .replied
     sum = length-append (take n w) (o .reply) ∙ omega (arith, length-take-le n w room-size, S .replied, ap length (made .reply))
@@ -307,3 +336,8 @@ module _ {p₀ : List ℕ} {s₀ : State} {input w₀ p w : List ℕ} {c : Core}
         last = R .last ∙ ap (λ (l : List ℕ). lastAnswer l p s (length w₀ - n) (number a)) cons
             ∙ last-go b (drop (suc i) input) p s (length w₀ - n) (number a) not-six ∙ cc (turned, reached, room-left, answered, add-one i);
       }
+
+-- the row list of the core that the loop ends with
+pub ended-beside : (z : Ended) {c : Core} (p : List ℕ) {l : List ℕ} → z .core ≡ c → Beside (widthOf (c .screen)) (guardedAt (c .modes .protect) p) l
+    → Beside (widthOf (z .core .screen)) (guardedAt (z .core .modes .protect) p) l
+ended-beside z p {l} e b = subst (λ (d : Core). Beside (widthOf (d .screen)) (guardedAt (d .modes .protect) p) l) (sym e) b

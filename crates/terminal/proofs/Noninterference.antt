@@ -17,7 +17,7 @@ pub front : (l w w′ : List ℕ) (n : ℕ) → n ≡ length l → w′ ≡ over
 unfolding over
 front l w w′ n e h = rw (e, h) (take-append-seam l _)
 
-made-is : {p p′ : List ℕ} {s : State} {c : Call} {g : Given} → Made p s c g p′ → callRule p s c ≡ record { given = g; page = p′ }
+pub made-is : {p p′ : List ℕ} {s : State} {c : Call} {g : Given} → Made p s c g p′ → callRule p s c ≡ record { given = g; page = p′ }
 unfolding callRule ofStep ofRun ofPress
 made-is {p} {p′} {s} (stepped {b = b} {w = w} {w′ = w′} {r = r} h) =
     cc (h .answer, h .state, h .replied, h .page, front _ w w′ (r .replied) (h .replied) (h .room))

@@ -1,4 +1,6 @@
 pub mod Promise
 pub mod Loop
 pub mod Text
+pub mod Rows
 pub mod Noninterference
+pub mod RowNoninterference

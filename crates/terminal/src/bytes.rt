@@ -3,20 +3,30 @@
 ghost use mathlib.Core.Path.{_≡_};
 ghost use mathlib.Core.Bool.{true};
 ghost use lib.Dec.{eqb};
-ghost use Rattle.rules.specs.State.{number};
+ghost use lib.ListN.{length};
+ghost use Prim.Native.Nat.{_*_};
+ghost use Rattle.rules.specs.Row.{columns};
+ghost use Rattle.rules.specs.State.{number, widthOf};
 ghost use Rattle.rules.specs.Possible.{good};
+ghost use Rattle.rules.specs.Search.{guardedAt};
+ghost use Rattle.rules.specs.RowList.{Beside};
 ghost use Rattle.rules.specs.Calls.{refusal};
 ghost use Rattle.terminal.specs.Loop.{keepsSetup, isNothing, stateOf, Looped};
+ghost use Rattle.terminal.specs.Rows.{closedNone, Behind};
 use crate::inner::inner;
 use crate::text::moved;
 use crate::text::text;
+use page::rows::rebuild;
 use rules::Answer;
 use rules::Change;
 use rules::Core;
 use rules::Setup;
 use rules::SetupChange;
+use state::logic::and;
+use state::logic::or;
 use state::setup::gathered_after;
 use state::setup::setup_after;
+use state::width::columns;
 
 // How a loop ended: its answer, the answer of the last byte that it looked at, its counts, and the state.
 pub struct Ended {
@@ -108,17 +118,34 @@ fn finished(
     }
 }
 
-// The single step repeated, each with the room that is left; it stops before the first byte that answers 6.
+// The row list after a run of text, which took nothing if it is the `same`: only with protect and write-protect mode on has it closed cells.
+fn follow_text(rows: &mut [u16], page: &[u16], wide: bool, protect: bool, mark: bool, same: bool)
+    requires { ⌜ (length (now page) ≡ 24 * columns wide) × Behind (closedNone same protect mark) (columns wide) (guardedAt protect (now page)) (now rows) ⌝ }
+    ensures { λ r. ⌜ Beside (columns wide) (guardedAt protect (now (page .entry))) (now (rows .exit)) ⌝ }
+{
+    if rows.len() == 0 {
+        return;
+    }
+    if or(same, !and(protect, mark)) {
+        return;
+    }
+    let width = columns(wide);
+    rebuild(rows, page, width as usize, protect);
+}
+
+// The single step repeated, each with the room that is left; it stops before the first byte that answers 6. A row
+// list beside the page follows it.
 pub fn repeat(
     page: &mut [u16],
+    rows: &mut [u16],
     core: Core,
     gathered: [u8; 46],
     setup: Setup,
     input: &[u8],
     room: &mut [u8],
 ) -> Ended
-    requires { ⌜ good (now page) (stateOf core gathered setup) ≡ true ⌝ }
-    ensures { λ r. ⌜ Looped (now (page .entry)) (stateOf core gathered setup) (now (input .entry)) (now (room .entry)) r (now (page .exit)) (now (room .exit)) ⌝ }
+    requires { ⌜ (good (now page) (stateOf core gathered setup) ≡ true) × Beside (widthOf (core .screen)) (guardedAt (core .modes .protect) (now page)) (now rows) ⌝ }
+    ensures { λ r. ⌜ Looped (now (page .entry)) (stateOf core gathered setup) (now (input .entry)) (now (room .entry)) r (now (page .exit)) (now (room .exit)) × Beside (widthOf (r .core .screen)) (guardedAt (r .core .modes .protect) (now (page .exit))) (now (rows .exit)) ⌝ }
 {
     let mut c = core;
     let mut g = gathered;
@@ -129,10 +156,19 @@ pub fn repeat(
     let mut refused = 0;
     while taken < input.len() {
         let run = text(page, c, input, taken);
-        let moved_core = moved(c, run.at, run.taken == taken);
+        let same = run.taken == taken;
+        let moved_core = moved(c, run.at, same);
         c = moved_core;
         taken = run.taken;
-        let t = inner(page, &u.tabs, c, input[taken], &mut room[replied..]);
+        follow_text(
+            rows,
+            page,
+            c.screen.wide,
+            c.modes.protect,
+            c.modes.mark,
+            same,
+        );
+        let t = inner(page, rows, &u.tabs, c, input[taken], &mut room[replied..]);
         let a = t.answer;
         if is_no_room(a) {
             return finished(Answer::NoRoom, a, taken, replied, refused, c, g, u);

@@ -5,13 +5,15 @@ ghost use mathlib.Core.Bool.{true};
 ghost use mathlib.Core.List.{List, []};
 ghost use Prim.Native.Nat.{ℕ};
 ghost use lib.ListN.{length};
-ghost use Rattle.rules.specs.State.{number, pageLength, idle as idleOf};
+ghost use Rattle.rules.specs.State.{number, widthOf, pageLength, idle as idleOf};
+ghost use Rattle.rules.specs.RowList.{Beside};
 ghost use Rattle.rules.specs.Search.{guardedAt};
 ghost use Rattle.rules.specs.Possible.{screenOk, pendingOk};
 ghost use Rattle.rules.specs.Plan.{planRule};
 ghost use Rattle.rules.specs.Carry.{effect, carried};
 ghost use Rattle.rules.specs.Step.{innerRule};
 ghost use Rattle.carry.specs.Carried.{Carried};
+ghost use Rattle.carry.specs.Rows.{BesideAfter};
 use carry::carry_out;
 use plan::plan_for;
 use rules::Answer;
@@ -39,18 +41,32 @@ fn quiet(answer: Answer, core: Core, change: Change) -> CoreResult
 }
 
 // A command: planned from the core with its sequence cleared, and carried out.
-fn obey(page: &mut [u16], tabs: &[bool; 132], core: Core, d: Command, room: &mut [u8]) -> CoreResult
-    requires { ⌜ (length (now page) ≡ pageLength (core .screen)) × (screenOk (core .screen) ≡ true) ⌝ }
-    ensures { λ r. ⌜ Carried (carried (now (page .entry)) core (planRule (guardedAt (core .modes .protect) (now (page .entry))) (now (tabs .entry)) (idleOf core) d) (length (now (room .entry)))) r (now (page .exit)) (now (room .entry)) (now (room .exit)) ⌝ }
+fn obey(
+    page: &mut [u16],
+    rows: &mut [u16],
+    tabs: &[bool; 132],
+    core: Core,
+    d: Command,
+    room: &mut [u8],
+) -> CoreResult
+    requires { ⌜ (length (now page) ≡ pageLength (core .screen)) × ((screenOk (core .screen) ≡ true) × Beside (widthOf (core .screen)) (guardedAt (core .modes .protect) (now page)) (now rows)) ⌝ }
+    ensures { λ r. ⌜ Carried (carried (now (page .entry)) core (planRule (guardedAt (core .modes .protect) (now (page .entry))) (now (tabs .entry)) (idleOf core) d) (length (now (room .entry)))) r (now (page .exit)) (now (room .entry)) (now (room .exit)) × BesideAfter (widthOf (core .screen)) (carried (now (page .entry)) core (planRule (guardedAt (core .modes .protect) (now (page .entry))) (now (tabs .entry)) (idleOf core) d) (length (now (room .entry)))) (now (rows .exit)) ⌝ }
 {
     let next = idle(core);
     let plan = plan_for(page, tabs, next, d);
-    carry_out(page, core, plan, room)
+    carry_out(page, rows, core, plan, room)
 }
 
-pub fn inner(page: &mut [u16], tabs: &[bool; 132], core: Core, b: u8, room: &mut [u8]) -> CoreResult
-    requires { ⌜ (length (now page) ≡ pageLength (core .screen)) × ((screenOk (core .screen) ≡ true) × ((g : List ℕ) × (pendingOk (core .pending) g ≡ true))) ⌝ }
-    ensures { λ r. ⌜ Carried (innerRule (now (page .entry)) core (now (tabs .entry)) b (length (now (room .entry)))) r (now (page .exit)) (now (room .entry)) (now (room .exit)) ⌝ }
+pub fn inner(
+    page: &mut [u16],
+    rows: &mut [u16],
+    tabs: &[bool; 132],
+    core: Core,
+    b: u8,
+    room: &mut [u8],
+) -> CoreResult
+    requires { ⌜ (length (now page) ≡ pageLength (core .screen)) × ((screenOk (core .screen) ≡ true) × (((g : List ℕ) × (pendingOk (core .pending) g ≡ true)) × Beside (widthOf (core .screen)) (guardedAt (core .modes .protect) (now page)) (now rows))) ⌝ }
+    ensures { λ r. ⌜ Carried (innerRule (now (page .entry)) core (now (tabs .entry)) b (length (now (room .entry)))) r (now (page .exit)) (now (room .entry)) (now (room .exit)) × BesideAfter (widthOf (core .screen)) (innerRule (now (page .entry)) core (now (tabs .entry)) b (length (now (room .entry)))) (now (rows .exit)) ⌝ }
 {
     if 128 <= b {
         return quiet(Answer::HighByte, core, Change::Set(SetupChange::Nothing));
@@ -74,6 +90,6 @@ pub fn inner(page: &mut [u16], tabs: &[bool; 132], core: Core, b: u8, room: &mut
         }
         Decoded::Take(x, n) => quiet(Answer::Done, idle(core), Change::Take(x, n)),
         Decoded::Reject(a) => quiet(a, idle(core), Change::Set(SetupChange::Nothing)),
-        Decoded::Do(x) => obey(page, tabs, core, x, room),
+        Decoded::Do(x) => obey(page, rows, tabs, core, x, room),
     }
 }

@@ -1,15 +1,21 @@
-// The terminal: power-on, the single step, the run over many bytes, the bytes that a run did not take, and the key press. No call asks
-// anything of its caller, and each promises all that it gives: the answer, every count, and every cell and byte that it was lent.
+// The terminal: power-on, the single step, the run over many bytes, both with a row list too, the bytes that a run did not take, and the key
+// press. No call asks anything of its caller, and each promises all that it gives: the answer, every count, and every cell and byte that it was lent.
 mod bytes; // the loop over host bytes
 mod inner; // one byte
 mod key; // what a key sends
 mod text; // runs of text
 
 ghost use mathlib.Core.Path.{_≡_};
+ghost use mathlib.Core.Bool.{true};
 ghost use lib.ListN.{length, drop};
+ghost use Rattle.rules.specs.Cell.{both};
+ghost use Rattle.rules.specs.Search.{guardedAt};
+ghost use Rattle.rules.specs.State.{number, widthOf};
 ghost use Rattle.rules.specs.Possible.{good};
 ghost use Rattle.rules.specs.Step.{stepRule};
 ghost use Rattle.rules.specs.Calls.{powerOnRule, runRule, pressRule};
+ghost use Rattle.rules.specs.RowList.{Beside, agrees};
+ghost use Rattle.rules.specs.RowCalls.{stepRowsRule, runRowsRule, rowsAfter, rebuildAnswer, rebuilt};
 ghost use Rattle.terminal.specs.Promise.{PoweredOn, Stepped, Completed, Sent};
 use bytes::repeat;
 use key::press_key;
@@ -18,6 +24,8 @@ pub use page::cell::is_protected;
 pub use page::cell::kind_of;
 pub use page::cell::sent_code;
 use page::change::fill_cells;
+use page::rows::is_row_list;
+use page::rows::rebuild;
 use rules::Answer;
 use rules::PowerOn;
 use rules::PressResult;
@@ -29,6 +37,7 @@ use state::keys::key_at;
 use state::logic::and;
 use state::possible::possible;
 use state::power_on_state;
+use state::screen::width_of;
 use state::texts::is_key;
 use state::width::NARROW_CELLS;
 use state::width::cells;
@@ -59,22 +68,22 @@ pub fn power_on(page: &mut [u16]) -> PowerOn
     }
 }
 
-// The single step. Ruled out: one that obeys E9h, or answers 0 to what it refuses.
-pub fn step(page: &mut [u16], state: State, byte: u8, reply: &mut [u8]) -> StepResult
-    ensures { λ r. ⌜ Stepped (stepRule (now (page .entry)) state byte (length (now (reply .entry)))) r (now (page .exit)) (now (reply .entry)) (now (reply .exit)) ⌝ }
+// The single step on a good page and state, beside a row list or none.
+fn step_beside(
+    page: &mut [u16],
+    rows: &mut [u16],
+    state: State,
+    byte: u8,
+    reply: &mut [u8],
+) -> StepResult
+    requires { ⌜ (good (now page) state ≡ true) × Beside (widthOf (state .core .screen)) (guardedAt (state .core .modes .protect) (now page)) (now rows) ⌝ }
+    ensures { λ r. ⌜ Stepped (stepRule (now (page .entry)) state byte (length (now (reply .entry)))) r (now (page .exit)) (now (reply .entry)) (now (reply .exit)) × Beside (widthOf (r .state .core .screen)) (guardedAt (r .state .core .modes .protect) (now (page .exit))) (now (rows .exit)) ⌝ }
 {
-    if !is_good(page, state) {
-        return StepResult {
-            answer: Answer::BadCall,
-            replied: 0,
-            state: state,
-        };
-    }
     let core = state.core;
     let gathered = state.gathered;
     let setup = state.setup;
     let one = [byte];
-    let t = repeat(page, core, gathered, setup, &one, reply);
+    let t = repeat(page, rows, core, gathered, setup, &one, reply);
     let c = t.core;
     let g = t.gathered;
     let u = t.setup;
@@ -91,23 +100,21 @@ pub fn step(page: &mut [u16], state: State, byte: u8, reply: &mut [u8]) -> StepR
     }
 }
 
-// The run over many bytes. Ruled out: one that makes up a count, or counts the byte that answered 6 as taken.
-pub fn run(page: &mut [u16], state: State, input: &[u8], reply: &mut [u8]) -> RunResult
-    ensures { λ r. ⌜ Completed (runRule (now (page .entry)) state (now (input .entry)) (length (now (reply .entry)))) r (now (input .entry)) (now (page .exit)) (now (reply .entry)) (now (reply .exit)) ⌝ }
+// The run over many bytes, in the same way.
+fn run_beside(
+    page: &mut [u16],
+    rows: &mut [u16],
+    state: State,
+    input: &[u8],
+    reply: &mut [u8],
+) -> RunResult
+    requires { ⌜ (good (now page) state ≡ true) × Beside (widthOf (state .core .screen)) (guardedAt (state .core .modes .protect) (now page)) (now rows) ⌝ }
+    ensures { λ r. ⌜ Completed (runRule (now (page .entry)) state (now (input .entry)) (length (now (reply .entry)))) r (now (input .entry)) (now (page .exit)) (now (reply .entry)) (now (reply .exit)) × Beside (widthOf (r .state .core .screen)) (guardedAt (r .state .core .modes .protect) (now (page .exit))) (now (rows .exit)) ⌝ }
 {
-    if !is_good(page, state) {
-        return RunResult {
-            answer: Answer::BadCall,
-            taken: 0,
-            replied: 0,
-            refused: 0,
-            state: state,
-        };
-    }
     let core = state.core;
     let gathered = state.gathered;
     let setup = state.setup;
-    let t = repeat(page, core, gathered, setup, input, reply);
+    let t = repeat(page, rows, core, gathered, setup, input, reply);
     let c = t.core;
     let g = t.gathered;
     let u = t.setup;
@@ -124,6 +131,103 @@ pub fn run(page: &mut [u16], state: State, input: &[u8], reply: &mut [u8]) -> Ru
         refused: t.refused,
         state: next,
     }
+}
+
+// The single step. Ruled out: one that obeys E9h, or answers 0 to what it refuses.
+pub fn step(page: &mut [u16], state: State, byte: u8, reply: &mut [u8]) -> StepResult
+    ensures { λ r. ⌜ Stepped (stepRule (now (page .entry)) state byte (length (now (reply .entry)))) r (now (page .exit)) (now (reply .entry)) (now (reply .exit)) ⌝ }
+{
+    if !is_good(page, state) {
+        return StepResult {
+            answer: Answer::BadCall,
+            replied: 0,
+            state: state,
+        };
+    }
+    let mut none: [u16; 0] = [0; 0];
+    step_beside(page, &mut none, state, byte, reply)
+}
+
+// The run over many bytes. Ruled out: one that makes up a count, or counts the byte that answered 6 as taken.
+pub fn run(page: &mut [u16], state: State, input: &[u8], reply: &mut [u8]) -> RunResult
+    ensures { λ r. ⌜ Completed (runRule (now (page .entry)) state (now (input .entry)) (length (now (reply .entry)))) r (now (input .entry)) (now (page .exit)) (now (reply .entry)) (now (reply .exit)) ⌝ }
+{
+    if !is_good(page, state) {
+        return RunResult {
+            answer: Answer::BadCall,
+            taken: 0,
+            replied: 0,
+            refused: 0,
+            state: state,
+        };
+    }
+    let mut none: [u16; 0] = [0; 0];
+    run_beside(page, &mut none, state, input, reply)
+}
+
+// Whether page and state are good, and the row list agrees with them.
+fn is_listed(page: &[u16], rows: &[u16], state: State) -> bool
+    ensures { λ r. ⌜ r ≡ both (good (now (page .entry)) state) (agrees (now (rows .entry)) (now (page .entry)) state) ⌝ }
+{
+    if !is_good(page, state) {
+        return false;
+    }
+    let width = width_of(state.core.screen);
+    is_row_list(rows, page, width as usize, state.core.modes.protect)
+}
+
+// The single step with a row list. Ruled out: one that takes a list that disagrees, or leaves one that does.
+pub fn step_rows(
+    page: &mut [u16],
+    rows: &mut [u16],
+    state: State,
+    byte: u8,
+    reply: &mut [u8],
+) -> StepResult
+    ensures { λ r. ⌜ Stepped (stepRowsRule (now (page .entry)) (now (rows .entry)) state byte (length (now (reply .entry)))) r (now (page .exit)) (now (reply .entry)) (now (reply .exit)) × (now (rows .exit) ≡ rowsAfter (now (page .entry)) (now (rows .entry)) state (now (page .exit)) (r .state)) ⌝ }
+{
+    if !is_listed(page, rows, state) {
+        return StepResult {
+            answer: Answer::BadCall,
+            replied: 0,
+            state: state,
+        };
+    }
+    step_beside(page, rows, state, byte, reply)
+}
+
+// The run with a row list. Ruled out: one that mends a wrong list on the way.
+pub fn run_rows(
+    page: &mut [u16],
+    rows: &mut [u16],
+    state: State,
+    input: &[u8],
+    reply: &mut [u8],
+) -> RunResult
+    ensures { λ r. ⌜ Completed (runRowsRule (now (page .entry)) (now (rows .entry)) state (now (input .entry)) (length (now (reply .entry)))) r (now (input .entry)) (now (page .exit)) (now (reply .entry)) (now (reply .exit)) × (now (rows .exit) ≡ rowsAfter (now (page .entry)) (now (rows .entry)) state (now (page .exit)) (r .state)) ⌝ }
+{
+    if !is_listed(page, rows, state) {
+        return RunResult {
+            answer: Answer::BadCall,
+            taken: 0,
+            replied: 0,
+            refused: 0,
+            state: state,
+        };
+    }
+    run_beside(page, rows, state, input, reply)
+}
+
+// The row list made anew, whatever stood there. Ruled out: one that writes to a list of the wrong length.
+pub fn rebuild_rows(page: &[u16], rows: &mut [u16], state: State) -> Answer
+    ensures { λ r. ⌜ (number r ≡ rebuildAnswer (now (page .entry)) (now (rows .entry)) state) × (now (rows .exit) ≡ rebuilt (now (page .entry)) (now (rows .entry)) state) ⌝ }
+{
+    if !and(rows.len() == 48, is_good(page, state)) {
+        return Answer::BadCall;
+    }
+    let width = width_of(state.core.screen);
+    rebuild(rows, page, width as usize, state.core.modes.protect);
+    Answer::Done
 }
 
 // The bytes that a run did not take, as that part of the input; past its end there are none. Ruled out: one that hands back none, or all

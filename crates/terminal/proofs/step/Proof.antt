@@ -1,8 +1,8 @@
 -- `terminal::step` meets its contract.
-use mathlib.Core.Path.{sym, _∙_}
+use mathlib.Core.Logic.{inl}
+use mathlib.Core.Path.{refl, sym, _∙_}
 use borrow.Author.Tests.{not-true, not-false}
-use Rattle.terminal.specs.Loop.{resultOf}
-use Rattle.terminal.proofs.Calls.{step-refused, one-byte}
+use Rattle.terminal.proofs.Calls.{step-refused}
 use borrow.Author.Needs.{needs}
 use Rattle.terminal.proofs.step.Statement.{statement}
 use Rattle.terminal.proofs.step.Tie as tie
@@ -17,13 +17,13 @@ step-spec =
     (λ c. search needs)
     -- returns
     (λ c. step-refused _ _ (sym (c .before .is-good .ensures) ∙ not-true _ (c .if1 .taken)) _ _)
-    -- slice-aggregate-repeat
+    -- slice-aggregate-step-beside
     (λ c. search needs)
-    -- repeat-requires
-    (λ c κs. sym (c .before .before .before .before .before .before .before .is-good .ensures) ∙ not-false _ (c .before .before .before .before .before .before .if1 .left))
+    -- step-beside-requires
+    (λ c κs. let x = c .before .before .before in (sym (x .before .is-good .ensures) ∙ not-false _ (x .if1 .left), inl refl))
     -- same-length-2
     (λ c. search needs)
     -- same-length-3
     (λ c. search needs)
     -- returns-2
-    (λ c. one-byte _ _ _ _ _ _ _ (resultOf (c .before .before .before .before .before .before .before .repeat .result)) (c .before .before .before .before .before .before .before .repeat .ensures .run) (c .before .before .before .before .before .before .before .repeat .ensures .last)))
+    (λ c. c .before .before .before .before .before .step-beside .ensures .0))

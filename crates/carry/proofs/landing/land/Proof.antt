@@ -4,9 +4,16 @@ use native.Mathlib.Omega.{arith}
 use borrow.Author.Needs.{needs}
 use denote.Ref.{now}
 use Rattle.rules.specs.Carry.{landed}
-use Rattle.carry.proofs.Settling.{settle-asked, settle-range}
+use Rattle.carry.proofs.Settling.{told-good, settle-range}
 use Rattle.carry.proofs.landing.land.Statement.{statement}
 use Rattle.carry.proofs.landing.land.Tie as tie
+
+-- the match that told the place, and the start
+abbrev told : tie.After-x → tie.After-l
+told c = c .before .before
+
+abbrev start : tie.After-x → tie.Start
+start c = told c .before .before .before .before
 
 pub land-spec : {M : Type 1} → statement M
 unfolding landed
@@ -17,31 +24,18 @@ land-spec =
     (λ c. search needs)
     -- enum-known-l
     (λ c. search needs)
-    -- segment-start-requires
-    (λ c κs. search needs)
-    -- segment-end-requires
-    (λ c κs. search needs)
-    -- cast-settle
-    (λ c. search needs)
-    -- cast-settle-2
-    (λ c. search needs)
-    -- cast-settle-3
-    (λ c. search needs)
-    -- settle-requires
+    -- settle-in-requires
     (λ c κs.
-    let told = c .before .before .before .before in
-    let s = told .before .before .before in
-    settle-asked (s .args .core .screen) (s .pre .1 .0) (s .pre .1 .1) (told .l .given .1) (now (s .args .page)) (s .pre .0)
-    (c .before .segment-start .ensures) (c .segment-end .ensures))
+    let p = start c .pre in
+    (p .0, (p .1 .0, (told-good _ (told c .l .given .1) (p .1 .1 .0), p .1 .1 .1))))
     -- cast-with-cursor
     (λ c.
-    let told = c .before .before .before .before .before in
-    let s = told .before .before .before in
-    let x = s .args in
+    let x = c .before in
+    let s = start x in
     omega (
       arith,
-      settle-range (x .core .screen) (s .pre .1 .0) (s .pre .1 .1) (told .l .given .1) (now (x .page)) (s .pre .0)
-          (c .before .before .segment-start .ensures) (c .before .segment-end .ensures) (x .core .modes .protect) (c .settle .ensures),
+      settle-range (s .args .core .screen) (s .pre .1 .0) (told-good _ (told x .l .given .1) (s .pre .1 .1 .0)) (now (s .args .page)) (s .pre .0)
+          (s .args .core .modes .protect) (c .settle-in .ensures),
     ))
     -- with-cursor-requires
     (λ c κs. search needs)
@@ -52,11 +46,4 @@ land-spec =
     -- returns-2
     (λ c.
     let n = c .before .before in
-    c .with-screen .ensures
-    ∙ rw (
-      c .before .with-cursor .ensures,
-      n .settle .ensures,
-      n .before .before .segment-start .ensures,
-      n .before .segment-end .ensures,
-      n .before .before .before .before .before .l .given .1,
-    )))
+    c .with-screen .ensures ∙ rw (c .before .with-cursor .ensures, n .settle-in .ensures, told (n .before) .l .given .1)))

@@ -1,29 +1,48 @@
 -- `terminal::bytes::repeat` meets its contract. The loop: what the bytes taken gave, and the repeated step on the rest, are the repeated
--- step on the whole input.
+-- step on the whole input; and a row list beside the page is the page's.
 use Prim.Native.Nat.{_-_}
-use mathlib.Core.Path.{sym, _∙_}
+use mathlib.Core.Path.{_≡_, refl, sym, ap, _∙_}
 use native.Mathlib.Omega.{arith}
 use denote.Ref.{now}
+use lib.Dec.{eqb}
 use lib.ListN.{length}
-use Rattle.rules.specs.State.{number}
+use Rattle.rules.specs.State.{number, widthOf}
+use Rattle.rules.specs.Search.{guardedAt}
+use Rattle.rules.specs.RowList.{Beside}
+use Rattle.terminal.specs.declared.bytes.Ended.{Ended}
 use Rattle.terminal.specs.Loop.{stateOf}
-use Rattle.terminal.proofs.Loop.{Running, begin, stop, go, finish, ready, room-size, back-size, more-replied, more-refused, nothing-made}
+use Rattle.terminal.proofs.Loop.{Running, begin, stop, go, finish, ready, room-size, back-size, more-replied, more-refused, nothing-made, stop-beside, go-beside, ended-beside}
 use Rattle.terminal.proofs.TextRuns.{Resumed, resumed, text-fits}
+use Rattle.terminal.proofs.RowRuns.{text-behind, moved-behind}
 use borrow.Author.Needs.{needs}
 use Rattle.terminal.proofs.bytes.repeat.Statement.{statement}
 use Rattle.terminal.proofs.bytes.repeat.Tie as tie
 
 abbrev Inv-loop : tie.InvT-loop
-Inv-loop page₀ input room₀ c₀ g₀ u₀ last₀ taken₀ replied₀ refused₀ page room c g u last taken replied refused =
+Inv-loop page₀ rows₀ input room₀ c₀ g₀ u₀ last₀ taken₀ replied₀ refused₀ page rows room c g u last taken replied refused =
     Running page₀ (stateOf c₀ g₀ u₀) input room₀ page room c g u last taken replied refused
+    × (Beside (widthOf (c .screen)) (guardedAt (c .modes .protect) page) rows × (length rows ≡ length rows₀))
 
 abbrev μ-loop : tie.MeasureT-loop
-μ-loop page₀ input room₀ c₀ g₀ u₀ last₀ taken₀ replied₀ refused₀ page room c g u last taken replied refused = length input - taken
+μ-loop page₀ rows₀ input room₀ c₀ g₀ u₀ last₀ taken₀ replied₀ refused₀ page rows room c g u last taken replied refused = length input - taken
 
--- ---- back from the call of the inner step: the core after the run of text, that run, the turn of the loop, the function's start
+-- ---- back from the answer of the inner step: that step, the list after the run of text, the core after it, that run, the turn of the loop,
+-- the function's start
 
 abbrev Moved : Type 0
 Moved = tie.After-moved Inv-loop μ-loop
+
+abbrev Inner : Type 0
+Inner = tie.After-inner Inv-loop μ-loop
+
+abbrev called : tie.After-is-no-room Inv-loop μ-loop → Inner
+called a = a .before .before .before .before .before .before .before
+
+abbrev followed : Inner → tie.After-follow-text Inv-loop μ-loop
+followed i = i .before .before .before .before .before .before .before .before .before
+
+abbrev moved : tie.After-follow-text Inv-loop μ-loop → Moved
+moved f = f .before .before .before
 
 abbrev text : Moved → tie.After-text Inv-loop μ-loop
 text m = m .before .before .before .before
@@ -32,14 +51,20 @@ abbrev turn : Moved → tie.In-loop Inv-loop μ-loop
 turn m = text m .before .before
 
 abbrev start : Moved → tie.Start Inv-loop μ-loop
-start m = turn m .before .before .before .before .before
+start m = turn m .before .before .before .before .before .before
 
 -- the loop after the run of text
 run : (m : Moved)
     → let x = start m .args in let l = turn m .before .loop in let r = text m .text in
     Resumed (now (x .page)) (stateOf (x .core) (x .gathered) (x .setup)) (now (x .input)) (now (x .room)) (r .last .0) (l .room) (m .moved .result) (l .g)
     (l .u) (l .last) (r .result .taken) (l .replied) (l .refused) (l .taken)
-run m = resumed (turn m .before .loop .inv) (turn m .loop-test .taken) (text m .text .ensures) (m .moved .ensures)
+run m = resumed (turn m .before .loop .inv .0) (turn m .loop-test .taken) (text m .text .ensures) (m .moved .ensures)
+
+-- the list has its length
+sized : (i : Inner) → length (i .inner .last .1 .0) ≡ length (now (start (moved (followed i)) .args .rows))
+sized i =
+    let f = followed i in
+    i .inner .kept .1 .0 ∙ f .follow-text .kept .0 ∙ turn (moved f) .before .loop .inv .1 .1
 
 pub repeat-spec : {M : Type 1} → statement M
 repeat-spec =
@@ -48,69 +73,116 @@ repeat-spec =
     Inv-loop
     μ-loop
     -- loop-holds
-    (λ c. begin _ _ _ _ _ _ (c .before .before .before .pre))
+    (λ c. let s = c .before .before .before .before in (begin _ _ _ _ _ _ (s .pre .0), (s .pre .1, refl)))
     -- text-requires
-    (λ c κs. let g = ready (c .before .before .loop .inv) in (g .0, (g .1 .0, c .before .loop-test .taken)))
+    (λ c κs. let g = ready (c .before .before .loop .inv .0) in (g .0, (g .1 .0, c .before .loop-test .taken)))
     -- moved-requires
-    (λ c κs. text-fits (c .before .before .before .before .before .before .loop .inv) (c .before .before .before .before .before .loop-test .taken) (c .before .before .before .text .ensures))
+    (λ c κs.
+    let t = c .before .before .before in
+    text-fits (t .before .before .before .loop .inv .0) (t .before .before .loop-test .taken) (t .text .ensures))
+    -- follow-text-requires
+    (λ c κs.
+    let m = c .before .before in
+    let t = turn m in
+    let l = t .before .loop in
+    let g = ready (l .inv .0) in
+    let same = eqb (text m .text .result .taken) (l .taken) in (
+      ready (run m .running) .0,
+      moved-behind (l .c) same (text m .text .result .at) same (text m .text .last .0) (m .moved .ensures)
+          (text-behind (l .c) (g .1 .0) (g .0) (t .loop-test .taken) (text m .text .ensures) (l .inv .1 .0)),
+    ))
     -- shared-slice-read-inner
-    (λ c. run (c .before .before .before .before) .left)
+    (λ c. run (moved (c .before .before .before .before .before .before .before)) .left)
     -- sub-inner
-    (λ c. room-size (run (c .before .before .before .before) .running))
+    (λ c. room-size (run (moved (c .before .before .before .before .before .before .before)) .running))
     -- part-inner-start
-    (λ c. room-size (run (c .before .before .before .before) .running))
+    (λ c. room-size (run (moved (c .before .before .before .before .before .before .before)) .running))
     -- part-inner-end
     (λ c. omega arith)
     -- inner-requires
-    (λ c κs. ready (run (c .before .before .before .before .before) .running))
+    (λ c κs.
+    let f = c .before .before .before .before .before .before .before .before in
+    let g = ready (run (moved f) .running) in
+    (g .0, (g .1 .0, (g .1 .1, f .follow-text .ensures))))
     -- is-no-room-requires
     (λ c κs. search needs)
     -- finished-requires
     (λ c κs. search needs)
     -- same-length
-    (λ c. c .before .before .before .before .before .before .before .inner .kept .0 ∙ run (c .before .before .before .before .before .before .before .before .before .before .before .before .before) .running .long)
+    (λ c. let i = called (c .before .before) in i .inner .kept .0 ∙ run (moved (followed i)) .running .long)
     -- same-length-2
-    (λ c. back-size (run (c .before .before .before .before .before .before .before .before .before .before .before .before .before) .running) (c .before .before .before .before .before .before .before .inner .last .1 .1 .1 .1 .0) (c .before .before .before .before .before .before .before .inner .kept .1 .1 .1 .1 .0))
+    (λ c. sized (called (c .before .before)))
+    -- same-length-3
+    (λ c.
+    let i = called (c .before .before) in
+    back-size (run (moved (followed i)) .running) (i .inner .last .1 .1 .1 .1 .1 .0) (i .inner .kept .1 .1 .1 .1 .1 .0))
     -- returns
     (λ c.
-    let r = run (c .before .before .before .before .before .before .before .before .before .before .before .before .before) in
-    stop (r .running) (r .left) (c .before .before .before .before .before .before .before .inner .ensures) (sym (c .before .before .is-no-room .ensures) ∙ c .before .if1 .taken) (c .finished .ensures))
+    let i = called (c .before .before) in
+    let r = run (moved (followed i)) in
+    let six = sym (c .before .before .is-no-room .ensures) ∙ c .before .if1 .taken in (
+      stop (r .running) (r .left) (i .inner .ensures .0) six (c .finished .ensures),
+      ended-beside (c .finished .result) (i .inner .last .0) (ap (λ (z : Ended). z .core) (c .finished .ensures))
+          (stop-beside (r .running) (r .left) (i .inner .ensures .0) six (i .inner .ensures .1)),
+    ))
     -- add-taken
-    (λ c. omega (arith, run (c .before .before .before .before .before .before .before .before .before .before .before .before .before) .left, start (c .before .before .before .before .before .before .before .before .before .before .before .before .before) .good))
+    (λ c. let m = moved (followed (called (c .before .before))) in omega (arith, run m .left, start m .good))
     -- add-replied
-    (λ c. omega (arith, more-replied (run (c .before .before .before .before .before .before .before .before .before .before .before .before .before .before) .running) _ (c .before .before .before .before .before .before .before .before .inner .ensures .fits), start (c .before .before .before .before .before .before .before .before .before .before .before .before .before .before) .good))
+    (λ c.
+    let i = called (c .before .before .before) in
+    let m = moved (followed i) in
+    omega (arith, more-replied (run m .running) _ (i .inner .ensures .0 .fits), start m .good))
     -- refusals-requires
     (λ c κs. search needs)
     -- add-refused
     (λ c.
-    let r = run (c .before .before .before .before .before .before .before .before .before .before .before .before .before .before .before) in
-    let f = more-refused (r .running) (number (c .before .before .before .before .before .before .before .before .before .inner .result .answer)) (r .left) in
-    omega (arith, f, c .refusals .ensures, start (c .before .before .before .before .before .before .before .before .before .before .before .before .before .before .before) .good))
+    let i = called (c .before .before .before .before) in
+    let m = moved (followed i) in
+    let f = more-refused (run m .running) (number (i .inner .result .answer)) (run m .left) in
+    omega (arith, f, c .refusals .ensures, start m .good))
     -- is-nothing-requires
     (λ c κs. search needs)
     -- loop-less
-    (λ c. let r = run (c .before .before .before .before .before .before .before .before .before .before .before .before .before .before .before .before .before) in omega (arith, r .from, r .left))
+    (λ c. let r = run (moved (followed (called (c .before .before .before .before .before .before)))) in omega (arith, r .from, r .left))
     -- loop-again
     (λ c.
-    let r = run (c .before .before .before .before .before .before .before .before .before .before .before .before .before .before .before .before .before) in
+    let a = c .before .before .before .before .before .before in
+    let i = called a in
+    let r = run (moved (followed i)) in
     let n = nothing-made _ _ _ (sym (c .before .is-nothing .ensures) ∙ c .if2 .taken) in
-    go (r .running) (r .left) (c .before .before .before .before .before .before .before .before .before .before .before .inner .ensures) (sym (c .before .before .before .before .before .before .is-no-room .ensures) ∙ c .before .before .before .before .before .if1 .left) (n .0) (n .1) (c .before .before .refusals .ensures))
+    let other = sym (a .is-no-room .ensures) ∙ c .before .before .before .before .before .if1 .left in (
+      go (r .running) (r .left) (i .inner .ensures .0) other (n .0) (n .1) (c .before .before .refusals .ensures),
+      (go-beside (r .running) (r .left) (i .inner .ensures .0) other (i .inner .ensures .1), sized i),
+    ))
     -- setup-after-requires
     (λ c κs. search needs)
     -- gathered-after-requires
     (λ c κs. search needs)
     -- loop-less-2
-    (λ c. let r = run (c .before .before .before .before .before .before .before .before .before .before .before .before .before .before .before .before .before .before .before) in omega (arith, r .from, r .left))
+    (λ c.
+    let r = run (moved (followed (called (c .before .before .before .before .before .before .before .before)))) in
+    omega (arith, r .from, r .left))
     -- loop-again-2
     (λ c.
-    let r = run (c .before .before .before .before .before .before .before .before .before .before .before .before .before .before .before .before .before .before .before) in
-    go (r .running) (r .left) (c .before .before .before .before .before .before .before .before .before .before .before .before .before .inner .ensures) (sym (c .before .before .before .before .before .before .before .before .is-no-room .ensures) ∙ c .before .before .before .before .before .before .before .if1 .left)
-    (c .gathered-after .ensures) (c .before .setup-after .ensures) (c .before .before .before .before .refusals .ensures))
+    let a = c .before .before .before .before .before .before .before .before in
+    let i = called a in
+    let r = run (moved (followed i)) in
+    let other = sym (a .is-no-room .ensures) ∙ c .before .before .before .before .before .before .before .if1 .left in (
+      go (r .running) (r .left) (i .inner .ensures .0) other (c .gathered-after .ensures) (c .before .setup-after .ensures)
+          (c .before .before .before .before .refusals .ensures),
+      (go-beside (r .running) (r .left) (i .inner .ensures .0) other (i .inner .ensures .1), sized i),
+    ))
     -- finished-requires-2
     (λ c κs. search needs)
-    -- same-length-3
-    (λ c. c .before .before .loop .inv .long)
     -- same-length-4
-    (λ c. c .before .before .loop .inv .size)
+    (λ c. c .before .before .loop .inv .0 .long)
+    -- same-length-5
+    (λ c. c .before .before .loop .inv .1 .1)
+    -- same-length-6
+    (λ c. c .before .before .loop .inv .0 .size)
     -- returns-2
-    (λ c. finish (c .before .before .loop .inv) (c .before .loop-test .left) (c .finished2 .ensures)))
+    (λ c.
+    let l = c .before .before .loop in (
+      finish (l .inv .0) (c .before .loop-test .left) (c .finished2 .ensures),
+      ended-beside (c .finished2 .result) (l .page) (ap (λ (z : Ended). z .core) (c .finished2 .ensures)) (l .inv .1 .0),
+    )))

@@ -6,14 +6,14 @@ use lib.ListN.{length}
 use Rattle.rules.specs.declared.Decoded.{Decoded}
 use Rattle.rules.specs.Step.{obeyed, innerRule}
 use Rattle.carry.proofs.Carrying.{carried-is}
-use Rattle.terminal.proofs.Carrying.{below, above, quietly}
+use Rattle.terminal.proofs.Carrying.{below, above, quietly, effect-beside}
 use Rattle.terminal.proofs.Gathered.{gather-room}
 use borrow.Author.Needs.{needs}
 use Rattle.terminal.proofs.inner.inner.Statement.{statement}
 use Rattle.terminal.proofs.inner.inner.Tie as tie
 
 abbrev start : tie.After-decode → tie.Start
-start k = k .before .before .before .before
+start k = k .before .before .before .before .before
 
 -- the effect of a byte below 80h, by what it decodes to
 came : (k : tie.After-decode) {d : Decoded} → k .decode .result ≡ d
@@ -29,9 +29,11 @@ inner-spec =
     -- quiet-requires
     (λ c κs. search needs)
     -- returns
-    (λ c. quietly (above _ _ _ _ _ (c .before .if1 .taken)) refl (c .quiet .ensures))
+    (λ c.
+    let h = above _ _ _ _ _ (c .before .if1 .taken) in
+    (quietly h refl (c .quiet .ensures), effect-beside _ h (c .before .before .before .before .before .pre .1 .1 .1)))
     -- decode-requires
-    (λ c κs. c .before .before .before .pre .1 .1)
+    (λ c κs. c .before .before .before .before .pre .1 .1 .0)
     -- enum-known-d
     (λ c. search needs)
     -- awaiting-requires
@@ -40,10 +42,11 @@ inner-spec =
     (λ c κs. search needs)
     -- enum-known-d-2
     (λ c. search needs)
-    -- add-t27
+    -- add-t28
     (λ c.
-    let k = c .before .before .before .before .before .before .before .pre .1 .1 in
-    let h = gather-room _ (k .0) _ (c .before .before .before .before .if1 .left) (k .1) (c .before .before .before .decode .ensures) (c .before .d2 .given .1) in
+    let k = c .before .before .before in
+    let g = start k .pre .1 .1 .0 in
+    let h = gather-room _ (g .0) _ (k .before .if1 .left) (g .1) (k .decode .ensures) (c .before .d2 .given .1) in
     omega arith)
     -- awaiting-requires-2
     (λ c κs. search needs)
@@ -64,18 +67,36 @@ inner-spec =
     -- enum-known-d-5
     (λ c. search needs)
     -- obey-requires
-    (λ c κs. (c .before .before .before .before .before .before .before .before .before .pre .0, c .before .before .before .before .before .before .before .before .before .pre .1 .0))
+    (λ c κs. let p = start (c .before .before .before .before .before .before) .pre in (p .0, (p .1 .0, p .1 .1 .1)))
     -- returns-2
-    (λ c. quietly (came (c .before .before .before .before .before) (c .before .before .before .d .given .1)) (c .before .awaiting .ensures) (c .quiet2 .ensures))
+    (λ c.
+    let k = c .before .before .before .before .before in
+    let h = came k (c .before .before .before .d .given .1) in
+    (quietly h (c .before .awaiting .ensures) (c .quiet2 .ensures), effect-beside _ h (start k .pre .1 .1 .1)))
     -- returns-3
-    (λ c. quietly (came (c .before .before .before .before .before) (c .before .before .before .d2 .given .1)) (c .before .awaiting2 .ensures) (c .quiet3 .ensures))
+    (λ c.
+    let k = c .before .before .before .before .before in
+    let h = came k (c .before .before .before .d2 .given .1) in
+    (quietly h (c .before .awaiting2 .ensures) (c .quiet3 .ensures), effect-beside _ h (start k .pre .1 .1 .1)))
     -- returns-4
-    (λ c. quietly (came (c .before .before .before .before .before) (c .before .before .before .d3 .given .1)) (c .before .idle .ensures) (c .quiet4 .ensures))
+    (λ c.
+    let k = c .before .before .before .before .before in
+    let h = came k (c .before .before .before .d3 .given .1) in
+    (quietly h (c .before .idle .ensures) (c .quiet4 .ensures), effect-beside _ h (start k .pre .1 .1 .1)))
     -- returns-5
-    (λ c. quietly (came (c .before .before .before .before .before) (c .before .before .before .d4 .given .1)) (c .before .idle2 .ensures) (c .quiet5 .ensures))
+    (λ c.
+    let k = c .before .before .before .before .before in
+    let h = came k (c .before .before .before .d4 .given .1) in
+    (quietly h (c .before .idle2 .ensures) (c .quiet5 .ensures), effect-beside _ h (start k .pre .1 .1 .1)))
     -- same-length
     (λ c. search needs)
     -- same-length-2
     (λ c. search needs)
+    -- same-length-3
+    (λ c. search needs)
     -- returns-6
-    (λ c. carried-is (came (c .before .before .before .before .before .before .before .before .before .before) (c .before .before .before .before .before .before .before .before .d5 .given .1)) (c .before .before .before .before .obey .ensures)))
+    (λ c.
+    let o = c .before .before .before .before .before .before in
+    let x = o .before .before .before .before .before in
+    let h = came (x .before .before) (x .d5 .given .1) in
+    (carried-is h (o .obey .ensures .0), effect-beside _ h (o .obey .ensures .1))))
