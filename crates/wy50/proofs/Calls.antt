@@ -47,12 +47,12 @@ ended-seven (ends a) h = omega (arith, a, h)
 ended-seven (clears m a) h = omega (arith, among-parts 2 3 m a, h)
 ended-seven (keeps m a l) h = omega (arith, l .0, h)
 
-good-step : (p : List ℕ) (s : State) (b room : ℕ) → good p s ≡ true → stepRule p s b room .answer ≡ 7 → ⊥
+pub good-step : (p : List ℕ) (s : State) (b room : ℕ) → good p s ≡ true → stepRule p s b room .answer ≡ 7 → ⊥
 unfolding stepRule
 good-step p s b room g e =
     ended-seven (inner-ends p (s .core) (s .setup .tabs) (s .gathered) room b (possible-parts s (good-parts p s g .1) .core .pending)) (rw g at e)
 
-bad-seven : (p : List ℕ) (s : State) (b room : ℕ) → good p s ≡ false → stepRule p s b room .answer ≡ 7
+pub bad-seven : (p : List ℕ) (s : State) (b room : ℕ) → good p s ≡ false → stepRule p s b room .answer ≡ 7
 unfolding stepRule
 bad-seven p s b room g = rw g
 
@@ -63,23 +63,23 @@ repeated-seven (b ∷ bytes) p s room z =
     pick-if (λ (r : Ran). r .answer ≡ 7 → ⊥) (eqb (stepRule p s b room .answer) 6) (λ t e. omega (arith, e))
     (λ t. repeated-seven bytes (stepRule p s b room .page) (stepRule p s b room .state) (room - length (stepRule p s b room .reply))) z
 
-good-run : (p : List ℕ) (s : State) (l : List ℕ) (room : ℕ) → good p s ≡ true → runRule p s l room .answer ≡ 7 → ⊥
+pub good-run : (p : List ℕ) (s : State) (l : List ℕ) (room : ℕ) → good p s ≡ true → runRule p s l room .answer ≡ 7 → ⊥
 unfolding runRule
 good-run p s l room g e = repeated-seven l p s room (rw g at e)
 
-bad-run-seven : (p : List ℕ) (s : State) (l : List ℕ) (room : ℕ) → good p s ≡ false → runRule p s l room .answer ≡ 7
+pub bad-run-seven : (p : List ℕ) (s : State) (l : List ℕ) (room : ℕ) → good p s ≡ false → runRule p s l room .answer ≡ 7
 unfolding runRule
 bad-run-seven p s l room g = rw g
 
-not-bad : (t : Bool) → (t ≡ false → ⊥) → t ≡ true
+pub not-bad : (t : Bool) → (t ≡ false → ⊥) → t ≡ true
 not-bad true h = refl
 not-bad false h = absurd (h refl)
 
-not-good : (t : Bool) → (t ≡ true → ⊥) → t ≡ false
+pub not-good : (t : Bool) → (t ≡ true → ⊥) → t ≡ false
 not-good true h = absurd (h refl)
 not-good false h = refl
 
-raw-good : (p : List ℕ) (x : RawState) {t : Bool} → named x ≡ true → good p (unpacked x) ≡ t → rawGood p x ≡ t
+pub raw-good : (p : List ℕ) (x : RawState) {t : Bool} → named x ≡ true → good p (unpacked x) ≡ t → rawGood p x ≡ t
 unfolding rawGood
 raw-good p x on g = rw (on, g)
 
@@ -156,12 +156,12 @@ unfolding rawPress over
 press-refused p x off w v = rw off (record { answer = refl; replied = refl; room = refl; fits = omega arith })
 
 -- what a bad step and a bad run left
-step-left : (p : List ℕ) (s : State) (b : ℕ) (w : List ℕ) → good p s ≡ false
+pub step-left : (p : List ℕ) (s : State) (b : ℕ) (w : List ℕ) → good p s ≡ false
     → (stepRule p s b (length w) .page ≡ p) × (over (stepRule p s b (length w) .reply) w ≡ w)
 unfolding stepRule over
 step-left p s b w g = rw g (refl, refl)
 
-run-left : (p : List ℕ) (s : State) (l w : List ℕ) → good p s ≡ false
+pub run-left : (p : List ℕ) (s : State) (l w : List ℕ) → good p s ≡ false
     → (runRule p s l (length w) .page ≡ p) × (over (runRule p s l (length w) .reply) w ≡ w)
 unfolding runRule over
 run-left p s l w g = rw g (refl, refl)

@@ -61,10 +61,10 @@ good-press : (p : List ℕ) (x : RawState) (v room : ℕ) → rawGood p x ≡ tr
 unfolding rawCall rawPress callRule ofPress
 good-press p x v room e = rw (good-named p x e)
 
-record AgreeRaw (p q : List ℕ) (a b : RawCalled) : Type 0 where
-  given : b .given ≡ a .given
-  related : Related p q (a .page) (b .page)
-  on : a .given .state .modes .protect ≡ 1
+pub record AgreeRaw (p q : List ℕ) (a b : RawCalled) : Type 0 where
+  pub given : b .given ≡ a .given
+  pub related : Related p q (a .page) (b .page)
+  pub on : a .given .state .modes .protect ≡ 1
 
 flag-on : (b : Bool) → b ≡ true → flag b ≡ 1
 flag-on b e = ap flag e
@@ -73,13 +73,13 @@ numbered-on : (s : State) → s .core .modes .protect ≡ true → packed s .mod
 unfolding packed
 numbered-on s e = flag-on (s .core .modes .protect) e
 
-unpacked-on : (x : RawState) → x .modes .protect ≡ 1 → unpacked x .core .modes .protect ≡ true
+pub unpacked-on : (x : RawState) → x .modes .protect ≡ 1 → unpacked x .core .modes .protect ≡ true
 unfolding unpacked
 unpacked-on x e = rw e
 
 module _ {p q a b : List ℕ} (h : Related p q a b) (x : RawState) (on : x .modes .protect ≡ 1) where
   -- both pages are good, or neither
-  both-good : rawGood a x ≡ rawGood b x
+  pub both-good : rawGood a x ≡ rawGood b x
   unfolding rawGood good
   both-good = rw (related-length h)
 
@@ -105,7 +105,7 @@ module _ {p q a b : List ℕ} (h : Related p q a b) (x : RawState) (on : x .mode
   bad-agrees (Run l room) e = rw (bad-run a x e l room, bad-run b x (sym both-good ∙ e) l room) (record { given = refl; related = h; on = on })
   bad-agrees (Press v room) e = rw (bad-press a x e v room, bad-press b x (sym both-good ∙ e) v room) (record { given = refl; related = h; on = on })
 
-  raw-agrees : (c : Call) → (named x ≡ true → CompletedIn a (unpacked x) c → ⊥) → AgreeRaw p q (rawCall a x c) (rawCall b x c)
+  pub raw-agrees : (c : Call) → (named x ≡ true → CompletedIn a (unpacked x) c → ⊥) → AgreeRaw p q (rawCall a x c) (rawCall b x c)
   raw-agrees c free = by (rawGood a x) refl where
     by : (t : Bool) → rawGood a x ≡ t → AgreeRaw p q (rawCall a x c) (rawCall b x c)
     by true e = good-agrees c e (free (good-named a x e))
@@ -113,7 +113,7 @@ module _ {p q a b : List ℕ} (h : Related p q a b) (x : RawState) (on : x .mode
 
 -- ---- calls whose promises hold
 
-made-is : {p p′ : List ℕ} {x : RawState} {c : Call} {g : RawGiven} → Made p x c g p′ → rawCall p x c ≡ record { given = g; page = p′ }
+pub made-is : {p p′ : List ℕ} {x : RawState} {c : Call} {g : RawGiven} → Made p x c g p′ → rawCall p x c ≡ record { given = g; page = p′ }
 unfolding rawCall
 made-is {p} {p′} {x} (stepped {b = b} {w = w} {w′ = w′} {r = r} h) =
     cc (h .answer, h .state, h .replied, h .page, front _ w w′ (r .replied) (h .replied) (h .room))

@@ -1,3 +1,5 @@
 pub mod Raw
 pub mod Promise
 pub mod Noninterference
+pub mod Rows
+pub mod RowNoninterference

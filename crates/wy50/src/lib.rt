@@ -9,6 +9,7 @@ ghost use lib.ListN.{length};
 ghost use Rattle.rules.specs.Cell.{code, protected, kind, sent};
 ghost use Rattle.rules.specs.Calls.{powerOnRule};
 ghost use Rattle.wy50.specs.Raw.{flag};
+ghost use Rattle.wy50.specs.Rows.{rawStepRows, rawRunRows, rawRowsAfter, rawRebuildAnswer, rawRebuilt};
 ghost use Rattle.wy50.specs.Promise.{raw, rawStep, rawRun, rawPress, PoweredOn, Stepped, Completed, Sent};
 use pack::flag;
 use pack::pack;
@@ -23,9 +24,12 @@ use terminal::is_protected;
 use terminal::kind_of;
 use terminal::power_on;
 use terminal::press;
+use terminal::rebuild_rows;
 use terminal::run;
+use terminal::run_rows;
 use terminal::sent_code;
 use terminal::step;
+use terminal::step_rows;
 use unpack::is_named;
 use unpack::unpack;
 
@@ -137,6 +141,96 @@ pub extern "C" fn wy50_press(page: &[u16], state: RawState, key: u8, reply: &mut
         answer: answer_number(a),
         replied: t.replied,
     }
+}
+
+// The single step with a row list. Ruled out: one that takes the list of another page, or forgets to hand it on.
+#[no_mangle]
+pub extern "C" fn wy50_step_rows(
+    page: &mut [u16],
+    rows: &mut [u16],
+    state: RawState,
+    byte: u8,
+    reply: &mut [u8],
+) -> RawStep
+    ensures { λ r. ⌜ Stepped (rawStepRows (now (page .entry)) (now (rows .entry)) state byte (length (now (reply .entry)))) r (now (page .exit)) (now (reply .entry)) (now (reply .exit)) × (now (rows .exit) ≡ rawRowsAfter (now (page .entry)) (now (rows .entry)) state (now (page .exit)) (r .state)) ⌝ }
+{
+    if !is_named(state) {
+        return RawStep {
+            answer: 7,
+            replied: 0,
+            state: state,
+        };
+    }
+    let t = step_rows(page, rows, unpack(state), byte, reply);
+    let s = t.state;
+    let a = t.answer;
+    let n = answer_number(a);
+    if n == 7 {
+        return RawStep {
+            answer: 7,
+            replied: 0,
+            state: state,
+        };
+    }
+    RawStep {
+        answer: n,
+        replied: t.replied,
+        state: pack(s),
+    }
+}
+
+// The run with a row list. Ruled out: one that counts the bytes of a refused call as taken.
+#[no_mangle]
+pub extern "C" fn wy50_run_rows(
+    page: &mut [u16],
+    rows: &mut [u16],
+    state: RawState,
+    input: &[u8],
+    reply: &mut [u8],
+) -> RawRun
+    ensures { λ r. ⌜ Completed (rawRunRows (now (page .entry)) (now (rows .entry)) state (now (input .entry)) (length (now (reply .entry)))) r (now (input .entry)) (now (page .exit)) (now (reply .entry)) (now (reply .exit)) × (now (rows .exit) ≡ rawRowsAfter (now (page .entry)) (now (rows .entry)) state (now (page .exit)) (r .state)) ⌝ }
+{
+    if !is_named(state) {
+        return RawRun {
+            answer: 7,
+            taken: 0,
+            replied: 0,
+            refused: 0,
+            state: state,
+        };
+    }
+    let r = run_rows(page, rows, unpack(state), input, reply);
+    let s = r.state;
+    let a = r.answer;
+    let n = answer_number(a);
+    if n == 7 {
+        return RawRun {
+            answer: 7,
+            taken: 0,
+            replied: 0,
+            refused: 0,
+            state: state,
+        };
+    }
+    RawRun {
+        answer: n,
+        taken: r.taken,
+        replied: r.replied,
+        refused: r.refused,
+        state: pack(s),
+    }
+}
+
+// The row list made anew: its answer. Ruled out: one that rebuilds for numbers that name no state.
+#[no_mangle]
+pub extern "C" fn wy50_rebuild_rows(page: &[u16], rows: &mut [u16], state: RawState) -> u8
+    ensures { λ r. ⌜ (r ≡ rawRebuildAnswer (now (page .entry)) (now (rows .entry)) state) × (now (rows .exit) ≡ rawRebuilt (now (page .entry)) (now (rows .entry)) state) ⌝ }
+{
+    if !is_named(state) {
+        return 7;
+    }
+    let a = rebuild_rows(page, rows, unpack(state));
+    answer_number(a)
 }
 
 // Readers of a cell's number: its code, whether it is protected (0 or 1), its kind, and what a send gives for it.

@@ -1,0 +1,163 @@
+-- Demand 3 of the exported calls with row lists. A list is looked at beside the page's guarded cells, equal in both terminals: it agrees in both
+-- or in neither, and becomes the same.
+-- Assumes nothing.
+use mathlib.Core.Path.{_≡_, refl, sym, ap, ap₂, subst, subst₂, _∙_}
+use mathlib.Core.Bool.{Bool, true, false}
+use mathlib.Core.List.{List, [], _∷_, _++_}
+use Prim.Native.Nat.{ℕ}
+use Rattle.rules.specs.Cell.{pick, both}
+use Rattle.rules.specs.State.{widthOf}
+use Rattle.rules.specs.Possible.{good}
+use Rattle.rules.specs.Calls.{Call, Step, Run}
+use Rattle.rules.specs.RowList.{rowList, rowsOf, agrees}
+use Rattle.rules.specs.RowCalls.{canRebuild, RowCall, Bare, ListStep, ListRun, Rebuild}
+use Rattle.rules.proofs.Related.{Related, related-length}
+use Rattle.rules.proofs.Noninterference.{guards-agree, start-related, related-kept}
+use Rattle.terminal.proofs.Noninterference.{front}
+use Rattle.wy50.specs.declared.raw.RawState.{RawState}
+use Rattle.wy50.specs.Raw.{unpacked, named}
+use Rattle.wy50.specs.Promise.{rawGood, rawStep, rawRun, badStep, badRun}
+use Rattle.wy50.specs.Rows.{rawListed, rawStepRows, rawRunRows, rawRowsAfter, rawCanRebuild}
+use Rattle.wy50.specs.Noninterference.{RawGiven, RawCalled, ofRawStep, ofRawRun, rawCall, RawCompleted, first, later}
+use Rattle.wy50.specs.RowNoninterference.{RawSession, RawRowCalled, left, listed, rawRowCall, bareCall, bareCalls, RowMade, bare, listStepped, listRan, rebuiltRows, RowPerformed, none, next, RawRowIndistinguishable, RawRowDemand3}
+use Rattle.state.proofs.Tests.{both-left}
+use Rattle.wy50.proofs.Noninterference.{AgreeRaw, unpacked-on, both-good, raw-agrees, made-is}
+
+abbrev session : List ℕ → List ℕ → RawState → RawSession
+session p l x = record { page = p; rows = l; state = x }
+
+record AgreeRows (p q : List ℕ) (a b : RawRowCalled) : Type 0 where
+  called : AgreeRaw p q (a .called) (b .called)
+  rows : a .rows ≡ b .rows
+
+listed-good : (p l : List ℕ) (x : RawState) → rawListed p l x ≡ true → rawGood p x ≡ true
+unfolding rawListed
+listed-good p l x e = both-left (rawGood p x) (agrees l p (unpacked x)) e
+
+-- with a list that agrees: the call without it
+step-listed : (p l : List ℕ) (x : RawState) (b room : ℕ) → rawListed p l x ≡ true → ofRawStep (rawStepRows p l x b room) ≡ rawCall p x (Step b room)
+unfolding rawStepRows rawCall rawStep
+step-listed p l x b room e = rw (e, listed-good p l x e)
+
+run-listed : (p l : List ℕ) (x : RawState) (i : List ℕ) (room : ℕ) → rawListed p l x ≡ true → ofRawRun (rawRunRows p l x i room) ≡ rawCall p x (Run i room)
+unfolding rawRunRows rawCall rawRun
+run-listed p l x i room e = rw (e, listed-good p l x e)
+
+-- refused for its list
+step-unlisted : (p l : List ℕ) (x : RawState) (b room : ℕ) → rawListed p l x ≡ false → rawStepRows p l x b room ≡ badStep p x
+unfolding rawStepRows
+step-unlisted p l x b room e = rw e
+
+run-unlisted : (p l : List ℕ) (x : RawState) (i : List ℕ) (room : ℕ) → rawListed p l x ≡ false → rawRunRows p l x i room ≡ badRun p x i
+unfolding rawRunRows
+run-unlisted p l x i room e = rw e
+
+module _ {p q a b : List ℕ} (h : Related p q a b) (l : List ℕ) (x : RawState) (on : x .modes .protect ≡ 1) where
+  rows-agree : rowsOf a (unpacked x) ≡ rowsOf b (unpacked x)
+  rows-agree =
+      ap (rowList (widthOf (unpacked x .core .screen))) (guards-agree (unpacked x .core .modes .protect) (unpacked-on x on) h)
+
+  both-listed : rawListed a l x ≡ rawListed b l x
+  unfolding rawListed
+  both-listed = rw (both-good h x on, rows-agree)
+
+  -- the list after a call that was made in both
+  left-rows : {c d : RawCalled} → AgreeRaw p q c d → rowsOf (c .page) (unpacked (c .given .state)) ≡ rowsOf (d .page) (unpacked (d .given .state))
+  left-rows {c} {d} k =
+      ap (rowList (widthOf (unpacked (c .given .state) .core .screen)))
+      (guards-agree (unpacked (c .given .state) .core .modes .protect) (unpacked-on (c .given .state) (k .on)) (k .related))
+      ∙ ap (λ (g : RawGiven). rowsOf (d .page) (unpacked (g .state))) (sym (k .given))
+
+  -- one that took the list, or was refused for it, in both
+  taken-agrees : (c d : RawCalled) → AgreeRaw p q c d → AgreeRows p q (listed (session a l x) c) (listed (session b l x) d)
+  unfolding rawRowsAfter
+  taken-agrees c d k = record { called = k; rows = rw (← both-listed) (by (rawListed a l x)) }
+    where
+      by : (t : Bool) → pick t (rowsOf (c .page) (unpacked (c .given .state))) l ≡ pick t (rowsOf (d .page) (unpacked (d .given .state))) l
+      by true = left-rows k
+      by false = refl
+
+  row-call-agrees : (c : RowCall) → (RawCompleted (bareCall (session a l x) c) a x → ⊥)
+      → AgreeRows p q (rawRowCall (session a l x) c) (rawRowCall (session b l x) c)
+  unfolding rawRowCall bareCall rawCanRebuild canRebuild good
+  row-call-agrees (Bare c) free = record { called = raw-agrees h x on c (λ e k. free (first e k)); rows = refl }
+  row-call-agrees (ListStep v room) free = taken-agrees _ _ (by (rawListed a l x) refl free)
+    where
+      by : (t : Bool) → rawListed a l x ≡ t → (RawCompleted (pick t (Step v room ∷ []) []) a x → ⊥)
+          → AgreeRaw p q (ofRawStep (rawStepRows a l x v room)) (ofRawStep (rawStepRows b l x v room))
+      by true e free =
+          rw (step-listed a l x v room e, step-listed b l x v room (sym both-listed ∙ e)) (raw-agrees h x on (Step v room) (λ n k. free (first n k)))
+      by false e free = rw (step-unlisted a l x v room e, step-unlisted b l x v room (sym both-listed ∙ e)) (record { given = refl; related = h; on = on })
+  row-call-agrees (ListRun i room) free = taken-agrees _ _ (by (rawListed a l x) refl free)
+    where
+      by : (t : Bool) → rawListed a l x ≡ t → (RawCompleted (pick t (Run i room ∷ []) []) a x → ⊥)
+          → AgreeRaw p q (ofRawRun (rawRunRows a l x i room)) (ofRawRun (rawRunRows b l x i room))
+      by true e free =
+          rw (run-listed a l x i room e, run-listed b l x i room (sym both-listed ∙ e)) (raw-agrees h x on (Run i room) (λ n k. free (first n k)))
+      by false e free = rw (run-unlisted a l x i room e, run-unlisted b l x i room (sym both-listed ∙ e)) (record { given = refl; related = h; on = on })
+  row-call-agrees Rebuild free =
+      rw (related-length h, rows-agree) (record { called = record { given = refl; related = h; on = on }; rows = refl })
+
+-- ---- lists of calls
+
+-- the rest of a list completes nothing, if the list does not
+rest-free : (x : RawSession) (c : RowCall) {cs : List Call} → (RawCompleted (bareCall x c ++ cs) (x .page) (x .state) → ⊥)
+    → RawCompleted cs (left (rawRowCall x c) .page) (left (rawRowCall x c) .state) → ⊥
+unfolding rawRowCall bareCall
+rest-free x (Bare c) free k = free (later k)
+rest-free x (ListStep b room) {cs} free k = by (rawListed (x .page) (x .rows) (x .state)) refl free k
+  where
+    by : (t : Bool) → rawListed (x .page) (x .rows) (x .state) ≡ t → (RawCompleted (pick t (Step b room ∷ []) [] ++ cs) (x .page) (x .state) → ⊥)
+        → RawCompleted cs (ofRawStep (rawStepRows (x .page) (x .rows) (x .state) b room) .page) (ofRawStep (rawStepRows (x .page) (x .rows) (x .state) b room) .given .state) → ⊥
+    by true e free k =
+        free (later (subst (λ (r : RawCalled). RawCompleted cs (r .page) (r .given .state)) (step-listed (x .page) (x .rows) (x .state) b room e) k))
+    by false e free k = free (rw (step-unlisted (x .page) (x .rows) (x .state) b room e) at k)
+rest-free x (ListRun i room) {cs} free k = by (rawListed (x .page) (x .rows) (x .state)) refl free k
+  where
+    by : (t : Bool) → rawListed (x .page) (x .rows) (x .state) ≡ t → (RawCompleted (pick t (Run i room ∷ []) [] ++ cs) (x .page) (x .state) → ⊥)
+        → RawCompleted cs (ofRawRun (rawRunRows (x .page) (x .rows) (x .state) i room) .page) (ofRawRun (rawRunRows (x .page) (x .rows) (x .state) i room) .given .state) → ⊥
+    by true e free k =
+        free (later (subst (λ (r : RawCalled). RawCompleted cs (r .page) (r .given .state)) (run-listed (x .page) (x .rows) (x .state) i room e) k))
+    by false e free k = free (rw (run-unlisted (x .page) (x .rows) (x .state) i room e) at k)
+rest-free x Rebuild free k = free k
+
+-- nor does its first call
+append-completed : (ds cs : List Call) {p : List ℕ} {x : RawState} → RawCompleted ds p x → RawCompleted (ds ++ cs) p x
+append-completed (c ∷ ds) cs (first e k) = first e k
+append-completed (c ∷ ds) cs (later k) = later (append-completed ds cs k)
+
+row-made-is : {x : RawSession} {p′ l′ : List ℕ} {c : RowCall} {g : RawGiven} → RowMade x c g p′ l′
+    → rawRowCall x c ≡ record { called = record { given = g; page = p′ }; rows = l′ }
+unfolding rawRowCall
+row-made-is {x} (bare m) = ap (λ (r : RawCalled). record { called = r; rows = x .rows }) (made-is m)
+row-made-is (listStepped {w = w} {w′ = w′} {r = r} h e) =
+    cc (h .answer, h .state, h .replied, h .page, front _ w w′ (r .replied) (h .replied) (h .room), e)
+row-made-is (listRan {w = w} {w′ = w′} {r = r} h e) =
+    cc (h .answer, h .taken, h .replied, h .refused, h .rest, h .state, h .page, front _ w w′ (r .replied) (h .replied) (h .room), e)
+row-made-is (rebuiltRows h e) = cc (h, e)
+
+performed-agrees : {calls : List RowCall} {p q a b : List ℕ} {l : List ℕ} {x : RawState} {y z : RawSession} {gs hs : List RawGiven} {ls ms : List (List ℕ)}
+    → Related p q a b → x .modes .protect ≡ 1 → (RawCompleted (bareCalls calls (session a l x)) a x → ⊥)
+    → RowPerformed (session a l x) calls gs ls y → RowPerformed (session b l x) calls hs ms z → RawRowIndistinguishable p q gs hs ls ms y z
+unfolding bareCalls
+performed-agrees h on free none none = record { given = refl; lists = refl; rows = refl; state = refl; pages = related-kept h }
+performed-agrees {p = p} {q = q} {a = a} {l = l} {x = x} h on free
+    (next {p′ = a₁} {l′ = l₁} {c = c} {cs = cs} {g = g} m f) (next {y = z} {p′ = b₁} {l′ = m₁} {g = k} {gs = ks} {ls = ns} n t) =
+    let r = subst₂ (AgreeRows p q) (row-made-is m) (row-made-is n)
+    (row-call-agrees h l x on c (λ e. free (append-completed (bareCall (session a l x) c) _ e))) in
+    let free₁ : RawCompleted (bareCalls cs (session a₁ l₁ (g .state))) a₁ (g .state) → ⊥ =
+    subst (λ (r : RawRowCalled). RawCompleted (bareCalls cs (left r)) (r .called .page) (r .called .given .state) → ⊥) (row-made-is m)
+    (rest-free (session a l x) c free) in
+    let t₁ : RowPerformed (session b₁ l₁ (g .state)) cs ks ns z =
+    subst₂ (λ (w : List ℕ) (v : RawState). RowPerformed (session b₁ w v) cs ks ns z) (sym (r .rows)) (ap (λ (v : RawGiven). v .state) (r .called .given)) t in
+    let e = performed-agrees (r .called .related) (r .called .on) free₁ f t₁ in
+    record {
+      given = ap₂ _∷_ (sym (r .called .given)) (e .given);
+      lists = ap₂ _∷_ (r .rows) (e .lists);
+      rows = e .rows;
+      state = e .state;
+      pages = e .pages;
+    }
+
+pub raw-row-noninterference : RawRowDemand3
+raw-row-noninterference p q l x calls gs hs ls ms y z on alike free f g = performed-agrees (start-related p q alike) on free f g

@@ -1,0 +1,36 @@
+-- What the exported calls with a row list promise: the list is looked at beside the state that the numbers name.
+use mathlib.Core.Bool.{Bool}
+use mathlib.Core.List.{List}
+use Prim.Native.Nat.{ℕ}
+use Rattle.rules.specs.Cell.{pick, both}
+use Rattle.rules.specs.Step.{stepRule}
+use Rattle.rules.specs.Calls.{runRule}
+use Rattle.rules.specs.RowList.{rowsOf, agrees}
+use Rattle.rules.specs.RowCalls.{canRebuild}
+use Rattle.wy50.specs.declared.raw.RawState.{RawState}
+use Rattle.wy50.specs.Raw.{unpacked, named}
+use Rattle.wy50.specs.Promise.{rawGood, RawOutcome, raw, badStep, RawRan, rawRan, badRun}
+
+-- page and numbers are good, and the list l agrees with them
+unfoldable pub rawListed : List ℕ → List ℕ → RawState → Bool
+rawListed p l x = both (rawGood p x) (agrees l p (unpacked x))
+
+unfoldable pub rawStepRows : List ℕ → List ℕ → RawState → ℕ → ℕ → RawOutcome
+rawStepRows p l x b room = pick (rawListed p l x) (raw (stepRule p (unpacked x) b room)) (badStep p x)
+
+unfoldable pub rawRunRows : List ℕ → List ℕ → RawState → List ℕ → ℕ → RawRan
+rawRunRows p l x bytes room = pick (rawListed p l x) (rawRan (runRule p (unpacked x) bytes room)) (badRun p x bytes)
+
+-- the list after a call that left the page p′ and gave the numbers y
+unfoldable pub rawRowsAfter : List ℕ → List ℕ → RawState → List ℕ → RawState → List ℕ
+rawRowsAfter p l x p′ y = pick (rawListed p l x) (rowsOf p′ (unpacked y)) l
+
+-- the rebuild
+unfoldable pub rawCanRebuild : List ℕ → List ℕ → RawState → Bool
+rawCanRebuild p l x = both (named x) (canRebuild p l (unpacked x))
+
+abbrev pub rawRebuildAnswer : List ℕ → List ℕ → RawState → ℕ
+rawRebuildAnswer p l x = pick (rawCanRebuild p l x) 0 7
+
+abbrev pub rawRebuilt : List ℕ → List ℕ → RawState → List ℕ
+rawRebuilt p l x = pick (rawCanRebuild p l x) (rowsOf p (unpacked x)) l
