@@ -153,6 +153,68 @@ fn press(
     closing(out, n, room, r.replied, s, page)
 }
 
+// The row list: its numbers, `-` where it has none.
+fn list(out: &mut [u8], at: usize, rows: &[u16]) -> usize {
+    let n = text(out, at, b" rows=");
+    if rows.len() == 0 {
+        return put(out, n, b'-');
+    }
+    cells(out, n, rows)
+}
+
+fn rebuild(
+    count: usize,
+    s: State,
+    page: &[u16],
+    rows: &mut [u16],
+    out: &mut [u8],
+    at: usize,
+) -> Called {
+    let a = terminal::rebuild_rows(page, rows, s);
+    let n = opening(out, at, count, b"rebuild", a);
+    let n1 = list(out, n, rows);
+    ending(out, n1, s, page)
+}
+
+fn list_step(
+    count: usize,
+    s: State,
+    byte: u8,
+    page: &mut [u16],
+    rows: &mut [u16],
+    room: &mut [u8],
+    out: &mut [u8],
+    at: usize,
+) -> Called {
+    let r = terminal::step_rows(page, rows, s, byte, room);
+    let a = r.answer;
+    let next = r.state;
+    let n = opening(out, at, count, b"liststep", a);
+    let n1 = reply(out, n, room, r.replied);
+    let n2 = list(out, n1, rows);
+    ending(out, n2, next, page)
+}
+
+fn list_run(
+    count: usize,
+    s: State,
+    input: &[u8],
+    page: &mut [u16],
+    rows: &mut [u16],
+    room: &mut [u8],
+    out: &mut [u8],
+    at: usize,
+) -> Called {
+    let r = terminal::run_rows(page, rows, s, input, room);
+    let a = r.answer;
+    let next = r.state;
+    let n = opening(out, at, count, b"listrun", a);
+    let n1 = counts(out, n, r.taken, r.replied, r.refused, input);
+    let n2 = reply(out, n1, room, r.replied);
+    let n3 = list(out, n2, rows);
+    ending(out, n3, next, page)
+}
+
 fn show(count: usize, s: State, page: &[u16], out: &mut [u8], at: usize) -> Called {
     let n = heading(out, at, count, b"show");
     let n1 = text(out, n, b" cells=");
@@ -217,6 +279,7 @@ pub fn call(
     s: State,
     input: &[u8],
     page: &mut [u16],
+    rows: &mut [u16],
     room: &mut [u8],
     out: &mut [u8],
     at: usize,
@@ -229,5 +292,8 @@ pub fn call(
         Call::Count(first, last) => count_reply(count, s, input, first, last, page, out, at),
         Call::Entry => entry(count, s, input, page, out, at),
         Call::Show => show(count, s, page, out, at),
+        Call::Rebuild => rebuild(count, s, page, rows, out, at),
+        Call::ListStep(b) => list_step(count, s, b, page, rows, room, out, at),
+        Call::ListRun => list_run(count, s, input, page, rows, room, out, at),
     }
 }

@@ -33,7 +33,13 @@ fn read(input: &mut [u8]) -> usize
 }
 
 // Obeys the whole lines of the input; what follows the last of them is held.
-fn obey_lines(s: Progress, input: &[u8], page: &mut [u16], out: &mut [u8]) -> Progress {
+fn obey_lines(
+    s: Progress,
+    input: &[u8],
+    page: &mut [u16],
+    rows: &mut [u16],
+    out: &mut [u8],
+) -> Progress {
     let mut t = s;
     let mut rest = input;
     while 0 < rest.len() {
@@ -41,7 +47,7 @@ fn obey_lines(s: Progress, input: &[u8], page: &mut [u16], out: &mut [u8]) -> Pr
         if end == rest.len() {
             break;
         }
-        let u = obey(t, &rest[..end], page, out);
+        let u = obey(t, &rest[..end], page, rows, out);
         t = u;
         if !t.going {
             break;
@@ -66,19 +72,32 @@ fn move_to_front(input: &mut [u8], from: usize, to: usize)
 }
 
 // One piece of the input. What is held of an unfinished line stands at the front of the buffer.
-fn piece(s: Progress, input: &mut [u8], page: &mut [u16], out: &mut [u8]) -> Progress {
+fn piece(
+    s: Progress,
+    input: &mut [u8],
+    page: &mut [u16],
+    rows: &mut [u16],
+    out: &mut [u8],
+) -> Progress {
     let held = within(s.held, input);
     let n = read(&mut input[held..]);
     if n == 0 {
-        return end(s, &input[..held], page, out);
+        return end(s, &input[..held], page, rows, out);
     }
-    filled(s, held + n, input, page, out)
+    filled(s, held + n, input, page, rows, out)
 }
 
 // Obeys the whole lines of the n bytes that the buffer holds, and moves the rest to its front.
-fn filled(s: Progress, n: usize, input: &mut [u8], page: &mut [u16], out: &mut [u8]) -> Progress {
+fn filled(
+    s: Progress,
+    n: usize,
+    input: &mut [u8],
+    page: &mut [u16],
+    rows: &mut [u16],
+    out: &mut [u8],
+) -> Progress {
     let size = within(n, input);
-    let t = obey_lines(s, &input[..size], page, out);
+    let t = obey_lines(s, &input[..size], page, rows, out);
     let left = least(t.held, size);
     if left == input.len() {
         return too_long(t);
@@ -88,8 +107,8 @@ fn filled(s: Progress, n: usize, input: &mut [u8], page: &mut [u16], out: &mut [
 }
 
 // The last line may have no line end.
-fn end(s: Progress, line: &[u8], page: &mut [u16], out: &mut [u8]) -> Progress {
-    let t = obey(s, line, page, out);
+fn end(s: Progress, line: &[u8], page: &mut [u16], rows: &mut [u16], out: &mut [u8]) -> Progress {
+    let t = obey(s, line, page, rows, out);
     stopped(t)
 }
 
@@ -116,11 +135,11 @@ fn left(pieces: u64, going: bool) -> u64
 }
 
 // A proved loop has to end, and nothing says that the input does: the count of pieces falls from a number that no script uses up.
-fn replay(input: &mut [u8], page: &mut [u16], out: &mut [u8]) {
+fn replay(input: &mut [u8], page: &mut [u16], rows: &mut [u16], out: &mut [u8]) {
     let mut s = progress::start();
     let mut pieces = u64::MAX;
     while 0 < pieces {
-        let t = piece(s, input, page, out);
+        let t = piece(s, input, page, rows, out);
         s = t;
         pieces = left(pieces, s.going);
     }
@@ -131,5 +150,6 @@ fn main() {
     let mut input = io::large_buffer();
     let mut out = io::large_buffer();
     let mut page = [0u16; 4000];
-    replay(&mut input, &mut page, &mut out);
+    let mut rows = [0u16; 4000];
+    replay(&mut input, &mut page, &mut rows, &mut out);
 }

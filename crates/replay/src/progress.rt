@@ -6,6 +6,7 @@ use crate::change;
 use crate::narrow::CELLS;
 use crate::script::Call;
 use crate::script::Command;
+use crate::script::ListLine;
 use crate::script::PageLine;
 use crate::script::Setting;
 use crate::script::read;
@@ -21,8 +22,9 @@ const MOST: usize = 32768;
 
 pub struct Progress {
     pub state: State,
-    // the page's length
+    // the lengths of the page and of the row list
     pub cells: usize,
+    pub numbers: usize,
     // how many lines were written, and read
     pub written: usize,
     pub line: usize,
@@ -40,6 +42,7 @@ pub fn start() -> Progress {
     Progress {
         state: state,
         cells: CELLS,
+        numbers: 48,
         written: 0,
         line: 0,
         at: 0,
@@ -66,28 +69,41 @@ fn complain(number: usize, line: &[u8]) {
 }
 
 // One line.
-pub fn obey(s: Progress, line: &[u8], page: &mut [u16], out: &mut [u8]) -> Progress {
+pub fn obey(
+    s: Progress,
+    line: &[u8],
+    page: &mut [u16],
+    rows: &mut [u16],
+    out: &mut [u8],
+) -> Progress {
     let mut t = s;
     t.line = wrapping_add_usize(s.line, 1);
-    let u = carry_out(t, line, page, out);
+    let u = carry_out(t, line, page, rows, out);
     if !u.going {
         complain(u.line, line);
     }
     u
 }
 
-fn carry_out(s: Progress, line: &[u8], page: &mut [u16], out: &mut [u8]) -> Progress {
+fn carry_out(
+    s: Progress,
+    line: &[u8],
+    page: &mut [u16],
+    rows: &mut [u16],
+    out: &mut [u8],
+) -> Progress {
     let c = read(line);
     match c {
         Command::Bad => stopped(s),
         Command::Skip => s,
         Command::Page(x) => change_page(s, x, page),
+        Command::List(x) => change_list(s, x, rows),
         Command::Set(x) => set(s, x),
         Command::Key(k) => set_key(s, k, line),
         Command::Label(k) => set_label(s, k, line),
         Command::Message => set_message(s, line),
         Command::Pending => set_pending(s, line),
-        Command::Call(x, n) => obey_call(s, x, n, line, page, out),
+        Command::Call(x, n) => obey_call(s, x, n, line, page, rows, out),
     }
 }
 
@@ -128,6 +144,22 @@ fn fill(s: Progress, i: usize, n: usize, v: u16, page: &mut [u16]) -> Progress {
     }
     change::fill(&mut page[i..i + n], v);
     s
+}
+
+fn change_list(s: Progress, x: ListLine, rows: &mut [u16]) -> Progress {
+    let numbers = within_cells(s.numbers, rows);
+    match x {
+        ListLine::Length(n) => set_numbers(s, n, rows),
+        ListLine::Number(i, v) => fill(s, i, 1, v, &mut rows[..numbers]),
+    }
+}
+
+fn set_numbers(s: Progress, n: usize, rows: &mut [u16]) -> Progress {
+    let numbers = within_cells(n, rows);
+    change::fill(&mut rows[..numbers], 0);
+    let mut t = s;
+    t.numbers = numbers;
+    t
 }
 
 fn with_setup(s: Progress, u: Setup) -> Progress {
@@ -205,6 +237,9 @@ fn has_input(x: Call) -> bool {
         Call::Count(_, _) => true,
         Call::Entry => true,
         Call::Show => false,
+        Call::Rebuild => false,
+        Call::ListStep(_) => false,
+        Call::ListRun => true,
     }
 }
 
@@ -214,6 +249,7 @@ fn obey_call(
     n: usize,
     line: &[u8],
     page: &mut [u16],
+    rows: &mut [u16],
     out: &mut [u8],
 ) -> Progress {
     let mut bytes = [0u8; MOST];
@@ -222,7 +258,7 @@ fn obey_call(
         return stopped(s);
     }
     let input = within(k, &bytes);
-    make_call(s, x, n, &bytes[..input], page, out)
+    make_call(s, x, n, &bytes[..input], page, rows, out)
 }
 
 // The room is all EEh before the call.
@@ -232,11 +268,13 @@ fn make_call(
     n: usize,
     input: &[u8],
     page: &mut [u16],
+    rows: &mut [u16],
     out: &mut [u8],
 ) -> Progress {
     let mut room = [0xeeu8; 4000];
     let size = within(n, &room);
     let cells = within_cells(s.cells, page);
+    let numbers = within_cells(s.numbers, rows);
     let state = s.state;
     let count = wrapping_add_usize(s.written, 1);
     let r = call::call(
@@ -245,6 +283,7 @@ fn make_call(
         state,
         input,
         &mut page[..cells],
+        &mut rows[..numbers],
         &mut room[..size],
         out,
         s.at,

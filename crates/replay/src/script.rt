@@ -16,6 +16,12 @@ pub enum PageLine {
     Fill(usize, usize, u16),
 }
 
+// Lines that change the row list: its length, a number of it.
+pub enum ListLine {
+    Length(usize),
+    Number(usize, u16),
+}
+
 // Lines that change the state by numbers alone. A mode counts from 0 in the order of `Modes`.
 pub enum Setting {
     Active(u8),
@@ -39,6 +45,9 @@ pub enum Call {
     Count(usize, usize),
     Entry,
     Show,
+    Rebuild,
+    ListStep(u8),
+    ListRun,
 }
 
 // Key and Label have their place, counted from 0; a call the length of its reply room.
@@ -46,6 +55,7 @@ pub enum Command {
     Bad,
     Skip,
     Page(PageLine),
+    List(ListLine),
     Set(Setting),
     Key(usize),
     Label(usize),
@@ -79,6 +89,9 @@ fn one_word(line: &[u8]) -> Command {
     if same(line, b"show") {
         return Command::Call(Call::Show, 0);
     }
+    if same(line, b"rebuild") {
+        return Command::Call(Call::Rebuild, 0);
+    }
     Command::Bad
 }
 
@@ -101,6 +114,9 @@ fn two_words(line: &[u8]) -> Command {
     let n = number(later(line));
     if same(word, b"length") {
         return given(n <= 4000, Command::Page(PageLine::Length(n)));
+    }
+    if same(word, b"rows") {
+        return given(n <= 4000, Command::List(ListLine::Length(n)));
     }
     if 255 < n {
         return Command::Bad;
@@ -125,14 +141,21 @@ fn three_words(line: &[u8]) -> Command {
     let word = first(line);
     let words = later(line);
     let n = number(later(words));
-    if same(word, b"step") {
-        return byte_call(true, byte(first(words)), n);
-    }
     if same(word, b"run") {
         return given(n <= 4000, Command::Call(Call::Run, n));
     }
+    if same(word, b"listrun") {
+        return given(n <= 4000, Command::Call(Call::ListRun, n));
+    }
+    let b = byte(first(words));
+    if same(word, b"step") {
+        return byte_call(0, b, n);
+    }
     if same(word, b"press") {
-        return byte_call(false, byte(first(words)), n);
+        return byte_call(1, b, n);
+    }
+    if same(word, b"liststep") {
+        return byte_call(2, b, n);
     }
     let i = number(first(words));
     if same(word, b"key") {
@@ -144,16 +167,16 @@ fn three_words(line: &[u8]) -> Command {
     pair(word, i, n)
 }
 
-// `step` or `press`: a byte, and the length of the room.
-fn byte_call(is_step: bool, byte: usize, room: usize) -> Command {
+// `step`, `press` or `liststep`, from 0: a byte, and the length of the room.
+fn byte_call(which: u8, byte: usize, room: usize) -> Command {
     if 255 < byte {
         return Command::Bad;
     }
     let b = byte as u8;
-    let call = if is_step {
-        Call::Step(b)
-    } else {
-        Call::Press(b)
+    let call = match which {
+        0 => Call::Step(b),
+        1 => Call::Press(b),
+        _ => Call::ListStep(b),
     };
     given(room <= 4000, Command::Call(call, room))
 }
@@ -166,6 +189,9 @@ fn pair(word: &[u8], i: usize, n: usize) -> Command {
     let v = n as u16;
     if same(word, b"cell") {
         return Command::Page(PageLine::Fill(i, 1, v));
+    }
+    if same(word, b"row") {
+        return Command::List(ListLine::Number(i, v));
     }
     if same(word, b"cursor") {
         return given(i < 2, Command::Set(Setting::Cursor(i == 1, v)));

@@ -31,17 +31,21 @@ piece-spec =
     (λ c. search needs)
     -- same-length-3
     (λ c. search needs)
+    -- same-length-4
+    (λ c. search needs)
     -- returns
     (λ c. search needs)
     -- add-filled
     (λ c. search needs)
     -- filled-requires
     (λ c κs. search needs)
-    -- same-length-4
-    (λ c. search needs)
     -- same-length-5
     (λ c. search needs)
     -- same-length-6
+    (λ c. search needs)
+    -- same-length-7
+    (λ c. search needs)
+    -- same-length-8
     (λ c. search needs)
     -- returns-2
     (λ c. search needs))
