@@ -8,6 +8,7 @@ mod counter;
 mod moves;
 mod possible;
 mod protection;
+mod rows;
 mod sends;
 mod tables;
 mod texts;
@@ -35,5 +36,6 @@ pub fn script() -> Vec<u8> {
     book.texts();
     book.sends();
     book.counter();
+    book.rows();
     book.text
 }

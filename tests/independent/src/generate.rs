@@ -3,13 +3,14 @@
 mod counts;
 mod excursions;
 mod phrases;
+mod rows;
 mod scenes;
 mod texts;
 
 use crate::random::Random;
 use crate::state::Sequence;
 use crate::terminal::{Run, Terminal};
-use crate::transcript::{set, Line};
+use crate::transcript::{set, Bench, Line};
 pub use counts::count_line;
 use std::collections::VecDeque;
 
@@ -32,11 +33,13 @@ pub fn script(seed: u64, calls: usize) -> Vec<Line> {
 /// aimed and impossible states left again.
 pub struct Generator {
     pub random: Random,
-    pub terminal: Terminal,
+    pub bench: Bench,
     pub script: Vec<Line>,
     pub calls: usize,
     /// Bytes composed but not sent yet.
     stream: VecDeque<u8>,
+    /// Whether steps and runs are made with the row list.
+    lists: bool,
     /// Whether the excluded commands are kept from being completed.
     avoids_excluded: bool,
 }
@@ -46,10 +49,11 @@ impl Generator {
     pub fn new(seed: u64) -> Generator {
         Generator {
             random: Random::new(seed),
-            terminal: Terminal::new(),
+            bench: Bench::new(),
             script: Vec::new(),
             calls: 0,
             stream: VecDeque::new(),
+            lists: false,
             avoids_excluded: false,
         }
     }
@@ -75,20 +79,31 @@ impl Generator {
 
     pub fn add(&mut self, line: Line) {
         let mut room = [0; DRY_ROOM];
+        let Bench { terminal, rows } = &mut self.bench;
         match &line {
             Line::On => {
-                let _ = self.terminal.power_on();
+                let _ = terminal.power_on();
             }
             Line::Step { byte, room: size } => {
-                let _ = self.terminal.step(*byte, &mut room[..*size]);
+                let _ = terminal.step(*byte, &mut room[..*size]);
+            }
+            Line::ListStep { byte, room: size } => {
+                let _ = terminal.step_with_rows(*byte, &mut room[..*size], rows);
             }
             Line::Run { bytes, room: size } => {
-                let Run { rest, .. } = self.terminal.run(bytes, &mut room[..*size]);
+                let Run { rest, .. } = terminal.run(bytes, &mut room[..*size]);
                 self.send_again_or_forget(rest);
+            }
+            Line::ListRun { bytes, room: size } => {
+                let Run { rest, .. } = terminal.run_with_rows(bytes, &mut room[..*size], rows);
+                self.send_again_or_forget(rest);
+            }
+            Line::Rebuild => {
+                let _ = terminal.rebuild_rows(rows);
             }
             Line::Press { .. } | Line::Show | Line::Count { .. } | Line::Entry(_) => {}
             _ => assert!(
-                set(&mut self.terminal, &line),
+                set(&mut self.bench, &line),
                 "a line that cannot be set: {line:?}"
             ),
         }
@@ -112,6 +127,9 @@ impl Generator {
     }
 
     pub fn call(&mut self) {
+        if self.tend_rows() {
+            return self.rebuild();
+        }
         match self.random.below(20) {
             0 => self.press(),
             1..=5 => self.step(),
@@ -128,7 +146,7 @@ impl Generator {
             _ => self.key_value(),
         };
         let mut room = [0; DRY_ROOM];
-        let replied = self.terminal.press(value, &mut room).unwrap_or(0);
+        let replied = self.bench.terminal.press(value, &mut room).unwrap_or(0);
         let room = self.room_about(replied);
         self.add(Line::Press { value, room });
     }
@@ -136,13 +154,20 @@ impl Generator {
     fn step(&mut self) {
         let byte = self.next_bytes(1)[0];
         let mut room = [0; DRY_ROOM];
-        let replied = self.terminal.clone().step(byte, &mut room).unwrap_or(0);
+        let replied = self
+            .bench
+            .terminal
+            .clone()
+            .step(byte, &mut room)
+            .unwrap_or(0);
         let room = self.room_about(replied);
         let mut bytes = vec![byte];
         self.replace_excluded(&mut bytes, room);
-        self.add(Line::Step {
-            byte: bytes[0],
-            room,
+        let byte = bytes[0];
+        self.add(if self.lists {
+            Line::ListStep { byte, room }
+        } else {
+            Line::Step { byte, room }
         });
     }
 
@@ -154,10 +179,14 @@ impl Generator {
         };
         let mut bytes = self.next_bytes(count);
         let mut room = [0; DRY_ROOM];
-        let replied = self.terminal.clone().run(&bytes, &mut room).replied;
+        let replied = self.bench.terminal.clone().run(&bytes, &mut room).replied;
         let room = self.room_about(replied);
         self.replace_excluded(&mut bytes, room);
-        self.add(Line::Run { bytes, room });
+        self.add(if self.lists {
+            Line::ListRun { bytes, room }
+        } else {
+            Line::Run { bytes, room }
+        });
     }
 
     fn next_bytes(&mut self, count: usize) -> Vec<u8> {
@@ -185,7 +214,7 @@ impl Generator {
         if !self.avoids_excluded {
             return;
         }
-        let mut terminal = self.terminal.clone();
+        let mut terminal = self.bench.terminal.clone();
         let mut scratch = [0; DRY_ROOM];
         let mut left = room;
         for byte in bytes {

@@ -1,159 +1,17 @@
 //! Two terminals alike but for the contents of protected cells: what they give
 //! back must agree, and no protected cell may change.
 
+mod pair;
+
 use crate::compare::{lines, print_text, Amount};
-use crate::generate::{completes_excluded, Generator};
 use crate::program::Program;
 use crate::shrink::{shorten, shorten_script};
-use crate::state::Cell;
-use crate::terminal::Terminal;
-use crate::transcript::{self, set, Line};
+use crate::transcript;
+use pair::Pair;
 use std::io;
 use std::time::Instant;
 
 const PAIR_CALLS: usize = 200;
-const PROTECTED: u16 = 128;
-
-/// A protected cell and its number in each terminal.
-#[derive(Clone, Copy)]
-struct LikeCell {
-    index: usize,
-    numbers: [u16; 2],
-}
-
-/// Two scripts that differ in the numbers of some protected cells alone.
-#[derive(Clone)]
-struct Pair {
-    setting: Vec<Line>,
-    cells: Vec<LikeCell>,
-    calls: Vec<Line>,
-}
-
-impl Pair {
-    fn random(seed: u64, calls: usize) -> Pair {
-        let mut generator = Generator::without_excluded(seed);
-        set_scene(&mut generator);
-        let setting = std::mem::take(&mut generator.script);
-        let cells = random_cells(&mut generator);
-        for cell in &cells {
-            generator.terminal.page[cell.index] = Cell(cell.numbers[0]);
-        }
-        while generator.calls < calls {
-            generator.call();
-        }
-        Pair {
-            setting,
-            cells,
-            calls: generator.script,
-        }
-    }
-
-    fn start(&self, side: usize) -> Vec<Line> {
-        let mut script = self.setting.clone();
-        script.extend(self.cells.iter().map(|cell| Line::Cell {
-            index: cell.index,
-            value: cell.numbers[side],
-        }));
-        script
-    }
-
-    fn script(&self, side: usize) -> Vec<Line> {
-        let mut script = self.start(side);
-        script.extend_from_slice(&self.calls);
-        script.push(Line::Show);
-        script
-    }
-
-    fn start_terminal(&self, side: usize) -> Option<Terminal> {
-        let mut terminal = Terminal::new();
-        self.start(side)
-            .iter()
-            .all(|line| set(&mut terminal, line))
-            .then_some(terminal)
-    }
-
-    /// Whether the pair is one that must agree: alike at the start, protect mode
-    /// on, and no excluded command completed.
-    fn must_agree(&self) -> bool {
-        let (Some(mut first), Some(second)) = (self.start_terminal(0), self.start_terminal(1))
-        else {
-            return false;
-        };
-        first.state.modes.protect
-            && are_alike(&first.page, &second.page)
-            && self
-                .calls
-                .iter()
-                .all(|call| obeys_without_excluded(&mut first, call))
-    }
-}
-
-fn are_alike(first: &[Cell], second: &[Cell]) -> bool {
-    first
-        .iter()
-        .zip(second)
-        .all(|(a, b)| a == b || a.is_protected() && b.is_protected())
-}
-
-fn obeys_without_excluded(terminal: &mut Terminal, call: &Line) -> bool {
-    let (bytes, room) = match call {
-        Line::Step { byte, room } => (std::slice::from_ref(byte), *room),
-        Line::Run { bytes, room } => (&bytes[..], *room),
-        _ => return true,
-    };
-    let mut scratch = vec![0; room];
-    let mut replied = 0;
-    for &byte in bytes {
-        if completes_excluded(terminal, byte, room - replied) {
-            return false;
-        }
-        match terminal.step(byte, &mut scratch[replied..]) {
-            Ok(count) => replied += count,
-            Err(refusal) if refusal as u8 >= 6 => break,
-            Err(_) => {}
-        }
-    }
-    true
-}
-
-fn set_scene(generator: &mut Generator) {
-    for _ in 0..generator.random.within(1..=2) {
-        generator.page_scene();
-    }
-    if generator.random.coin() {
-        generator.place_cursors();
-    }
-    for _ in 0..generator.random.within(0..=4) {
-        generator.set_something();
-    }
-    if generator.random.coin() {
-        let pending = generator.pending();
-        generator.add(pending);
-    }
-    match generator.random.below(40) {
-        0 => generator.impossible(),
-        1 => generator.wrong_length(),
-        _ => {}
-    }
-    generator.add(Line::Mode { mode: 0, on: true });
-}
-
-/// Numbers for the protected cells, or for some of them.
-fn random_cells(generator: &mut Generator) -> Vec<LikeCell> {
-    let page = generator.terminal.page.clone();
-    let most_differ = generator.random.coin();
-    let mut cells = Vec::new();
-    for (index, cell) in page.iter().enumerate() {
-        if cell.is_protected() && (most_differ || generator.random.once_in(8)) {
-            let mut number = || generator.random.number() as u16 | PROTECTED;
-            cells.push(LikeCell {
-                index,
-                numbers: [number(), number()],
-            });
-        }
-    }
-    cells
-}
 
 /// What differs between the two traces, if anything does.
 fn difference(program: &Program, pair: &Pair) -> io::Result<Option<String>> {
@@ -162,14 +20,14 @@ fn difference(program: &Program, pair: &Pair) -> io::Result<Option<String>> {
         program.trace(&transcript::write_script(&pair.script(1)))?,
     ];
     let (first, second) = (lines(&traces[0]), lines(&traces[1]));
-    if first.len() != pair.calls.len() + 1 || second.len() != first.len() {
+    let last = pair.calls.iter().filter(|call| call.is_output()).count();
+    if first.len() != last + 1 || second.len() != first.len() {
         return Ok(Some(format!(
             "# {} and {} trace lines\n",
             first.len(),
             second.len()
         )));
     }
-    let last = pair.calls.len();
     for (a, b) in first[..last].iter().zip(&second[..last]) {
         if without_page(a) != without_page(b) {
             let (a, b) = (String::from_utf8_lossy(a), String::from_utf8_lossy(b));
@@ -187,7 +45,11 @@ fn without_page(line: &[u8]) -> &[u8] {
 
 /// What is wrong with the two pages shown at the end.
 fn page_difference(pair: &Pair, shown: [&[u8]; 2]) -> Option<String> {
-    let starts = [pair.start_terminal(0)?.page, pair.start_terminal(1)?.page];
+    let starts = [0, 1].map(|side| pair.start_bench(side).map(|bench| bench.terminal.page));
+    let [Some(first_start), Some(second_start)] = starts else {
+        return Some("# a line that cannot be set\n".to_string());
+    };
+    let starts = [first_start, second_start];
     let (Some((first, first_rest)), Some((second, second_rest))) =
         (shown_cells(shown[0]), shown_cells(shown[1]))
     else {

@@ -6,6 +6,8 @@ mod arguments;
 mod cursor;
 #[path = "terminal/replies.rs"]
 mod replies;
+#[path = "terminal/rows.rs"]
+mod rows;
 #[path = "terminal/sends.rs"]
 mod sends;
 #[path = "terminal/taking.rs"]
@@ -17,6 +19,7 @@ mod writing;
 
 use crate::state::*;
 use replies::reply;
+pub use rows::ROW_NUMBERS;
 
 const ACK: u8 = 0x06;
 const SOH: u8 = 0x01;
@@ -55,6 +58,18 @@ pub struct Run<'a> {
     pub rest: &'a [u8],
 }
 
+impl Run<'_> {
+    fn impossible(input: &[u8]) -> Run<'_> {
+        Run {
+            answer: Refusal::Impossible as u8,
+            taken: 0,
+            replied: 0,
+            refused: 0,
+            rest: input,
+        }
+    }
+}
+
 #[derive(Clone)]
 pub struct Terminal {
     pub page: Vec<Cell>,
@@ -89,14 +104,7 @@ impl Terminal {
 
     pub fn run<'a>(&mut self, input: &'a [u8], room: &mut [u8]) -> Run<'a> {
         if !self.is_possible() {
-            let answer = Refusal::Impossible as u8;
-            return Run {
-                answer,
-                taken: 0,
-                replied: 0,
-                refused: 0,
-                rest: input,
-            };
+            return Run::impossible(input);
         }
         let (mut replied, mut refused) = (0, 0);
         for (taken, &byte) in input.iter().enumerate() {

@@ -1,6 +1,7 @@
 //! The bench list and the transcript's example.
 
 mod counter;
+mod rows;
 mod sends;
 mod texts;
 
@@ -230,6 +231,9 @@ fn bad_lines_are_named() {
         ("on \n", 1),
         ("label 16 -\n", 1),
         ("shifted 2\n", 1),
+        ("row 47 65535\nrow 48 0\n", 2),
+        ("rows 0\nrow 0 0\n", 2),
+        ("rebuild\nliststep 1b\n", 2),
         ("pending 1b4600\n", 1),
         ("pending 1b4641+\n", 1),
         ("pending 1b7a7f\n", 1),

@@ -1,5 +1,6 @@
 //! Scripts of calls, and the traces they leave.
 
+mod bench;
 mod digest;
 mod line;
 mod replay;
@@ -8,6 +9,7 @@ mod state;
 mod words;
 mod write;
 
+pub use bench::Bench;
 pub use line::{write_script, Line};
 use replay::Replay;
 pub use set::set;

@@ -21,7 +21,7 @@ impl Generator {
     }
 
     fn count_of_send(&mut self) -> Line {
-        let mut terminal = self.terminal.clone();
+        let mut terminal = self.bench.terminal.clone();
         let mut room = [0; DRY_ROOM];
         let replied = terminal.run(&[ESC, b'5'], &mut room).replied;
         numbered(&mut self.random, room[..replied].to_vec())

@@ -98,7 +98,7 @@ impl Generator {
     fn cursor_in_wrong_segment(&mut self) {
         let row = self.random.within(2..=ROWS) as u8;
         self.add(Line::Split(row));
-        let border = self.terminal.state.segment(1).start as u16;
+        let border = self.bench.terminal.state.segment(1).start as u16;
         let (upper, lower) = match self.random.below(3) {
             0 => (border, border),
             1 => (border - 1, border - 1),
@@ -115,10 +115,10 @@ impl Generator {
     }
 
     fn return_to_possible(&mut self) {
-        if self.terminal.page.len() != CELLS {
+        if self.bench.terminal.page.len() != CELLS {
             self.add(Line::Length(CELLS));
         }
-        if !self.terminal.is_possible() {
+        if !self.bench.terminal.is_possible() {
             self.add(Line::On);
         }
         if self.random.coin() {

@@ -110,12 +110,12 @@ impl Generator {
 
     /// The rows of a segment, as near as an impossible split row allows.
     fn rows_of(&self, segment: u8) -> usize {
-        let cells = self.terminal.state.segment(segment as usize & 1);
+        let cells = self.bench.terminal.state.segment(segment as usize & 1);
         (cells.len() / COLUMNS).clamp(1, ROWS)
     }
 
     fn active_rows(&self) -> usize {
-        self.rows_of(self.terminal.state.active)
+        self.rows_of(self.bench.terminal.state.active)
     }
 
     pub(super) fn row_code(&mut self, rows: usize) -> u8 {

@@ -21,6 +21,9 @@ impl Generator {
             let line = self.pending();
             self.add(line);
         }
+        if self.random.once_in(4) {
+            self.row_scene();
+        }
     }
 
     pub fn page_scene(&mut self) {
@@ -81,7 +84,8 @@ impl Generator {
     }
 
     fn cells_about_cursor(&mut self) {
-        let cursor = self.terminal.state.cursors[self.terminal.state.active as usize & 1] as usize;
+        let cursor = self.bench.terminal.state.cursors
+            [self.bench.terminal.state.active as usize & 1] as usize;
         for _ in 0..self.random.within(1..=6) {
             let index = (cursor + self.random.below(12))
                 .saturating_sub(4)
@@ -99,7 +103,7 @@ impl Generator {
             let row = self.random.within(1..=ROWS) as u8;
             self.add(Line::Split(if row == 1 { 0 } else { row }));
         }
-        let is_split = self.terminal.state.split != 0;
+        let is_split = self.bench.terminal.state.split != 0;
         let active = if is_split {
             self.random.below(2) as u8
         } else {
@@ -107,7 +111,7 @@ impl Generator {
         };
         self.add(Line::Active(active));
         for segment in 0..2 {
-            let cells = self.terminal.state.segment(segment);
+            let cells = self.bench.terminal.state.segment(segment);
             let cell = match self.random.below(6) {
                 0 => cells.start,
                 1 => cells.end - 1,

@@ -58,6 +58,11 @@ pub enum Line {
         bytes: Vec<u8>,
     },
     Shifted(bool),
+    Rows(usize),
+    Row {
+        index: usize,
+        value: u16,
+    },
     On,
     Step {
         byte: u8,
@@ -78,6 +83,15 @@ pub enum Line {
         last: usize,
     },
     Entry(Vec<u8>),
+    Rebuild,
+    ListStep {
+        byte: u8,
+        room: usize,
+    },
+    ListRun {
+        bytes: Vec<u8>,
+        room: usize,
+    },
 }
 
 impl Line {
@@ -92,14 +106,17 @@ impl Line {
                 | Line::Show
                 | Line::Count { .. }
                 | Line::Entry(_)
+                | Line::Rebuild
+                | Line::ListStep { .. }
+                | Line::ListRun { .. }
         )
     }
 
     /// How many bytes the line sends to the terminal.
     pub fn byte_count(&self) -> usize {
         match self {
-            Line::Step { .. } => 1,
-            Line::Run { bytes, .. } => bytes.len(),
+            Line::Step { .. } | Line::ListStep { .. } => 1,
+            Line::Run { bytes, .. } | Line::ListRun { bytes, .. } => bytes.len(),
             _ => 0,
         }
     }
@@ -107,7 +124,7 @@ impl Line {
     /// The bytes that the line hands to a call, if it is one over many.
     pub fn bytes_mut(&mut self) -> Option<&mut Vec<u8>> {
         match self {
-            Line::Run { bytes, .. } => Some(bytes),
+            Line::Run { bytes, .. } | Line::ListRun { bytes, .. } => Some(bytes),
             Line::Count { reply, .. } => Some(reply),
             Line::Entry(text) => Some(text),
             _ => None,

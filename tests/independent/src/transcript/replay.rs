@@ -1,5 +1,6 @@
 //! The calls, and the trace that they leave.
 
+use super::bench::Bench;
 use super::digest::PageDigest;
 use super::line::Line;
 use super::set::set;
@@ -7,13 +8,13 @@ use super::state::write_state;
 use super::write::*;
 use super::WIDEST_ROOM;
 use crate::counter::{write_count, write_entry};
-use crate::terminal::{answer_number, Outcome, Run, Terminal};
+use crate::terminal::{answer_number, Outcome, Run};
 
 const ROOM_FILLER: u8 = 0xEE;
 
 /// A terminal that obeys script lines and writes the trace.
 pub struct Replay {
-    terminal: Terminal,
+    bench: Bench,
     room: Vec<u8>,
     count: u64,
     digest: PageDigest,
@@ -22,7 +23,7 @@ pub struct Replay {
 impl Replay {
     pub fn new() -> Replay {
         Replay {
-            terminal: Terminal::new(),
+            bench: Bench::new(),
             room: vec![ROOM_FILLER; WIDEST_ROOM],
             count: 0,
             digest: PageDigest::new(),
@@ -32,7 +33,7 @@ impl Replay {
     /// False if the line is bad.
     pub fn obey(&mut self, line: &Line, out: &mut Vec<u8>) -> bool {
         if !line.is_output() {
-            return set(&mut self.terminal, line);
+            return set(&mut self.bench, line);
         }
         self.count += 1;
         push_number(out, self.count as usize);
@@ -41,6 +42,9 @@ impl Replay {
             Line::Step { byte, room } => self.step(*byte, *room, out),
             Line::Run { bytes, room } => self.run(bytes, *room, out),
             Line::Press { value, room } => self.press(*value, *room, out),
+            Line::Rebuild => self.rebuild(out),
+            Line::ListStep { byte, room } => self.list_step(*byte, *room, out),
+            Line::ListRun { bytes, room } => self.list_run(bytes, *room, out),
             Line::Count { reply, first, last } => {
                 out.extend_from_slice(b" count");
                 write_count(reply, *first, *last, out);
@@ -51,33 +55,70 @@ impl Replay {
             }
             _ => self.show(out),
         }
-        write_state(&self.terminal.state, out);
+        write_state(&self.bench.terminal.state, out);
         out.extend_from_slice(b" page=");
-        push_digest(out, self.digest.of(&self.terminal.page));
+        push_digest(out, self.digest.of(&self.bench.terminal.page));
         out.push(b'\n');
         true
     }
 
     fn on(&mut self, out: &mut Vec<u8>) {
-        let outcome = self.terminal.power_on();
+        let outcome = self.bench.terminal.power_on();
         out.extend_from_slice(b" on answer=");
         push_number(out, answer_number(outcome) as usize);
     }
 
     fn step(&mut self, byte: u8, room: usize, out: &mut Vec<u8>) {
-        let outcome = self.terminal.step(byte, &mut self.room[..room]);
+        let outcome = self.bench.terminal.step(byte, &mut self.room[..room]);
         out.extend_from_slice(b" step");
         self.write_outcome(outcome, room, out);
     }
 
     fn press(&mut self, value: u8, room: usize, out: &mut Vec<u8>) {
-        let outcome = self.terminal.press(value, &mut self.room[..room]);
+        let outcome = self.bench.terminal.press(value, &mut self.room[..room]);
         out.extend_from_slice(b" press");
         self.write_outcome(outcome, room, out);
     }
 
     fn run(&mut self, bytes: &[u8], room: usize, out: &mut Vec<u8>) {
-        let report = self.terminal.run(bytes, &mut self.room[..room]);
+        let report = self.bench.terminal.run(bytes, &mut self.room[..room]);
+        out.extend_from_slice(b" run");
+        self.write_report(report, room, out);
+    }
+
+    fn rebuild(&mut self, out: &mut Vec<u8>) {
+        let Bench { terminal, rows } = &mut self.bench;
+        let outcome = terminal.rebuild_rows(rows);
+        out.extend_from_slice(b" rebuild answer=");
+        push_number(out, answer_number(outcome) as usize);
+        self.write_rows(out);
+    }
+
+    fn list_step(&mut self, byte: u8, room: usize, out: &mut Vec<u8>) {
+        let Bench { terminal, rows } = &mut self.bench;
+        let outcome = terminal.step_with_rows(byte, &mut self.room[..room], rows);
+        out.extend_from_slice(b" liststep");
+        self.write_outcome(outcome, room, out);
+        self.write_rows(out);
+    }
+
+    fn list_run(&mut self, bytes: &[u8], room: usize, out: &mut Vec<u8>) {
+        let Bench { terminal, rows } = &mut self.bench;
+        let report = terminal.run_with_rows(bytes, &mut self.room[..room], rows);
+        out.extend_from_slice(b" listrun");
+        self.write_report(report, room, out);
+        self.write_rows(out);
+    }
+
+    fn write_rows(&self, out: &mut Vec<u8>) {
+        out.extend_from_slice(b" rows=");
+        if self.bench.rows.is_empty() {
+            out.push(b'-');
+        }
+        push_list(out, self.bench.rows.iter().copied());
+    }
+
+    fn write_report(&mut self, report: Run, room: usize, out: &mut Vec<u8>) {
         let Run {
             answer,
             taken,
@@ -85,7 +126,7 @@ impl Replay {
             refused,
             rest,
         } = report;
-        out.extend_from_slice(b" run answer=");
+        out.extend_from_slice(b" answer=");
         push_number(out, answer as usize);
         out.extend_from_slice(b" taken=");
         push_number(out, taken);
@@ -100,12 +141,7 @@ impl Replay {
 
     fn show(&mut self, out: &mut Vec<u8>) {
         out.extend_from_slice(b" show cells=");
-        for (index, cell) in self.terminal.page.iter().enumerate() {
-            if index > 0 {
-                out.push(b',');
-            }
-            push_number(out, cell.0 as usize);
-        }
+        push_list(out, self.bench.terminal.page.iter().map(|cell| cell.0));
     }
 
     fn write_outcome(&mut self, outcome: Outcome, room: usize, out: &mut Vec<u8>) {

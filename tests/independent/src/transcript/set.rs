@@ -1,5 +1,6 @@
 //! Lines that set something.
 
+use super::bench::Bench;
 use super::line::Line;
 use crate::state::{key_number, Cell, Sequence, State, Text, CELLS};
 use crate::terminal::Terminal;
@@ -8,9 +9,10 @@ use crate::terminal::Terminal;
 const PAST_KEY_TEXT: &[u8] = &[0x30; 9];
 const BAD_CHARACTER: &[u8] = &[0x00];
 
-/// Obeys a line that sets something. False if it doesn't fit the page or has
-/// a sequence that is not in its one spelling.
-pub fn set(terminal: &mut Terminal, line: &Line) -> bool {
+/// Obeys a line that sets something. False if it doesn't fit the page or a list,
+/// or has a sequence that is not in its one spelling.
+pub fn set(bench: &mut Bench, line: &Line) -> bool {
+    let Bench { terminal, rows } = bench;
     let Terminal { page, state } = terminal;
     match line {
         Line::Length(count) => *page = vec![Cell::NULL; *count],
@@ -43,6 +45,11 @@ pub fn set(terminal: &mut Terminal, line: &Line) -> bool {
         Line::Message(bytes) => state.message = Text::holding(bytes),
         Line::Label { label, bytes } => state.labels[*label] = Text::holding(bytes),
         Line::Shifted(on) => state.shifted = *on,
+        Line::Rows(count) => *rows = vec![0; *count],
+        Line::Row { index, value } => match rows.get_mut(*index) {
+            Some(number) => *number = *value,
+            None => return false,
+        },
         _ => return false,
     }
     true

@@ -26,6 +26,16 @@ pub fn push_bytes(out: &mut Vec<u8>, bytes: &[u8]) {
     }
 }
 
+/// Numbers parted by commas.
+pub fn push_list(out: &mut Vec<u8>, numbers: impl Iterator<Item = u16>) {
+    for (place, number) in numbers.enumerate() {
+        if place > 0 {
+            out.push(b',');
+        }
+        push_number(out, number as usize);
+    }
+}
+
 pub fn push_digest(out: &mut Vec<u8>, digest: u64) {
     for byte in digest.to_be_bytes() {
         push_hex(out, byte);

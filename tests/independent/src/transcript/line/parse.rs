@@ -5,6 +5,7 @@ use crate::state::{COLUMNS, KEYS, LABELS};
 use crate::transcript::words::*;
 
 const LONGEST_PAGE: usize = 4000;
+const LONGEST_LIST: usize = 4000;
 
 impl Line {
     pub fn parse(text: &str) -> Option<Line> {
@@ -59,6 +60,11 @@ impl Line {
                 bytes: text_bytes(words.next()?)?,
             },
             "shifted" => Line::Shifted(flag(words.next()?)?),
+            "rows" => Line::Rows(number(words.next()?, LONGEST_LIST)?),
+            "row" => Line::Row {
+                index: number(words.next()?, LONGEST_LIST)?,
+                value: number(words.next()?, 0xFFFF)? as u16,
+            },
             "on" => Line::On,
             "step" => Line::Step {
                 byte: hex_byte(words.next()?)?,
@@ -73,6 +79,15 @@ impl Line {
                 room: room(words.next()?)?,
             },
             "show" => Line::Show,
+            "rebuild" => Line::Rebuild,
+            "liststep" => Line::ListStep {
+                byte: hex_byte(words.next()?)?,
+                room: room(words.next()?)?,
+            },
+            "listrun" => Line::ListRun {
+                bytes: hex(words.next()?)?,
+                room: room(words.next()?)?,
+            },
             "count" => Line::Count {
                 reply: hex(words.next()?)?,
                 first: number(words.next()?, usize::MAX)?,

@@ -41,6 +41,8 @@ impl Line {
                 push_bytes(out, bytes);
             }
             Line::Shifted(on) => word(out, &format!("shifted {}", *on as u8)),
+            Line::Rows(count) => word(out, &format!("rows {count}")),
+            Line::Row { index, value } => word(out, &format!("row {index} {value}")),
             Line::On => word(out, "on"),
             Line::Step { byte, room } => word(out, &format!("step {byte:02x} {room}")),
             Line::Run { bytes, room } => {
@@ -54,6 +56,13 @@ impl Line {
                 word(out, "count ");
                 push_bytes(out, reply);
                 word(out, &format!(" {first} {last}"));
+            }
+            Line::Rebuild => word(out, "rebuild"),
+            Line::ListStep { byte, room } => word(out, &format!("liststep {byte:02x} {room}")),
+            Line::ListRun { bytes, room } => {
+                word(out, "listrun ");
+                push_bytes(out, bytes);
+                word(out, &format!(" {room}"));
             }
             Line::Entry(text) => {
                 word(out, "entry ");
