@@ -5,7 +5,7 @@
  * different threads.
  *
  * Every call returns, whatever numbers it is handed. It relies on this much of its caller: a pointer goes with a count of elements, is not
- * NULL even where the count is 0, and points to that many; and the page, the input and the reply room do not overlap.
+ * NULL even where the count is 0, and points to that many; and the page, the row list, the input and the reply room do not overlap.
  */
 #ifndef WY50_H
 #define WY50_H
@@ -21,6 +21,7 @@ enum {
     WY50_ROWS = 24,
     WY50_COLUMNS = 80,
     WY50_CELLS = 1920,         /* the page, in reading order */
+    WY50_ROW_NUMBERS = 48,     /* a row list: two numbers for each row */
     WY50_LONGEST_REPLY = 1944, /* a step that has this room is never answered 6 */
     WY50_KEYS = 32,
     WY50_KEY_BYTES = 8,
@@ -38,7 +39,7 @@ enum {
     WY50_BARRED = 4,       /* a guarded cell or protect mode bars it; the sequence is cleared */
                            /* 5 is unused: 32 keys of 8 bytes are never over 256 */
     WY50_NO_ROOM = 6,      /* the reply is longer than the room; nothing changed, the byte may come again */
-    WY50_BAD_CALL = 7,     /* the page is not 1,920 cells long, or the state is not possible; nothing changed */
+    WY50_BAD_CALL = 7,     /* the page is not 1,920 cells long, the state is not possible, or the row list is not the page's; nothing changed */
     WY50_LOCKED = 8        /* a key is pressed while the keyboard is locked; nothing changed */
 };
 
@@ -186,6 +187,24 @@ wy50_run_result wy50_run(uint16_t *page, size_t page_len, wy50_state state, cons
 /* A function key is pressed: 40h to 4Fh or 60h to 6Fh. The reply is its bytes; 01h key 0Dh if it is not programmed. The page is only
  * measured, and neither it nor the state changes. */
 wy50_press_result wy50_press(const uint16_t *page, size_t page_len, wy50_state state, uint8_t key, uint8_t *reply, size_t reply_len);
+
+/* The step and the run with a row list, which says what room each row has, so that settling skips the rows that have none. It has two numbers
+ * for each row from the top: how many of its cells are open, and the column of the first one, counted from 1, or 0. While protect mode is off
+ * each row has 80, 1. The list belongs to the page and protect mode and is kept in step with them: answer, page, state, reply and counts are
+ * those that wy50_step and wy50_run give. Power-on and the key press take none.
+ *
+ * A list that is not 48 numbers long, or that disagrees with the page or protect mode, answers 7, and it too is left as it was. After every
+ * other answer it agrees. Rebuild it after power-on, after a step or run without it, and where the program itself changes page or state.
+ *
+ * Each call checks the whole list. A single step seldom earns that back: a list pays in runs, on forms with rows of labels alone. */
+wy50_step_result wy50_step_rows(uint16_t *page, size_t page_len, uint16_t *rows, size_t rows_len, wy50_state state, uint8_t byte, uint8_t *reply,
+                                size_t reply_len);
+wy50_run_result wy50_run_rows(uint16_t *page, size_t page_len, uint16_t *rows, size_t rows_len, wy50_state state, const uint8_t *input,
+                              size_t input_len, uint8_t *reply, size_t reply_len);
+
+/* The row list made anew, whatever it held. Answers 0, or 7 for a list that is not 48 numbers long, a page of another length than 1,920 and a
+ * state that is not possible; then the list is left as it was. The page is only read. */
+uint8_t wy50_rebuild_rows(const uint16_t *page, size_t page_len, uint16_t *rows, size_t rows_len, wy50_state state);
 
 /* What a cell's number says: its code, 0 to 127; whether it is protected, 0 or 1; its kind; and the byte that a send gives for it, which
  * is the code of a text cell from 20h to 7Eh and 20h for any other cell. */

@@ -1,11 +1,12 @@
-/* Checks the C face: that header and library agree on every member, cases 1 to 12 of the bench list, and that numbers which are no possible
- * state are answered 7 and given back as they came. Compiles as C99 and as C++. Prints one line for each part, and fails by its status. */
+/* Checks the C face: that header and library agree on every member, cases 1 to 12 of the bench list, that a row list changes no result and is
+ * kept right, and that numbers which are no possible state are answered 7 and given back as they came. Compiles as C99 and as C++. Prints one
+ * line for each part, and fails by its status. */
 #include "wy50.h"
 
 #include <stdio.h>
 #include <string.h>
 
-static uint16_t page[WY50_CELLS];
+static uint16_t page[WY50_CELLS], rows[WY50_ROW_NUMBERS + 1];
 static uint8_t reply[WY50_LONGEST_REPLY];
 static wy50_state state;
 static int failures, part_failures;
@@ -85,6 +86,7 @@ static void layout(void)
     CHECK(sizeof(wy50_step_result) == 656);
     CHECK(sizeof(wy50_run_result) == 672);
     CHECK(sizeof(wy50_press_result) == 16);
+    CHECK(WY50_CELLS == WY50_ROWS * WY50_COLUMNS && WY50_ROW_NUMBERS == 2 * WY50_ROWS);
     part("sizes and offsets");
 }
 
@@ -333,7 +335,181 @@ static void bench(void)
     part("the readers of a cell, for every number");
 }
 
-/* A state that is not possible, or a page of another length: 7 from every call, and nothing is changed. */
+/* The row list of the page, counted here. */
+static void count_rows(uint16_t *list, int protect)
+{
+    int row, column;
+    for (row = 0; row < WY50_ROWS; row++) {
+        const uint16_t *cells = page + row * WY50_COLUMNS;
+        list[2 * row] = list[2 * row + 1] = 0;
+        for (column = WY50_COLUMNS; column > 0; column--) {
+            if (!protect || cells[column - 1] / 128 % 2 == 0) {
+                list[2 * row]++;
+                list[2 * row + 1] = (uint16_t)column;
+            }
+        }
+    }
+}
+
+static int rows_are_right(void)
+{
+    uint16_t right[WY50_ROW_NUMBERS];
+    count_rows(right, state.modes.protect);
+    return memcmp(rows, right, sizeof right) == 0;
+}
+
+static int row_has(int row, int open, int first)
+{
+    return rows[2 * row - 2] == open && rows[2 * row - 1] == first;
+}
+
+static uint16_t other_page[WY50_CELLS];
+static uint8_t other_reply[WY50_LONGEST_REPLY];
+
+static void copy_page(void)
+{
+    memcpy(other_page, page, sizeof page);
+    memset(reply, 0x55, sizeof reply);
+    memset(other_reply, 0x55, sizeof other_reply);
+}
+
+static int same_page_and_reply(void)
+{
+    return memcmp(other_page, page, sizeof page) == 0 && memcmp(other_reply, reply, sizeof reply) == 0;
+}
+
+/* Host bytes as one run with a row list and without it, and then, from where they began, one at a time; the answer of the last. */
+static int feed_both(const char *bytes, size_t n, size_t room)
+{
+    static uint16_t page_before[WY50_CELLS], rows_before[WY50_ROW_NUMBERS];
+    const uint8_t *input = (const uint8_t *)bytes;
+    wy50_state before = state;
+    wy50_run_result r, without;
+    size_t i;
+    int answer = -1;
+    memcpy(page_before, page, sizeof page_before);
+    memcpy(rows_before, rows, sizeof rows_before);
+    copy_page();
+    r = wy50_run_rows(page, WY50_CELLS, rows, WY50_ROW_NUMBERS, state, input, n, reply, room);
+    without = wy50_run(other_page, WY50_CELLS, state, input, n, other_reply, room);
+    CHECK(r.answer != WY50_BAD_CALL && r.answer == without.answer && r.taken == without.taken && r.replied == without.replied);
+    CHECK(r.refused == without.refused && same(&r.state, &without.state) && same_page_and_reply());
+    state = r.state;
+    CHECK(rows_are_right());
+    memcpy(page, page_before, sizeof page_before);
+    memcpy(rows, rows_before, sizeof rows_before);
+    state = before;
+    for (i = 0; i < n; i++) {
+        wy50_step_result s, alone;
+        copy_page();
+        s = wy50_step_rows(page, WY50_CELLS, rows, WY50_ROW_NUMBERS, state, input[i], reply, room);
+        alone = wy50_step(other_page, WY50_CELLS, state, input[i], other_reply, room);
+        CHECK(s.answer != WY50_BAD_CALL && s.answer == alone.answer && s.replied == alone.replied && same(&s.state, &alone.state));
+        CHECK(same_page_and_reply());
+        state = s.state;
+        answer = s.answer;
+        CHECK(rows_are_right());
+    }
+    return answer;
+}
+#define FEED_BOTH(s) feed_both(s, sizeof(s) - 1, sizeof reply)
+
+/* The step and the run with the list refuse, the run over no bytes too, and nothing is changed. */
+static void refused_rows(const wy50_state *x, size_t page_len, size_t rows_len)
+{
+    static const uint8_t input[] = "A\005\033?";
+    uint16_t rows_before[WY50_ROW_NUMBERS + 1];
+    size_t n;
+    wy50_step_result s;
+    copy_page();
+    memcpy(rows_before, rows, sizeof rows);
+    s = wy50_step_rows(page, page_len, rows, rows_len, *x, 5, reply, sizeof reply);
+    CHECK(s.answer == WY50_BAD_CALL && s.replied == 0 && same(&s.state, x));
+    for (n = 0; n <= 4; n += 4) {
+        wy50_run_result r = wy50_run_rows(page, page_len, rows, rows_len, *x, input, n, reply, sizeof reply);
+        CHECK(r.answer == WY50_BAD_CALL && r.taken == 0 && r.replied == 0 && r.refused == 0 && same(&r.state, x));
+    }
+    CHECK(same_page_and_reply() && memcmp(rows, rows_before, sizeof rows) == 0);
+}
+
+static int rebuilt(void)
+{
+    return wy50_rebuild_rows(page, WY50_CELLS, rows, WY50_ROW_NUMBERS, state) == WY50_DONE && rows_are_right();
+}
+
+/* The rebuild refuses and leaves the list. */
+static int rebuild_refused(const wy50_state *x, size_t page_len, size_t rows_len)
+{
+    uint16_t before[WY50_ROW_NUMBERS + 1];
+    memcpy(before, rows, sizeof rows);
+    return wy50_rebuild_rows(page, page_len, rows, rows_len, *x) == WY50_BAD_CALL && memcmp(rows, before, sizeof rows) == 0;
+}
+
+static void row_lists(void)
+{
+    int i;
+    power_on();
+    memset(rows, 0xff, sizeof rows);
+    CHECK(rebuilt() && rows[WY50_ROW_NUMBERS] == 0xffff);
+    for (i = 1; i <= WY50_ROWS; i++)
+        CHECK(row_has(i, 80, 1));
+    CHECK(FEED_BOTH("\033,\033(\033= \x25""dark \033=\x37\x6f\033T\033=\x20\x6f\033T") == WY50_DONE && row_has(1, 80, 1));
+    CHECK(FEED_BOTH("\033&") == WY50_DONE && row_has(1, 6, 6) && row_has(2, 0, 0) && row_has(23, 0, 0) && row_has(24, 1, 80));
+    CHECK(FEED_BOTH("\036light") == WY50_DONE && state.screen.cursor0 == 79);
+    CHECK(FEED_BOTH("!\r") == WY50_DONE && state.screen.cursor0 == 1919);
+    CHECK(FEED_BOTH("\033)\036A") == WY50_DONE && row_has(1, 5, 7) && state.screen.cursor0 == 6);
+    CHECK(FEED_BOTH("\033'") == WY50_DONE && row_has(1, 80, 1) && row_has(2, 80, 1));
+    part("a row list by its numbers");
+
+    power_on();
+    CHECK(rebuilt());
+    FEED_BOTH("\033,\033(\033=\x22\x25""Guji   \033=\x29\x23""dark\033=\x29\x43""24 bags\033&\036");
+    FEED_BOTH("Sidamo, washed, and more than there is room for in every field of the form");
+    FEED_BOTH("\033q\036in\033r\033Q\033W\033=\x29\x24\033R\033E\033j\n\n\r\b\t\033I\x0b\x0c\037");
+    FEED_BOTH("\036\033)closed as it is written\033(\0334\0335\0336\0337\033M\033b\033?");
+    FEED_BOTH("\033x1\x29\036\033J\036here\033}\036there\033]\033-1  \033-1\x2a\x25\033x0");
+    FEED_BOTH("\036\033T\033Y\033t\033y\033;\033:\033!4\033.x\033V");
+    FEED_BOTH("\033'\033q\036shifts the row\033Q\033W\033r\033R\033E\033j\033=\x37 \n\n\n\033V\033&\036");
+    FEED_BOTH("\033'\033*\033&\036A\033'\033+\033&\036A\033,\033&A\036\033'");
+    part("a run and its steps with a row list and without one: the same results, and the list is right");
+
+    power_on();
+    CHECK(rebuilt());
+    FEED_BOTH("\033,\033(\033=\x22\x25""Guji   \033&");
+    CHECK(feed_both("\xe9", 1, 0) == WY50_HIGH_BYTE);
+    CHECK(feed_both("\033\1", 2, 0) == WY50_UNKNOWN);
+    CHECK(feed_both("\033=\x38 ", 4, 0) == WY50_BAD_ARGUMENT);
+    CHECK(feed_both("\033E", 2, 0) == WY50_BARRED);
+    CHECK(feed_both("\005\005\033?", 4, 2) == WY50_NO_ROOM);
+    CHECK(feed_both("?", 1, 3) == WY50_DONE);
+    part("a row list is right after every answer");
+
+    power_on();
+    FEED("\033,\033(\033=\x22\x25""Guji   \033=\x37\x6f\033T\033&");
+    count_rows(rows, 1);
+    rows[WY50_ROW_NUMBERS] = 0;
+    for (i = 0; i < WY50_ROW_NUMBERS; i++) {
+        rows[i]++;
+        refused_rows(&state, WY50_CELLS, WY50_ROW_NUMBERS);
+        rows[i] = (uint16_t)(rows[i] - 2);
+        refused_rows(&state, WY50_CELLS, WY50_ROW_NUMBERS);
+        rows[i]++;
+    }
+    refused_rows(&state, WY50_CELLS, WY50_ROW_NUMBERS - 1);
+    refused_rows(&state, WY50_CELLS, WY50_ROW_NUMBERS + 1);
+    refused_rows(&state, WY50_CELLS, 0);
+    count_rows(rows, 0);
+    refused_rows(&state, WY50_CELLS, WY50_ROW_NUMBERS);
+    memset(rows, 0, sizeof rows);
+    refused_rows(&state, WY50_CELLS, WY50_ROW_NUMBERS);
+    CHECK(rebuild_refused(&state, WY50_CELLS, WY50_ROW_NUMBERS - 1) && rebuild_refused(&state, WY50_CELLS, WY50_ROW_NUMBERS + 1));
+    CHECK(rebuild_refused(&state, WY50_CELLS, 0));
+    CHECK(rebuilt() && row_has(3, 7, 6) && row_has(24, 1, 80));
+    CHECK(FEED_BOTH("\036Sidamo!") == WY50_DONE && state.screen.cursor0 == 1919);
+    part("a row list that is not right: 7, and nothing changed; the rebuild mends it");
+}
+
+/* A state that is not possible, or a page of another length: 7 from every call, and nothing is changed, though the row list is right. */
 static void refused(const wy50_state *x, size_t page_len)
 {
     static const uint8_t input[] = "A\005\033?";
@@ -354,6 +530,10 @@ static void refused(const wy50_state *x, size_t page_len)
     CHECK(memcmp(page, before, sizeof page) == 0);
     for (i = 0; i < sizeof reply; i++)
         CHECK(reply[i] == 0x55);
+    count_rows(rows, x->modes.protect);
+    refused_rows(x, page_len, WY50_ROW_NUMBERS);
+    memset(rows, 0x55, sizeof rows);
+    CHECK(rebuild_refused(x, page_len, WY50_ROW_NUMBERS));
 }
 #define REFUSED(change)                  \
     do {                                 \
@@ -450,6 +630,7 @@ int main(void)
     members();
     round_trip();
     bench();
+    row_lists();
     impossible();
     if (failures)
         printf("%d parts FAILED\n", failures);
