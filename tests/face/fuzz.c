@@ -1,4 +1,4 @@
-/* Calls the library with random pages, states, bytes and rooms, and checks what holds of every call. Compiled with the address and undefined
+/* Calls the library with random pages, states, bytes, rooms and row lists, and checks what holds of every call. Compiled with the address and undefined
  * behaviour sanitizers. Each buffer lies against a page of memory that may not be touched, before it or behind it by turns, and has guard
  * bytes on its other side.
  *
@@ -14,9 +14,9 @@
 #include <time.h>
 #include <unistd.h>
 
-enum { MOST_ROOM = 2000, MOST_INPUT = 600, MOST_PAGE = 2100, GUARD = 64 };
+enum { MOST_ROOM = 2000, MOST_INPUT = 600, MOST_PAGE = 2100, MOST_ROWS = 60, GUARD = 64 };
 
-static uint64_t seed, calls, bytes, turns, answered_7, replies;
+static uint64_t seed, calls, bytes, turns, answered_7, replies, lists, wrong_lists;
 
 static uint64_t next(void)
 {
@@ -184,6 +184,102 @@ static void repeated(size_t cells, wy50_state x, const uint8_t *input, size_t n,
     calls += taken;
 }
 
+/* What a call with a row list is lent: the page and the room as the call without it found them, and a list. */
+static buffer lent_page_buffer, lent_reply_buffer, rows_buffer;
+static uint16_t *lent_page, *rows, rows_before[MOST_ROWS];
+static uint8_t *lent_reply;
+static size_t rows_len;
+
+/* The row list of a page, counted here. */
+static void count_rows(uint16_t *list, const uint16_t *page, int protect)
+{
+    int row, column;
+    for (row = 0; row < WY50_ROWS; row++) {
+        list[2 * row] = list[2 * row + 1] = 0;
+        for (column = WY50_COLUMNS; column > 0; column--) {
+            if (!protect || page[row * WY50_COLUMNS + column - 1] / 128 % 2 == 0) {
+                list[2 * row]++;
+                list[2 * row + 1] = (uint16_t)column;
+            }
+        }
+    }
+}
+
+/* Lends them, with the right list or, by turns, one with a number off, of another length, or of any numbers. Whether it is right. */
+static int lend(size_t cells, size_t room, const wy50_state *x)
+{
+    uint16_t right[WY50_ROW_NUMBERS];
+    size_t i, k = below(12);
+    int is_right;
+    lent_page = (uint16_t *)place(&lent_page_buffer, cells * sizeof *lent_page);
+    lent_reply = (uint8_t *)place(&lent_reply_buffer, room);
+    memcpy(lent_page, page_before, cells * sizeof *lent_page);
+    memcpy(lent_reply, room_before, room);
+    count_rows(right, page_before, x->modes.protect);
+    rows_len = k == 0 ? below(MOST_ROWS + 1) : WY50_ROW_NUMBERS;
+    rows = (uint16_t *)place(&rows_buffer, rows_len * sizeof *rows);
+    for (i = 0; i < rows_len; i++)
+        rows[i] = k == 1 || i >= WY50_ROW_NUMBERS ? (uint16_t)next() : right[i];
+    if (k == 2)
+        rows[below(WY50_ROW_NUMBERS)] ^= (uint16_t)(1 << below(16));
+    memcpy(rows_before, rows, rows_len * sizeof *rows);
+    is_right = rows_len == WY50_ROW_NUMBERS && memcmp(rows, right, sizeof right) == 0;
+    lists++;
+    wrong_lists += !is_right;
+    calls++;
+    return is_right;
+}
+
+/* The call gave this page and this room. The list is right after every answer but 7, which left it. */
+static void lent(size_t cells, const uint16_t *page, size_t room, const uint8_t *reply, int answer, const wy50_state *x)
+{
+    expect(memcmp(lent_page, page, cells * sizeof *page) == 0, "a row list does not change the page");
+    expect(memcmp(lent_reply, reply, room) == 0, "a row list does not change the reply");
+    if (answer != WY50_BAD_CALL)
+        count_rows(rows_before, lent_page, x->modes.protect);
+    expect(memcmp(rows, rows_before, rows_len * sizeof *rows) == 0, "the row list is right, and 7 leaves it");
+    untouched(&lent_page_buffer);
+    untouched(&lent_reply_buffer);
+    untouched(&rows_buffer);
+}
+
+/* The step and the run again, with a row list: what they gave without it, but 7 and nothing if the list is wrong. */
+static void listed_step(size_t cells, wy50_state x, uint8_t byte, size_t room, wy50_step_result r, const uint16_t *page, const uint8_t *reply)
+{
+    int right = lend(cells, room, &x);
+    wy50_step_result s = wy50_step_rows(lent_page, cells, rows, rows_len, x, byte, lent_reply, room);
+    if (!right) {
+        r.answer = WY50_BAD_CALL;
+        r.replied = 0;
+        r.state = x;
+    }
+    expect(s.answer == r.answer && s.replied == r.replied && same(&s.state, &r.state), "a step with a row list gives what it gives without");
+    lent(cells, right ? page : page_before, room, right ? reply : room_before, s.answer, &s.state);
+}
+
+static void listed_run(size_t cells, wy50_state x, const uint8_t *input, size_t n, size_t room, wy50_run_result r, const uint16_t *page, const uint8_t *reply)
+{
+    int right = lend(cells, room, &x);
+    wy50_run_result s = wy50_run_rows(lent_page, cells, rows, rows_len, x, input, n, lent_reply, room);
+    if (!right) {
+        r.answer = WY50_BAD_CALL;
+        r.taken = r.replied = r.refused = 0;
+        r.state = x;
+    }
+    expect(s.answer == r.answer && same(&s.state, &r.state), "a run with a row list gives what it gives without");
+    expect(s.taken == r.taken && s.replied == r.replied && s.refused == r.refused, "a run with a row list counts as it does without");
+    lent(cells, right ? page : page_before, room, right ? reply : room_before, s.answer, &s.state);
+}
+
+static void rebuilt(size_t cells, wy50_state x)
+{
+    int answer;
+    lend(cells, 0, &x);
+    answer = wy50_step(lent_page, cells, x, 0xe9, lent_reply, 0).answer == WY50_BAD_CALL || rows_len != WY50_ROW_NUMBERS ? WY50_BAD_CALL : WY50_DONE;
+    expect(wy50_rebuild_rows(lent_page, cells, rows, rows_len, x) == answer, "the rebuild answers 7 exactly for a bad length or state");
+    lent(cells, page_before, 0, room_before, answer, &x);
+}
+
 static wy50_state turn(wy50_state last, uint16_t *kept)
 {
     size_t i, cells = below(20) ? WY50_CELLS : below(MOST_PAGE + 1);
@@ -205,7 +301,7 @@ static wy50_state turn(wy50_state last, uint16_t *kept)
     memcpy(page_before, page, cells * sizeof *page);
     memcpy(room_before, reply, room);
 
-    switch (below(4)) {
+    switch (below(5)) {
     case 0: {
         uint8_t b = (uint8_t)(below(4) ? below(128) : next());
         wy50_step_result r = wy50_step(page, cells, x, b, reply, room);
@@ -214,6 +310,7 @@ static wy50_state turn(wy50_state last, uint16_t *kept)
         expect(r.answer <= 7, "a step answers 0 to 7");
         expect(r.answer == 0 || (r.replied == 0 && memcmp(page, page_before, cells * sizeof *page) == 0), "a refusal replies and writes nothing");
         expect(r.answer != 7 || same(&r.state, &x), "7 leaves the state, bytes that mean nothing too");
+        listed_step(cells, x, b, room, r, page, reply);
         x = tidied(x);
         expect((r.answer != 1 && r.answer != 6) || same(&r.state, &x), "1 and 6 leave the state");
         answered_7 += r.answer == 7;
@@ -230,6 +327,9 @@ static wy50_state turn(wy50_state last, uint16_t *kept)
         answered_7 += r.answer == 7;
         break;
     }
+    case 2:
+        rebuilt(cells, x);
+        break;
     default: {
         uint8_t text[MOST_INPUT];
         wy50_run_result r;
@@ -248,6 +348,7 @@ static wy50_state turn(wy50_state last, uint16_t *kept)
         expect(memcmp(input, text, n) == 0, "the input is not written");
         untouched(&input_buffer);
         repeated(cells, x, input, n, room, &r, page, reply);
+        listed_run(cells, x, input, n, room, r, page, reply);
         answered_7 += r.answer == 7;
         last = r.answer == 7 ? last : r.state;
         break;
@@ -274,6 +375,9 @@ int main(int argc, char **argv)
     page_buffer = make(MOST_PAGE * sizeof *kept);
     reply_buffer = make(MOST_ROOM);
     input_buffer = make(MOST_INPUT);
+    lent_page_buffer = make(MOST_PAGE * sizeof *kept);
+    lent_reply_buffer = make(MOST_ROOM);
+    rows_buffer = make(MOST_ROWS * sizeof *kept);
     last = wy50_power_on(kept, WY50_CELLS).state;
     do {
         if (turns % 5000 == 0)
@@ -282,8 +386,8 @@ int main(int argc, char **argv)
         turns++;
         clock_gettime(CLOCK_MONOTONIC, &to);
     } while ((double)(to.tv_sec - from.tv_sec) + 1e-9 * (double)(to.tv_nsec - from.tv_nsec) < seconds);
-    printf("fuzz: nothing found in %.0f seconds: %llu turns (%llu answered 7), %llu calls, %llu host bytes, %llu reply bytes (seed %llu)\n", seconds,
-        (unsigned long long)turns, (unsigned long long)answered_7, (unsigned long long)calls, (unsigned long long)bytes, (unsigned long long)replies,
-        (unsigned long long)seed);
+    printf("fuzz: nothing found in %.0f seconds: %llu turns (%llu answered 7), %llu row lists (%llu wrong), %llu calls, %llu host bytes, %llu reply bytes (seed %llu)\n",
+        seconds, (unsigned long long)turns, (unsigned long long)answered_7, (unsigned long long)lists, (unsigned long long)wrong_lists,
+        (unsigned long long)calls, (unsigned long long)bytes, (unsigned long long)replies, (unsigned long long)seed);
     return 0;
 }
