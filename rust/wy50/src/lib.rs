@@ -11,6 +11,8 @@
 //! assert_eq!(terminal.rows().next().unwrap().to_string().trim_end(), "Hello");
 //! ```
 //!
+//! [`Terminal::with_row_list`] takes long feeds faster over forms that are mostly labels, and changes nothing else.
+//!
 //! It links the proved library libwy50.a (see `build.rs`), which keeps nothing between calls and allocates nothing; neither does this crate.
 #![no_std]
 
@@ -27,6 +29,8 @@ pub const ROWS: usize = 24;
 pub const COLUMNS: usize = 80;
 /// The page, in reading order.
 pub const CELLS: usize = ROWS * COLUMNS;
+/// A row list: two numbers for each row.
+pub const ROW_NUMBERS: usize = 2 * ROWS;
 /// A byte that has this room for its reply is never answered [`Answer::NoRoom`].
 pub const LONGEST_REPLY: usize = 1944;
 /// The longest host message.
@@ -57,11 +61,12 @@ pub struct Replied {
     pub replied: usize,
 }
 
-/// A terminal: its page and its state.
-#[derive(Clone, PartialEq, Eq)]
+/// A terminal: its page and its state. Two are equal if these are: a row list follows from them.
+#[derive(Clone)]
 pub struct Terminal {
     page: [u16; CELLS],
     state: State,
+    row_list: Option<[u16; ROW_NUMBERS]>,
 }
 
 impl Terminal {
@@ -69,25 +74,52 @@ impl Terminal {
     pub fn new() -> Self {
         let mut page = [0; CELLS];
         let state = sys::power_on(&mut page).state;
-        Terminal { page, state }
+        Terminal { page, state, row_list: None }
     }
 
     /// A terminal with this page and state, as [`page`](Self::page) and [`state`](Self::state) gave them. A state that is not possible
     /// does no harm: every call answers [`Answer::BadCall`] and changes nothing.
     pub fn from_parts(page: [u16; CELLS], state: State) -> Self {
-        Terminal { page, state }
+        Terminal { page, state, row_list: None }
+    }
+
+    /// The same terminal with a row list, which it keeps from now on: where the cursor settles, rows without an open cell are skipped. Every
+    /// answer, count, reply, page and state is the same with it as without.
+    ///
+    /// Each call checks the whole list, so it pays in long [`feed`](Self::feed)s over forms with rows of labels alone, and seldom in a
+    /// [`step`](Self::step). For a state that is not possible there is no list.
+    ///
+    /// ```
+    /// use wy50::{Terminal, CELLS};
+    ///
+    /// let mut terminal = Terminal::new().with_row_list();
+    /// let fed = terminal.feed(b"\x1b,\x1b=\x37\x6f\x1bT\x1b&\x1e", &mut []); // only the last cell is open, and the cursor goes home
+    /// assert_eq!((fed.refused, terminal.cursor()), (0, CELLS - 1));
+    /// assert_eq!(terminal.row_list().unwrap()[44..], [0, 0, 1, 80]); // rows 23 and 24
+    /// ```
+    pub fn with_row_list(mut self) -> Self {
+        let mut list = [0; ROW_NUMBERS];
+        let answer = Answer::of(sys::rebuild_rows(&self.page, &mut list, self.state));
+        self.row_list = (answer == Answer::Done).then_some(list);
+        self
     }
 
     /// Bytes from the host. What they reply is put at the front of `reply`; what lies beyond it is not touched.
     pub fn feed<'a>(&mut self, bytes: &'a [u8], reply: &mut [u8]) -> Fed<'a> {
-        let ran = sys::run(&mut self.page, self.state, bytes, reply);
+        let ran = match &mut self.row_list {
+            Some(list) => sys::run_rows(&mut self.page, list, self.state, bytes, reply),
+            None => sys::run(&mut self.page, self.state, bytes, reply),
+        };
         self.state = ran.state;
         Fed { answer: Answer::of(ran.answer), taken: ran.taken, replied: ran.replied, refused: ran.refused, rest: &bytes[ran.taken..] }
     }
 
     /// One byte from the host, with its own answer.
     pub fn step(&mut self, byte: u8, reply: &mut [u8]) -> Replied {
-        let stepped = sys::step(&mut self.page, self.state, byte, reply);
+        let stepped = match &mut self.row_list {
+            Some(list) => sys::step_rows(&mut self.page, list, self.state, byte, reply),
+            None => sys::step(&mut self.page, self.state, byte, reply),
+        };
         self.state = stepped.state;
         Replied { answer: Answer::of(stepped.answer), replied: stepped.replied }
     }
@@ -104,6 +136,11 @@ impl Terminal {
 
     pub fn state(&self) -> &State {
         &self.state
+    }
+
+    /// The row list, if it is kept: for each row the number of its open cells, then the column of the first one, from 1, or 0.
+    pub fn row_list(&self) -> Option<&[u16; ROW_NUMBERS]> {
+        self.row_list.as_ref()
     }
 
     /// The active cursor as a cell of the page, from 0.
@@ -166,6 +203,14 @@ impl Default for Terminal {
         Terminal::new()
     }
 }
+
+impl PartialEq for Terminal {
+    fn eq(&self, other: &Self) -> bool {
+        self.page == other.page && self.state == other.state
+    }
+}
+
+impl Eq for Terminal {}
 
 /// The page as text, a line for each row; a cell is shown as a send gives it.
 impl fmt::Display for Terminal {

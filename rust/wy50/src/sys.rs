@@ -1,6 +1,6 @@
 //! What crosses to the library: the structs of include/wy50.h and its calls. All members are numbers, so every bit pattern is a value.
 
-use crate::{CELLS, COLUMNS, MESSAGE_BYTES};
+use crate::{CELLS, COLUMNS, MESSAGE_BYTES, ROW_NUMBERS};
 
 /// A function key or a key label: the first `len` of `bytes`.
 #[repr(C)]
@@ -116,6 +116,28 @@ mod linked {
             reply_len: usize,
         ) -> RawRun;
         pub fn wy50_press(page: *const u16, page_len: usize, state: State, key: u8, reply: *mut u8, reply_len: usize) -> RawPress;
+        pub fn wy50_step_rows(
+            page: *mut u16,
+            page_len: usize,
+            rows: *mut u16,
+            rows_len: usize,
+            state: State,
+            byte: u8,
+            reply: *mut u8,
+            reply_len: usize,
+        ) -> RawStep;
+        pub fn wy50_run_rows(
+            page: *mut u16,
+            page_len: usize,
+            rows: *mut u16,
+            rows_len: usize,
+            state: State,
+            input: *const u8,
+            input_len: usize,
+            reply: *mut u8,
+            reply_len: usize,
+        ) -> RawRun;
+        pub fn wy50_rebuild_rows(page: *const u16, page_len: usize, rows: *mut u16, rows_len: usize, state: State) -> u8;
         pub safe fn wy50_cell_code(cell: u16) -> u8;
         pub safe fn wy50_cell_protected(cell: u16) -> u8;
         pub safe fn wy50_cell_kind(cell: u16) -> u8;
@@ -145,4 +167,23 @@ pub fn run(page: &mut [u16; CELLS], state: State, input: &[u8], reply: &mut [u8]
 pub fn press(page: &[u16; CELLS], state: State, key: u8, reply: &mut [u8]) -> RawPress {
     // SAFETY: as above; the page is only read.
     unsafe { linked::wy50_press(page.as_ptr(), page.len(), state, key, reply.as_mut_ptr(), reply.len()) }
+}
+
+pub fn step_rows(page: &mut [u16; CELLS], rows: &mut [u16; ROW_NUMBERS], state: State, byte: u8, reply: &mut [u8]) -> RawStep {
+    let (page, page_len) = (page.as_mut_ptr(), page.len());
+    let (rows, rows_len) = (rows.as_mut_ptr(), rows.len());
+    // SAFETY: as above, for each of three slices.
+    unsafe { linked::wy50_step_rows(page, page_len, rows, rows_len, state, byte, reply.as_mut_ptr(), reply.len()) }
+}
+
+pub fn run_rows(page: &mut [u16; CELLS], rows: &mut [u16; ROW_NUMBERS], state: State, input: &[u8], reply: &mut [u8]) -> RawRun {
+    let (page, page_len) = (page.as_mut_ptr(), page.len());
+    let (rows, rows_len) = (rows.as_mut_ptr(), rows.len());
+    // SAFETY: as above; the input is only read.
+    unsafe { linked::wy50_run_rows(page, page_len, rows, rows_len, state, input.as_ptr(), input.len(), reply.as_mut_ptr(), reply.len()) }
+}
+
+pub fn rebuild_rows(page: &[u16; CELLS], rows: &mut [u16; ROW_NUMBERS], state: State) -> u8 {
+    // SAFETY: as above; the page is only read.
+    unsafe { linked::wy50_rebuild_rows(page.as_ptr(), page.len(), rows.as_mut_ptr(), rows.len(), state) }
 }

@@ -1,5 +1,5 @@
-//! The wrapper against the rules: the bench list where it is short, the tail handed back, rows, cells, fields and answers.
-use wy50::{Answer, Kind, Replied, State, Terminal, CELLS, COLUMNS, LONGEST_REPLY, ROWS};
+//! The wrapper against the rules: the bench list where it is short, the tail handed back, rows, cells, fields, answers and row lists.
+use wy50::{Answer, Cell, Kind, Replied, Row, State, Terminal, CELLS, COLUMNS, LONGEST_REPLY, ROWS, ROW_NUMBERS};
 
 /// Feeds all of it; the reply of all of it.
 fn fed(terminal: &mut Terminal, bytes: &[u8]) -> Vec<u8> {
@@ -151,4 +151,63 @@ fn fields() {
 fn answers() {
     assert_eq!((Answer::Done.number(), Answer::Locked.number()), (0, 8));
     assert_eq!(Answer::NoRoom.to_string(), "the reply does not fit");
+}
+
+/// The row list of a terminal, counted here.
+fn counted(t: &Terminal) -> Vec<u16> {
+    let open = |cell: Cell| !(t.protects() && cell.is_protected());
+    let numbers = |row: Row| [row.cells().filter(|&cell| open(cell)).count(), row.cells().position(open).map_or(0, |column| column + 1)];
+    t.rows().flat_map(numbers).map(|number| number as u16).collect()
+}
+
+/// A form, filled, closed while it is written, split, edited, cleared and opened again.
+const HOST: &[u8] = b"\x1b,\x1b(\x1b=\x22\x25Guji   \x1b=\x29\x23dark\x1b=\x29\x4324 bags\x1b&\x1eSidamo, washed, and more than there is room for\x1bq\
+    \x1ein\x1br\x1bQ\x1bW\x1bR\x1bj\n\n\r\x08\t\x1bI\x1b5\x1e\x1b)closed\x1b(\x1b4\x1b7\x1bx1\x29\x1e\x1bJ\x1ehere\x1b}\x1ethere\x1bx0\x1e\x1bT\x1bY\x1b;\
+    \xe9\x1b\x01\x1b=\x38 \x1b'\x1bE\x1bV\x1b&\x1eA\x1b'\x1b+\x1b&A\x1b,\x1b&A\x1b'";
+
+#[test]
+fn a_row_list_changes_no_result_and_is_kept() {
+    let (mut plain, mut listed) = (Terminal::new(), Terminal::new().with_row_list());
+    assert_eq!(listed.row_list(), Some(&std::array::from_fn(|i| if i % 2 == 0 { 80 } else { 1 })));
+    assert_eq!(plain.row_list(), None);
+    for length in [1, 2, 7, 100, HOST.len()] {
+        for mut bytes in HOST.chunks(length) {
+            while !bytes.is_empty() {
+                let (mut reply, mut other) = ([7; LONGEST_REPLY], [7; LONGEST_REPLY]);
+                let fed = listed.feed(bytes, &mut reply);
+                assert_eq!(fed, plain.feed(bytes, &mut other));
+                assert!(reply == other && listed == plain);
+                assert_eq!(listed.row_list().unwrap()[..], counted(&listed));
+                bytes = fed.rest;
+            }
+        }
+    }
+    for &byte in HOST {
+        let (mut reply, mut other) = ([7; 3], [7; 3]);
+        assert_eq!(listed.step(byte, &mut reply), plain.step(byte, &mut other));
+        assert!(reply == other && listed == plain);
+        assert_eq!(listed.row_list().unwrap()[..], counted(&listed));
+    }
+}
+
+#[test]
+fn a_row_list_at_any_time() {
+    let mut t = Terminal::new();
+    fed(&mut t, b"\x1b,\x1b=\x37\x6f\x1bT\x1b&");
+    let t = Terminal::from_parts(*t.page(), *t.state()).with_row_list();
+    let mut last = [0; ROW_NUMBERS];
+    last[46..].copy_from_slice(&[1, 80]);
+    assert_eq!(t.row_list(), Some(&last));
+    let mut again = t.clone().with_row_list();
+    fed(&mut again, b"\x1e\x1e!\x1b'");
+    assert_eq!((t.row_list(), again.row_list().map(|list| list[0])), (Some(&last), Some(80)));
+}
+
+#[test]
+fn an_impossible_state_has_no_row_list() {
+    let mut state = *Terminal::new().state();
+    state.screen.cursor0 = CELLS as u16;
+    let mut bad = Terminal::from_parts([0; CELLS], state).with_row_list();
+    assert_eq!(bad.row_list(), None);
+    assert_eq!((bad.feed(b"A", &mut []).answer, bad.step(b'A', &mut []).answer), (Answer::BadCall, Answer::BadCall));
 }
