@@ -1,5 +1,6 @@
 //! Times the proved terminal and the proved counter beside their peers, prints the tables, and writes them to the file that is named. It
-//! fails if the proved terminal and the independent implementation differ, or the counter and the plain loop.
+//! fails if the proved terminal and the independent implementation differ, or the counter and the plain loop, or if a row list makes a
+//! difference.
 
 mod peers;
 #[allow(dead_code)]
@@ -11,7 +12,8 @@ mod terminal;
 mod workloads;
 
 use peers::{
-    after, feed, floor_parts, play, proved_parts, Counter, Floor, Independent, Libvterm, Page, Peer, Proved, SendFloor, Sender, ShiftFloor, READ,
+    after, feed, floor_parts, play, proved_parts, Counter, Floor, Independent, Libvterm, Listed, Page, Peer, Proved, SendFloor, Sender,
+    ShiftFloor, READ,
 };
 use std::{
     fmt::Write,
@@ -19,7 +21,7 @@ use std::{
     process::{Command, ExitCode},
     time::Instant,
 };
-use workloads::{Shifts, Stream, Workload, ALERTS, SENDS, SHIFTS, WORKLOADS};
+use workloads::{Shifts, Stream, Workload, ALERTS, LISTED, SENDS, SHIFTS, WORKLOADS};
 use wy50::{Answer, State, Terminal, CELLS, LONGEST_REPLY};
 
 const ROUNDS: usize = 5;
@@ -32,6 +34,8 @@ const SEND_TURNS: usize = 2_000;
 const SEND_ROUNDS: usize = 50; // each is short
 const ALERT_BYTES: usize = 1_000_000;
 const ALERT_ROUNDS: usize = 50; // each is short
+const LIST_SIZE: usize = 100_000;
+const LIST_ROUNDS: usize = 50; // each is short
 
 /// Nanoseconds a byte, a row shift or a reply byte, where a peer has the workload.
 struct Row {
@@ -48,23 +52,32 @@ struct Counted {
     floor: f64,
 }
 
+/// Nanoseconds a byte with a row list and without one.
+struct ListRow {
+    name: &'static str,
+    with: f64,
+    without: f64,
+    independent: f64,
+}
+
 /// Nanoseconds a call, with the keys unprogrammed and with all of them full.
 struct Single {
     name: &'static str,
-    most: f64,
+    most: Option<f64>,
     empty: f64,
     full: f64,
 }
 
 fn main() -> ExitCode {
     let Some(path) = std::env::args().nth(1) else {
-        eprintln!("bench FILE: the tables go to FILE\nbench --scrolls, --sends, --counts: these alone, printed");
+        eprintln!("bench FILE: the tables go to FILE\nbench --scrolls, --sends, --counts, --lists: these alone, printed");
         return ExitCode::from(2);
     };
     let (made, alone) = match path.as_str() {
         "--scrolls" => (scrolls_report(), true),
         "--sends" => (sends_report(), true),
         "--counts" => (counts_report(), true),
+        "--lists" => (lists_report(), true),
         _ => (report(), false),
     };
     match made {
@@ -87,17 +100,23 @@ fn report() -> Result<String, String> {
     let shifts = SHIFTS.iter().map(shift_row).collect::<Result<Vec<_>, _>>()?;
     let sends = send_row()?;
     let counted = counts()?;
+    let lists = LISTED.iter().map(list_row).collect::<Result<Vec<_>, _>>()?;
     let growth = WORKLOADS.each_ref().map(grown);
-    let singles = [single("step", 400.0, step), single("press", 300.0, press)];
+    let singles = [
+        single("step", Some(400.0), Terminal::new(), step),
+        single("step with a row list", None, Terminal::new().with_row_list(), step),
+        single("press", Some(300.0), Terminal::new(), press),
+    ];
     let mut out = String::new();
     introduction(&mut out);
     peers_table(&mut out, &rows);
     shifts_table(&mut out, &shifts);
     sends_table(&mut out, &sends);
     counts_table(&mut out, &counted);
+    lists_table(&mut out, &lists);
     growth_table(&mut out, &growth);
     singles_table(&mut out, &singles);
-    targets(&mut out, &rows, &shifts, &[sends], &singles, &[counted]);
+    targets(&mut out, &rows, &shifts, &[sends], &singles, &[counted], &lists);
     Ok(out)
 }
 
@@ -105,7 +124,7 @@ fn scrolls_report() -> Result<String, String> {
     let shifts = SHIFTS.iter().map(shift_row).collect::<Result<Vec<_>, _>>()?;
     let mut out = String::new();
     shifts_table(&mut out, &shifts);
-    targets(&mut out, &[], &shifts, &[], &[], &[]);
+    targets(&mut out, &[], &shifts, &[], &[], &[], &[]);
     Ok(out)
 }
 
@@ -113,7 +132,7 @@ fn sends_report() -> Result<String, String> {
     let sends = send_row()?;
     let mut out = String::new();
     sends_table(&mut out, &sends);
-    targets(&mut out, &[], &[], &[sends], &[], &[]);
+    targets(&mut out, &[], &[], &[sends], &[], &[], &[]);
     Ok(out)
 }
 
@@ -121,7 +140,15 @@ fn counts_report() -> Result<String, String> {
     let counted = counts()?;
     let mut out = String::new();
     counts_table(&mut out, &counted);
-    targets(&mut out, &[], &[], &[], &[], &[counted]);
+    targets(&mut out, &[], &[], &[], &[], &[counted], &[]);
+    Ok(out)
+}
+
+fn lists_report() -> Result<String, String> {
+    let lists = LISTED.iter().map(list_row).collect::<Result<Vec<_>, _>>()?;
+    let mut out = String::new();
+    lists_table(&mut out, &lists);
+    targets(&mut out, &[], &[], &[], &[], &[], &lists);
     Ok(out)
 }
 
@@ -249,6 +276,23 @@ fn timed_counts(texts: &[Vec<u8>], parts: Counter) -> f64 {
     start.elapsed().as_nanos() as f64 / texts.iter().map(Vec::len).sum::<usize>() as f64
 }
 
+/// One workload with a row list and without one, by turns.
+fn list_row(workload: &Workload) -> Result<ListRow, String> {
+    let stream = workload.stream(LIST_SIZE).wy50;
+    let name = workload.name;
+    if let Some(difference) = peers::difference(&stream).or_else(|| peers::list_difference(&stream)) {
+        return Err(format!("{name}: {difference}"));
+    }
+    let page = play::<Independent>(&stream);
+    let (mut with, mut without, mut independent) = (f64::MAX, f64::MAX, f64::MAX);
+    for _ in 0..LIST_ROUNDS {
+        best(&mut with, &stream, play::<Listed>, &page)?;
+        best(&mut without, &stream, play::<Proved>, &page)?;
+        best(&mut independent, &stream, play::<Independent>, &page)?;
+    }
+    Ok(ListRow { name, with, without, independent })
+}
+
 fn timed(stream: &[u8], play: fn(&[u8]) -> Page) -> (f64, Page) {
     let start = Instant::now();
     let page = play(black_box(stream));
@@ -278,10 +322,10 @@ fn shown(page: &Page) -> Page {
     page.map(|cell| cell.max(u16::from(b' ')))
 }
 
-fn single(name: &'static str, most: f64, calls: fn(&mut Terminal, &[u8])) -> Single {
+fn single(name: &'static str, most: Option<f64>, terminal: Terminal, calls: fn(&mut Terminal, &[u8])) -> Single {
     let Stream { wy50: text, .. } = WORKLOADS[0].stream(CALLS);
     let [empty, full] = [false, true].map(|full| {
-        let mut terminal = Terminal::new();
+        let mut terminal = terminal.clone();
         if full {
             fill_keys(&mut terminal);
         }
@@ -431,6 +475,30 @@ fn counts_table(out: &mut String, counted: &Counted) {
     line!(out);
 }
 
+fn lists_table(out: &mut String, rows: &[ListRow]) {
+    line!(out, "## Row lists");
+    line!(out);
+    line!(
+        out,
+        "Nanoseconds a host byte of the proved terminal with a row list and without one, and in brackets how many times the first that is."
+    );
+    line!(out, "{} KB each, the best of {LIST_ROUNDS}:", LIST_SIZE / 1_000);
+    line!(out);
+    for workload in &LISTED {
+        line!(out, "- {}: {}", workload.name, workload.what);
+    }
+    line!(out);
+    line!(out, "| workload | with | without | independent |");
+    line!(out, "|---|---|---|---|");
+    for row in rows {
+        let beside = |time: f64| format!("{time:.2} ({:.2})", time / row.with);
+        line!(out, "| {} | {:.2} | {} | {} |", row.name, row.with, beside(row.without), beside(row.independent));
+    }
+    line!(out);
+    line!(out, "Counts, replies, pages and states are the same with a list and without one, and the list is the page's after every read.");
+    line!(out);
+}
+
 /// A row of the first three tables, its times with so many digits after the point.
 fn peers_row(out: &mut String, row: &Row, digits: usize) {
     let beside = |time: Option<f64>| time.map_or("-".to_string(), |time| format!("{time:.digits$} ({:.2})", time / row.proved));
@@ -461,7 +529,7 @@ fn growth_table(out: &mut String, growth: &[[f64; 3]]) {
 fn singles_table(out: &mut String, singles: &[Single]) {
     line!(out, "## Single calls");
     line!(out);
-    line!(out, "Nanoseconds a call. Each checks the whole state, the 32 keys too.");
+    line!(out, "Nanoseconds a call. Each checks the whole state, the 32 keys too, and its row list if it has one.");
     line!(out);
     line!(out, "| call | no key programmed | every key full |");
     line!(out, "|---|---|---|");
@@ -471,7 +539,7 @@ fn singles_table(out: &mut String, singles: &[Single]) {
     line!(out);
 }
 
-fn targets(out: &mut String, rows: &[Row], shifts: &[Row], sends: &[Row], singles: &[Single], counts: &[Counted]) {
+fn targets(out: &mut String, rows: &[Row], shifts: &[Row], sends: &[Row], singles: &[Single], counts: &[Counted], lists: &[ListRow]) {
     line!(out, "## Targets");
     line!(out);
     line!(out, "| target | measured | |");
@@ -497,8 +565,14 @@ fn targets(out: &mut String, rows: &[Row], shifts: &[Row], sends: &[Row], single
         let ratio = counted.proved / counted.floor;
         target(&format!("{}: within 2 times the C loop", ALERTS.name), format!("{ratio:.2}"), ratio <= 2.0);
     }
+    for row in lists {
+        let ratio = row.without / row.with;
+        target(&format!("{}: faster with a row list than without", row.name), format!("{ratio:.2}"), ratio > 1.0);
+    }
     for single in singles {
-        target(&format!("{}: at most {} ns", single.name, single.most), format!("{:.0}", single.full), single.full <= single.most);
+        if let Some(most) = single.most {
+            target(&format!("{}: at most {most} ns", single.name), format!("{:.0}", single.full), single.full <= most);
+        }
     }
 }
 

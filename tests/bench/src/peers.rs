@@ -66,6 +66,25 @@ impl Peer for Proved {
     }
 }
 
+/// The proved terminal with a row list.
+pub struct Listed(Proved);
+
+impl Default for Listed {
+    fn default() -> Self {
+        Listed(Proved { terminal: Terminal::new().with_row_list(), ..Proved::default() })
+    }
+}
+
+impl Peer for Listed {
+    fn read(&mut self, bytes: &[u8]) {
+        self.0.read(bytes);
+    }
+
+    fn page(&self) -> Page {
+        self.0.page()
+    }
+}
+
 impl Sender for Proved {
     fn reply_to(&mut self, bytes: &[u8]) -> &[u8] {
         let fed = self.terminal.feed(bytes, &mut self.reply);
@@ -131,6 +150,28 @@ pub fn difference(stream: &[u8]) -> Option<String> {
         }
     }
     (ours.cursor() != theirs.state.cursors[theirs.state.active as usize] as usize).then(|| "the cursors differ".to_string())
+}
+
+/// The proved terminal without a row list and with one: after each call counts, rest, room, page and state, and the list. What differs first, if
+/// anything does.
+pub fn list_difference(stream: &[u8]) -> Option<String> {
+    let (mut plain, mut listed) = (Terminal::new(), Terminal::new().with_row_list());
+    let (mut plain_reply, mut listed_reply) = ([0; READ], [0; READ]);
+    let mut at = 0;
+    for mut read in stream.chunks(READ) {
+        while !read.is_empty() {
+            let fed = plain.feed(read, &mut plain_reply);
+            if listed.feed(read, &mut listed_reply) != fed || listed_reply != plain_reply || listed != plain {
+                return Some(format!("from byte {at}: the row list changes the result"));
+            }
+            if listed.row_list() != plain.clone().with_row_list().row_list() {
+                return Some(format!("from byte {at}: the row list is not the page's"));
+            }
+            at += fed.taken;
+            read = fed.rest;
+        }
+    }
+    None
 }
 
 extern "C" {

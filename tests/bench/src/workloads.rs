@@ -42,6 +42,26 @@ pub const WORKLOADS: [Workload; 4] = [
     },
 ];
 
+/// Workloads that are fed with a row list and without one.
+pub const LISTED: [Workload; 2] = [
+    Workload {
+        name: "home",
+        what: "1Eh on a protected page that is open only in its last cell",
+        translated: false,
+        plain: false,
+        start: draw_closed,
+        round: home,
+    },
+    Workload {
+        name: "busy form",
+        what: "a protected form of nine tenths labels, with a field of 24 cells in every third row: all filled to their ends, one after the other",
+        translated: false,
+        plain: false,
+        start: draw_busy_form,
+        round: fill_busy_form,
+    },
+];
+
 impl Workload {
     /// Rounds of at least `size` bytes for the WY-50.
     pub fn stream(&self, size: usize) -> Stream {
@@ -213,14 +233,19 @@ fn addressed(w: &mut Writer) {
 }
 
 fn draw_form(w: &mut Writer) {
+    draw_fields(w, FIRST_FIELD_ROW..FIRST_FIELD_ROW + FIELDS);
+}
+
+/// Labels, with a field in each of these rows, and protect mode on.
+fn draw_fields(w: &mut Writer, rows: impl Iterator<Item = usize>) {
     w.only(b"\x1b)");
     for row in 0..ROWS {
         w.address(row, 0);
         w.text(COLUMNS - 1, COLUMNS - 1);
     }
     w.only(b"\x1b(");
-    for field in 0..FIELDS {
-        w.address(FIRST_FIELD_ROW + field, FIELD_COLUMN);
+    for row in rows {
+        w.address(row, FIELD_COLUMN);
         w.only(&[b' '; FIELD_CELLS]);
     }
     w.only(b"\x1b&");
@@ -234,6 +259,33 @@ fn fill_form(w: &mut Writer) {
         w.text(4, FIELD_CELLS - 2);
     }
     w.only(b"\x1b5");
+}
+
+/// The whole page protected, but for its last cell.
+fn draw_closed(w: &mut Writer) {
+    w.only(b"\x1b,");
+    w.address(ROWS - 1, COLUMNS - 1);
+    w.only(b"\x1bT\x1b&");
+}
+
+fn home(w: &mut Writer) {
+    w.only(b"\x1e");
+}
+
+fn busy_rows() -> impl Iterator<Item = usize> {
+    (1..ROWS).step_by(3)
+}
+
+fn draw_busy_form(w: &mut Writer) {
+    w.only(b"\x1b,");
+    draw_fields(w, busy_rows());
+}
+
+fn fill_busy_form(w: &mut Writer) {
+    w.only(b"\x1e");
+    for _ in busy_rows() {
+        w.text(FIELD_CELLS, FIELD_CELLS);
+    }
 }
 
 fn edit(w: &mut Writer) {
