@@ -9,6 +9,7 @@ use lib.ListN.{length, getD, take, drop}
 use lib.Seq.{getD-drop, getD-take}
 use borrow.Rule.Slice.PartMut.{mid-len}
 use Rattle.rules.specs.Row.{Width}
+use Rattle.rules.specs.Cell.{space}
 use Rattle.rules.specs.Change.{within, shiftLeft, shiftRight, shifted, rowsShifted}
 use Rattle.rules.proofs.Rows.{rows-le}
 use Rattle.page.specs.Moved.{Moved}
@@ -77,7 +78,7 @@ module _ (k v a e : ℕ) (p : List ℕ) (h : a ≤ e) (n : e ≤ length p) where
 
 -- every cell of the page after its rows `top` up to `bottom` moved by one row
 pub rows-move : {w : ℕ} → Width w → (down : Bool) (top bottom : ℕ) (p : List ℕ) → top ≤ bottom → bottom ≤ 24 → length p ≡ 24 * w
-    → Moved down w 32 (top * w) (bottom * w) p (rowsShifted w down top bottom p)
+    → Moved down w space (top * w) (bottom * w) p (rowsShifted w down top bottom p)
 unfolding rowsShifted
 rows-move {w} k down top bottom p h n e =
-    shift-moves w 32 (top * w) (bottom * w) p (rows-le k h) (omega (arith, rows-le k n, e)) down
+    shift-moves w space (top * w) (bottom * w) p (rows-le k h) (omega (arith, rows-le k n, e)) down

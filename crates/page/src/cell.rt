@@ -4,6 +4,13 @@ ghost use Prim.Native.Nat.{_≤_};
 ghost use Rattle.rules.specs.Cell.{code, protected, kind, cell, written, guarded, isOpen, sent};
 use rules::Contents;
 
+// Unprotected: a null, and the space that clearing, inserting, deleting and scrolling bring in; and the protected space of ESC V and ESC ,.
+pub const NULL: u16 = 0;
+
+pub const SPACE: u16 = 32;
+
+pub const PROTECTED_SPACE: u16 = 160;
+
 // The code, 0 to 127.
 pub fn code_of(v: u16) -> u8
     ensures { λ r. ⌜ r ≡ code v ⌝ }
@@ -64,12 +71,13 @@ pub fn is_open(protect: bool, v: u16) -> bool
 pub fn sent_code(v: u16) -> u8
     ensures { λ r. ⌜ r ≡ sent v ⌝ }
 {
-    if v / 256 == 0 {
-        if 32 <= v % 128 {
-            if v % 128 <= 126 {
-                return (v % 128) as u8;
+    if kind_of(v) == 0 {
+        let code = code_of(v);
+        if 0x20 <= code {
+            if code <= 0x7e {
+                return code;
             }
         }
     }
-    32
+    0x20
 }

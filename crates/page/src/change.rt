@@ -3,7 +3,9 @@ ghost use mathlib.Core.Path.{_≡_};
 ghost use Prim.Native.Nat.{_+_, _-_, _*_, _<_, _≤_};
 ghost use lib.ListN.{length};
 ghost use Rattle.rules.specs.Row.{Width};
+ghost use Rattle.rules.specs.Cell.{space};
 ghost use Rattle.rules.specs.Change.{within, fillCell, filled, shiftLeft, shiftRight, shifted, editShifted, rowsShifted, columnFilled};
+use crate::cell::SPACE;
 use crate::cell::is_guarded;
 use crate::search::edit_end;
 
@@ -131,12 +133,12 @@ pub fn shift_edit_run(
 // The cells of whole rows move by one row. Each distance is a number that is known when the program is built: these become block moves.
 fn shift_by_row(part: &mut [u16], width: usize, down: bool)
     requires { ⌜ Width width ⌝ }
-    ensures { λ r. ⌜ now (part .exit) ≡ shifted down width 32 (now (part .entry)) ⌝ }
+    ensures { λ r. ⌜ now (part .exit) ≡ shifted down width space (now (part .entry)) ⌝ }
 {
     if width == 132 {
-        shift(part, down, 132, 32);
+        shift(part, down, 132, SPACE);
     } else {
-        shift(part, down, 80, 32);
+        shift(part, down, 80, SPACE);
     }
 }
 

@@ -27,6 +27,7 @@ use state::core::with_bells;
 use state::core::with_mode;
 use state::core::with_modes;
 use state::core::with_protect;
+use state::decode::attribute_contents;
 use state::screen::cursor_of;
 use windows::plan_window;
 use writes::plan_clear;
@@ -42,6 +43,7 @@ pub fn plan_for(page: &[u16], tabs: &[bool; 132], core: Core, d: Command) -> Pla
         Command::Go(m) => plan_move(page, tabs, core, m),
         Command::Window(w) => plan_window(core, w),
         Command::Store(k) => plan_store(page, core, k),
+        Command::Attribute(a) => plan_store(page, core, attribute_contents(a)),
         Command::Edit(e) => plan_edit(page, core, e),
         Command::Clear(x) => plan_clear(core, x),
         Command::Turn(m, b) => plain(with_modes(core, with_mode(core.modes, m, b))),

@@ -12,6 +12,9 @@ use super::forms::refusing;
 use super::forms::replying;
 use super::forms::writing;
 use super::writes::guarded_at;
+use page::cell::NULL;
+use page::cell::PROTECTED_SPACE;
+use page::cell::SPACE;
 use rules::Answer;
 use rules::Core;
 use rules::Excluded;
@@ -124,9 +127,9 @@ pub fn plan_excluded(core: Core, e: Excluded) -> Plan
     let off = with_modes(core, with_protect(core.modes, false));
     match e {
         Excluded::ProtectOff => plain(off),
-        Excluded::ClearNulls => clear_all(core, 0),
-        Excluded::ClearSpaces => clear_all(core, 32),
-        Excluded::ClearProtected => clear_all(off, 160),
+        Excluded::ClearNulls => clear_all(core, NULL),
+        Excluded::ClearSpaces => clear_all(core, SPACE),
+        Excluded::ClearProtected => clear_all(off, PROTECTED_SPACE),
         Excluded::SendRow => replying(core, text(true, row_start(x), at + 1)),
         Excluded::SendSegment => replying(core, text(true, segment_start(x), at + 1)),
     }

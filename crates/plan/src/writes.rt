@@ -5,7 +5,7 @@ ghost use Prim.Native.Nat.{_<_};
 ghost use lib.ListN.{length, getD};
 ghost use Rattle.rules.specs.Row.{wideCells};
 ghost use Rattle.rules.specs.Search.{guardedAt};
-ghost use Rattle.rules.specs.Cell.{written};
+ghost use Rattle.rules.specs.Cell.{written, space};
 ghost use Rattle.rules.specs.State.{Inside, pageLength, cursorOf};
 ghost use Rattle.rules.specs.Plan.{unlessGuarded, writing as writingOf, storing as storingOf, advancing as advancingOf, storePlan, rowEditPlan, editPlan, clearPlan};
 use super::forms::refusing;
@@ -13,6 +13,8 @@ use super::forms::writing;
 use super::forms::writing_two;
 use super::moves::scroll;
 use super::moves::scrolls;
+use page::cell::PROTECTED_SPACE;
+use page::cell::SPACE;
 use page::cell::written_cell;
 use page::search::is_guarded_at;
 use rules::Answer;
@@ -93,7 +95,7 @@ pub fn plan_store(page: &[u16], core: Core, k: Contents) -> Plan
 // ESC Q and ESC W: the edit run moves by one cell and a space comes in.
 fn edit_cells(page: &[u16], core: Core, right: bool) -> Plan
     requires { ⌜ (length (now page) ≡ pageLength (core .screen)) × Inside (core .screen) ⌝ }
-    ensures { λ r. ⌜ r ≡ unlessGuarded (guardedAt (core .modes .protect) (now (page .entry))) core (writingOf core (Write.Edit right (cursorOf (core .screen)) 32) Land.Stay) ⌝ }
+    ensures { λ r. ⌜ r ≡ unlessGuarded (guardedAt (core .modes .protect) (now (page .entry))) core (writingOf core (Write.Edit right (cursorOf (core .screen)) space) Land.Stay) ⌝ }
 {
     let x = core.screen;
     let at = cursor_of(x);
@@ -103,7 +105,7 @@ fn edit_cells(page: &[u16], core: Core, right: bool) -> Plan
     let w = Write::Edit {
         right: right,
         at: at,
-        value: 32,
+        value: SPACE,
     };
     writing(core, w, Land::Stay)
 }
@@ -166,7 +168,7 @@ pub fn plan_clear(core: Core, x: Clear) -> Plan
                 top: segment_top(s),
                 bottom: segment_bottom(s),
                 column: cursor_column(s),
-                value: 160,
+                value: PROTECTED_SPACE,
             };
             writing(core, w, Land::Settle(at))
         }

@@ -6,9 +6,9 @@ use Rattle.rules.specs.Search.{marksBy, others, startsFrom, firstIn, las
 use Rattle.rules.specs.Change.{within, filled, shiftLeft, shiftRight, editShifted, rowsShifted, columnFilled}
 use Rattle.rules.specs.State.{segmentTop, segmentBottom, cursorOf, withCursor, withMode, changed, stored, gatheredAfter, setupAfter}
 use Rattle.rules.specs.Possible.{powerOn, blank, unsplitOk, splitOk, screenOk, attributesOk, featuresOk, pendingOk, noStops, coreOk, setupOk, possible, good}
-use Rattle.rules.specs.Arguments.{isAttribute, featurePlace, isKey, isLabel}
+use Rattle.rules.specs.Arguments.{isAttribute, attributeContents, featurePlace, isKey, isLabel}
 use Rattle.rules.specs.Slot.{slotOk, slotEnd, slotMost, slotLow, isText, allText, textOk, textsOk}
-use Rattle.rules.specs.Decode.{lookup, idleRule, escapeRule, judged, attributeContents, featureRule, fieldRule, splitRule, digitRule, decimalRowRule, decimalColumnRule, slotRule, textRule, spoiltRule, argumentRule, decodeRule}
+use Rattle.rules.specs.Decode.{lookup, idleRule, escapeRule, judged, featureRule, fieldRule, splitRule, digitRule, decimalRowRule, decimalColumnRule, slotRule, textRule, spoiltRule, argumentRule, decodeRule}
 use Rattle.rules.specs.Plan.{unlessGuarded, scrolls, nextCell, atTop, upCell, reversePlan, downPlan, tabCell, backTabCell, addressPlan, movePlan, activate, isSegment, windowPlan, storing, advancing, storePlan, rowEditPlan, editPlan, clearPlan, settingPlan, sendPlan, excludedPlan, planRule}
 use Rattle.rules.specs.Send.{openCell, cellPlace, textPlaces, places, bytesOf, replied}
 use Rattle.rules.specs.Carry.{applied, landed, done, carried}

@@ -38,7 +38,7 @@ use Rattle.rules.specs.declared.SetupChange.{SetupChange}
 use Rattle.rules.specs.declared.SetupChange.the-variants as SetupChange
 use Rattle.rules.specs.declared.Reply.{Reply}
 use Rattle.rules.specs.declared.Land.{Land}
-use Rattle.rules.specs.Cell.{pick, both, among}
+use Rattle.rules.specs.Cell.{pick, both, among, null, space, protectedSpace}
 use Rattle.rules.specs.Row.{columnOf, rowStart}
 use Rattle.rules.specs.State.{number, widthOf, pageLength, segmentTop, segmentBottom, segmentStart, segmentEnd, cursorOf, activated, withScreen, withModes, withProtect, withMode, Inside}
 use Rattle.rules.specs.Possible.{screenOk}
@@ -72,6 +72,7 @@ commandOk Command.Nothing = true
 commandOk (Command.Go m) = true
 commandOk (Command.Window x) = true
 commandOk (Command.Store k) = true
+commandOk (Command.Attribute a) = true
 commandOk (Command.Edit x) = true
 commandOk (Command.Clear x) = true
 commandOk (Command.Turn m b) = true
@@ -309,9 +310,9 @@ module _ (c : Core) (ok : screenOk (c .screen) ≡ true) (i : Inside (c .screen)
     kept-excluded : (x : Excluded) → PlanKept t c (excludedPlan c x)
     unfolding excludedPlan
     kept-excluded Excluded.ProtectOff = kept-refusing (in-modes (withProtect (c .modes) false)) Answer.Done refl
-    kept-excluded Excluded.ClearNulls = kept-clear-all (c .modes) 0
-    kept-excluded Excluded.ClearSpaces = kept-clear-all (c .modes) 32
-    kept-excluded Excluded.ClearProtected = kept-clear-all (withProtect (c .modes) false) 160
+    kept-excluded Excluded.ClearNulls = kept-clear-all (c .modes) null
+    kept-excluded Excluded.ClearSpaces = kept-clear-all (c .modes) space
+    kept-excluded Excluded.ClearProtected = kept-clear-all (withProtect (c .modes) false) protectedSpace
     kept-excluded Excluded.SendRow = kept-replying here (omega arith)
     kept-excluded Excluded.SendSegment = kept-replying here (omega arith)
 
@@ -329,6 +330,7 @@ module _ (c : Core) (ok : screenOk (c .screen) ≡ true) (i : Inside (c .screen)
   kept-command g n tabs (Command.Go m) = kept-move g tabs n m
   kept-command g n tabs (Command.Window x) = kept-window x
   kept-command g n tabs (Command.Store k) = kept-store g k
+  kept-command g n tabs (Command.Attribute a) = kept-store g _
   kept-command g n tabs (Command.Edit x) = kept-edit g x
   kept-command g n tabs (Command.Clear x) = kept-clear x
   kept-command g n tabs (Command.Turn m b) = kept-refusing (in-modes (withMode (c .modes) m b)) Answer.Done refl

@@ -12,6 +12,7 @@ use Rattle.rules.specs.declared.Plan.{Plan}
 use Rattle.rules.specs.declared.Write.{Write}
 use Rattle.rules.specs.declared.Write.the-variants as Write
 use Rattle.rules.specs.Search.{guardedAt, editEnd}
+use Rattle.rules.specs.Cell.{space}
 use Rattle.rules.specs.Change.{within, fillCell, filled, shiftLeft, shiftRight, shifted, editShifted, rowsShifted, columnFilled}
 use Rattle.rules.specs.Carry.{applied, planWidth, pageAfter}
 
@@ -43,7 +44,7 @@ length-applied w on (Write.FillAll a e v) p = length-within a e (filled false v)
 length-applied w on (Write.Column top bottom c v) p = length-column w on v c (bottom - top) top p
 length-applied w on (Write.Edit right at v) p = length-within at (editEnd w (guardedAt on p) at) (shifted right 1 v) (length-shifted right 1 v) p
 length-applied w on (Write.Rows down top bottom) p = length-within
-    (top * w) (bottom * w) (shifted down w 32) (length-shifted down w 32) p
+    (top * w) (bottom * w) (shifted down w space) (length-shifted down w space) p
 
 pub length-after : (on : Bool) (x : Plan) (p : List ℕ) → length (pageAfter on x p) ≡ length p
 length-after on x p =

@@ -134,6 +134,7 @@ module _ (c : Core) where
   planned g tabs (Command.Go m) = moves g tabs m
   planned g tabs (Command.Window w) = windows w
   planned g tabs (Command.Store k) = unless g (advances _)
+  planned g tabs (Command.Attribute a) = unless g (advances _)
   planned g tabs (Command.Edit x) = edits g x
   planned g tabs (Command.Clear x) = clears x
   planned g tabs (Command.Turn m b) = obeys refl

@@ -81,6 +81,7 @@ isExcluded Command.Nothing = false
 isExcluded (Command.Go m) = false
 isExcluded (Command.Window x) = false
 isExcluded (Command.Store k) = false
+isExcluded (Command.Attribute a) = false
 isExcluded (Command.Edit x) = false
 isExcluded (Command.Clear x) = false
 isExcluded (Command.Turn m b) = false
@@ -194,6 +195,7 @@ module _ (g tabs : List Bool) (c : Core) (on : c .modes .protect ≡ true) where
   unrevealing (Command.Go m) e = move m
   unrevealing (Command.Window x) e = window x
   unrevealing (Command.Store k) e = store k
+  unrevealing (Command.Attribute a) e = store _
   unrevealing (Command.Edit x) e = edit x
   unrevealing (Command.Clear x) e = clear x
   unrevealing (Command.Turn m b) e = search (forms, turn-keeps)

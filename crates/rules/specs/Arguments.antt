@@ -2,11 +2,17 @@
 use Prim.Native.Nat.{ℕ}
 use mathlib.Core.Bool.{Bool}
 use lib.Dec.{eqb}
+use Rattle.rules.specs.declared.Contents.{Contents}
+use Rattle.rules.specs.declared.Contents.the-variants as Contents
 use Rattle.rules.specs.Cell.{pick, either, among}
 
--- attr of ESC G: 20h, 30h to 3Fh or 70h to 7Eh
+-- attr of ESC G, ESC ! and ESC A: 20h, 30h to 3Fh or 70h to 7Eh
 unfoldable pub isAttribute : ℕ → Bool
 isAttribute a = either (eqb a 0x20) (either (among 0x30 16 a) (among 0x70 15 a))
+
+-- what a cell of it holds: attr 20h is a text space
+unfoldable pub attributeContents : ℕ → Contents
+attributeContents a = pick (eqb a 0x20) (Contents.Text a) (Contents.Attribute a)
 
 -- which feature a code of ESC ` sets: 0 and 1 whether the cursor is shown, 2 to 5 its style, 6 7 A the protected look, 8 and 9 whether the
 -- screen is shown, 3Ch to 40h scrolling. Five for any other code

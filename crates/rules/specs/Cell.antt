@@ -49,6 +49,16 @@ written (Contents.Text c) p = cell c p 0
 written (Contents.Attribute c) p = cell c p 1
 written (Contents.Graphic c) p = cell c p 2
 
+-- unprotected: a null, and the space that clearing, inserting, deleting and scrolling bring in; and the protected space of ESC V and ESC ,
+abbrev pub null : ℕ
+null = written (Contents.Text 0) false
+
+abbrev pub space : ℕ
+space = written (Contents.Text 0x20) false
+
+abbrev pub protectedSpace : ℕ
+protectedSpace = written (Contents.Text 0x20) true
+
 -- "guarded": protect mode is on and the cell is protected
 abbrev pub guarded : Bool → ℕ → Bool
 guarded true v = protected v

@@ -4,7 +4,7 @@ use Prim.Native.Nat.{ℕ, zero, suc, _+_, _-_, _*_}
 use mathlib.Core.List.{List, [], _∷_, _++_, map}
 use mathlib.Core.Bool.{Bool, true, false}
 use lib.ListN.{length, take, drop, replicate}
-use Rattle.rules.specs.Cell.{pick, guarded}
+use Rattle.rules.specs.Cell.{pick, guarded, space}
 use Rattle.rules.specs.Search.{guardedAt, editEnd}
 
 -- the cells a up to, not including, e are changed by f, and no other
@@ -37,7 +37,7 @@ editShifted w on right v at p = within at (editEnd w (guardedAt on p) at) (shift
 
 -- the rows `top` up to, not including, `bottom` move by one row, and a row of unprotected spaces comes in
 unfoldable pub rowsShifted : ℕ → Bool → ℕ → ℕ → List ℕ → List ℕ
-rowsShifted w down top bottom p = within (top * w) (bottom * w) (shifted down w 32) p
+rowsShifted w down top bottom p = within (top * w) (bottom * w) (shifted down w space) p
 
 -- the open cells of a column become v, in n rows from `row` on
 unfoldable pub columnFilled : ℕ → Bool → ℕ → ℕ → ℕ → ℕ → List ℕ → List ℕ

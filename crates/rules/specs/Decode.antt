@@ -4,7 +4,7 @@ use mathlib.Core.List.{List, [], _∷_}
 use mathlib.Core.Bool.{Bool, true, false}
 use lib.Dec.{ltb, leb, eqb}
 use Rattle.rules.specs.Cell.{pick, both, either, among}
-use Rattle.rules.specs.Arguments.{isAttribute, featurePlace, isKey, isLabel}
+use Rattle.rules.specs.Arguments.{isAttribute, attributeContents, featurePlace, isKey, isLabel}
 use Rattle.rules.specs.Slot.{slotEnd, slotMost, slotLow, isText}
 use Rattle.rules.specs.declared.Answer.the-variants as Answer
 use Rattle.rules.specs.declared.Slot.{Slot}
@@ -13,7 +13,6 @@ use Rattle.rules.specs.declared.Pending.{Pending}
 use Rattle.rules.specs.declared.Pending.the-variants as Pending
 use Rattle.rules.specs.declared.Argument.{Argument}
 use Rattle.rules.specs.declared.Argument.the-variants as Argument
-use Rattle.rules.specs.declared.Contents.{Contents}
 use Rattle.rules.specs.declared.Contents.the-variants as Contents
 use Rattle.rules.specs.declared.Move.the-variants as Move
 use Rattle.rules.specs.declared.Window.the-variants as Window
@@ -128,10 +127,6 @@ escapeRule b = lookup escapes (Decoded.Reject Answer.Unknown) b
 unfoldable pub judged : Bool → Command → Decoded
 judged t d = pick t (Decoded.Do d) (Decoded.Reject Answer.BadArgument)
 
--- attr 20h is a text space
-unfoldable pub attributeContents : ℕ → Contents
-attributeContents a = pick (eqb a 0x20) (Contents.Text a) (Contents.Attribute a)
-
 -- ESC ` f: 3Ah changes nothing
 unfoldable pub featureRule : ℕ → Decoded
 featureRule f = pick (eqb f 0x3a) (Decoded.Do Command.Nothing) (judged (ltb (featurePlace f) 5) (Command.Set (Setting.Feature f)))
@@ -182,7 +177,7 @@ argumentRule Argument.Address b = Decoded.Wait (Pending.AddressRow b)
 argumentRule Argument.Segment b = Decoded.Wait (Pending.SegmentNumber b)
 argumentRule Argument.Split b = splitRule b
 argumentRule Argument.SplitRow b = Decoded.Do (Command.Window (Window.Split b))
-argumentRule Argument.Attribute b = judged (isAttribute b) (Command.Store (attributeContents b))
+argumentRule Argument.Attribute b = judged (isAttribute b) (Command.Attribute b)
 argumentRule Argument.Graphic b = judged (among 0x30 16 b) (Command.Store (Contents.Graphic b))
 argumentRule Argument.FillAttribute b = judged (isAttribute b) (Command.Clear (Clear.Segment (attributeContents b)))
 argumentRule Argument.FillCode b = judged (either (eqb b 0) (among 0x20 95 b)) (Command.Clear (Clear.Segment (Contents.Text b)))

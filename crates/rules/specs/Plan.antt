@@ -36,11 +36,11 @@ use Rattle.rules.specs.declared.Reply.{Reply}
 use Rattle.rules.specs.declared.Reply.the-variants as Reply
 use Rattle.rules.specs.declared.Land.{Land}
 use Rattle.rules.specs.declared.Land.the-variants as Land
-use Rattle.rules.specs.Cell.{pick, both, either, among, written}
+use Rattle.rules.specs.Cell.{pick, both, either, among, written, null, space, protectedSpace}
 use Rattle.rules.specs.Row.{columns, addressed, rowOf, columnOf, rowStart, rowEnd}
 use Rattle.rules.specs.Search.{previousOpen, nextField, previousField, nextTab, previousTab}
 use Rattle.rules.specs.State.{widthOf, segmentTop, segmentBottom, segmentStart, segmentEnd, cursorOf, activated, withScreen, withModes, withBells, withProtect, withMode}
-use Rattle.rules.specs.Arguments.{featurePlace}
+use Rattle.rules.specs.Arguments.{attributeContents, featurePlace}
 
 -- the forms of plans
 abbrev pub refusing : Core → Answer → Plan
@@ -189,8 +189,8 @@ rowEditPlan c down =
     (writing c (Write.Rows down (rowOf (widthOf x) (cursorOf x)) (segmentBottom x)) (Land.Settle (rowStart (widthOf x) (cursorOf x))))
 
 unfoldable pub editPlan : List Bool → Core → Edit → Plan
-editPlan g c Edit.InsertCell = unlessGuarded g c (writing c (Write.Edit true (cursorOf (c .screen)) 32) Land.Stay)
-editPlan g c Edit.DeleteCell = unlessGuarded g c (writing c (Write.Edit false (cursorOf (c .screen)) 32) Land.Stay)
+editPlan g c Edit.InsertCell = unlessGuarded g c (writing c (Write.Edit true (cursorOf (c .screen)) space) Land.Stay)
+editPlan g c Edit.DeleteCell = unlessGuarded g c (writing c (Write.Edit false (cursorOf (c .screen)) space) Land.Stay)
 editPlan g c Edit.InsertRow = rowEditPlan c true
 editPlan g c Edit.DeleteRow = rowEditPlan c false
 
@@ -203,7 +203,7 @@ clearPlan c (Clear.Segment k) =
     writing c (Write.Fill (segmentStart (c .screen)) (segmentEnd (c .screen)) (written k false)) (Land.Settle (segmentStart (c .screen)))
 clearPlan c Clear.Column =
     writing c
-    (Write.Column (segmentTop (c .screen)) (segmentBottom (c .screen)) (columnOf (widthOf (c .screen)) (cursorOf (c .screen))) 160)
+    (Write.Column (segmentTop (c .screen)) (segmentBottom (c .screen)) (columnOf (widthOf (c .screen)) (cursorOf (c .screen))) protectedSpace)
     (Land.Settle (cursorOf (c .screen)))
 
 -- ---- modes and replies
@@ -244,9 +244,9 @@ protectOff c = withModes c (withProtect (c .modes) false)
 
 unfoldable pub excludedPlan : Core → Excluded → Plan
 excludedPlan c Excluded.ProtectOff = plain (protectOff c)
-excludedPlan c Excluded.ClearNulls = clearAll c 0
-excludedPlan c Excluded.ClearSpaces = clearAll c 32
-excludedPlan c Excluded.ClearProtected = clearAll (protectOff c) 160
+excludedPlan c Excluded.ClearNulls = clearAll c null
+excludedPlan c Excluded.ClearSpaces = clearAll c space
+excludedPlan c Excluded.ClearProtected = clearAll (protectOff c) protectedSpace
 excludedPlan c Excluded.SendRow = replying c (Reply.Text true (rowStart (widthOf (c .screen)) (cursorOf (c .screen))) (cursorOf (c .screen) + 1))
 excludedPlan c Excluded.SendSegment = replying c (Reply.Text true (segmentStart (c .screen)) (cursorOf (c .screen) + 1))
 
@@ -256,6 +256,7 @@ planRule g tabs c Command.Nothing = plain c
 planRule g tabs c (Command.Go m) = movePlan g tabs c m
 planRule g tabs c (Command.Window x) = windowPlan c x
 planRule g tabs c (Command.Store k) = storePlan g c k
+planRule g tabs c (Command.Attribute a) = storePlan g c (attributeContents a)
 planRule g tabs c (Command.Edit x) = editPlan g c x
 planRule g tabs c (Command.Clear x) = clearPlan c x
 planRule g tabs c (Command.Turn m b) = plain (withModes c (withMode (c .modes) m b))

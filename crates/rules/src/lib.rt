@@ -215,6 +215,8 @@ pub enum Command {
     Go(Move),
     Window(Window),
     Store(Contents),
+    // ESC G and its code
+    Attribute(u8),
     Edit(Edit),
     Clear(Clear),
     Turn(Mode, bool),

@@ -3,7 +3,8 @@ ghost use mathlib.Core.Path.{_≡_};
 ghost use mathlib.Core.Bool.{true};
 ghost use mathlib.Core.List.{List};
 ghost use Prim.Native.Nat.{ℕ, _<_, _^_};
-ghost use Rattle.rules.specs.Decode.{lookup, controls, idleRule, escapeRule, judged, attributeContents, featureRule, fieldRule, splitRule, decimalRowRule, decimalColumnRule, slotRule, textRule, spoiltRule, argumentRule, decodeRule};
+ghost use Rattle.rules.specs.Decode.{lookup, controls, idleRule, escapeRule, judged, featureRule, fieldRule, splitRule, decimalRowRule, decimalColumnRule, slotRule, textRule, spoiltRule, argumentRule, decodeRule};
+ghost use Rattle.rules.specs.Arguments.{attributeContents};
 ghost use Rattle.rules.specs.Possible.{pendingOk};
 ghost use Rattle.rules.specs.declared.Command.the-variants as Command;
 ghost use Rattle.rules.specs.declared.Decoded.the-variants as Decoded;
@@ -148,7 +149,7 @@ fn judged(ok: bool, d: Command) -> Decoded
 }
 
 // attr 20h is a text space.
-fn attribute_contents(a: u8) -> Contents
+pub fn attribute_contents(a: u8) -> Contents
     ensures { λ r. ⌜ r ≡ attributeContents a ⌝ }
 {
     if a == 0x20 {
@@ -280,7 +281,7 @@ fn argument(a: Argument, b: u8) -> Decoded
         Argument::Segment => Decoded::Wait(Pending::SegmentNumber(b)),
         Argument::Split => split(b),
         Argument::SplitRow => Decoded::Do(Command::Window(Window::Split(b))),
-        Argument::Attribute => judged(is_attribute(b), Command::Store(attribute_contents(b))),
+        Argument::Attribute => judged(is_attribute(b), Command::Attribute(b)),
         Argument::Graphic => judged(among(0x30, 16, b), Command::Store(Contents::Graphic(b))),
         Argument::FillAttribute => judged(
             is_attribute(b),

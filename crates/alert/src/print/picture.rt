@@ -7,12 +7,13 @@ use crate::cells::trimmed;
 use crate::print::lines;
 use crate::print::out;
 use page::cell::is_open;
+use page::cell::kind_of;
 use page::cell::sent_code;
 use rules::Setup;
 
 // What is seen of a cell: a graphic as #, any other as a send gives it.
 fn seen(v: u16) -> u8 {
-    if 2 <= v / 256 {
+    if 2 <= kind_of(v) {
         return b'#';
     }
     sent_code(v)

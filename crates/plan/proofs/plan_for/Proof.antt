@@ -29,13 +29,19 @@ plan-for-spec =
     (λ c κs. let s = c .before .before .before .before in (s .pre .0, screen-inside _ (s .pre .1)))
     -- enum-known-d-4
     (λ c. search needs)
+    -- attribute-contents-requires
+    (λ c κs. search needs)
+    -- plan-store-requires-2
+    (λ c κs. let s = c .before .before .before .before .before in (s .pre .0, screen-inside _ (s .pre .1)))
+    -- enum-known-d-5
+    (λ c. search needs)
     -- plan-edit-requires
     (λ c κs. let s = c .before .before .before .before in (s .pre .0, screen-inside _ (s .pre .1)))
-    -- enum-known-d-5
+    -- enum-known-d-6
     (λ c. search needs)
     -- plan-clear-requires
     (λ c κs. screen-inside _ (c .before .before .before .before .pre .1))
-    -- enum-known-d-6
+    -- enum-known-d-7
     (λ c. search needs)
     -- with-mode-requires
     (λ c κs. search needs)
@@ -61,15 +67,15 @@ plan-for-spec =
     (λ c κs. search needs)
     -- plain-requires-3
     (λ c κs. search needs)
-    -- enum-known-d-7
+    -- enum-known-d-8
     (λ c. search needs)
     -- plan-setting-requires
     (λ c κs. search needs)
-    -- enum-known-d-8
+    -- enum-known-d-9
     (λ c. search needs)
     -- plan-send-requires
     (λ c κs. search needs)
-    -- enum-known-d-9
+    -- enum-known-d-10
     (λ c. search needs)
     -- plan-excluded-requires
     (λ c κs. screen-inside _ (c .before .before .before .before .pre .1))
@@ -82,18 +88,20 @@ plan-for-spec =
     -- returns-4
     (λ c. c .plan-store .ensures ∙ rw (c .before .before .d3 .given .1))
     -- returns-5
-    (λ c. c .plan-edit .ensures ∙ rw (c .before .before .d4 .given .1))
+    (λ c. c .plan-store2 .ensures ∙ rw (c .before .attribute-contents .ensures, c .before .before .before .d4 .given .1))
     -- returns-6
-    (λ c. c .plan-clear .ensures ∙ rw (c .before .before .d5 .given .1))
+    (λ c. c .plan-edit .ensures ∙ rw (c .before .before .d5 .given .1))
     -- returns-7
+    (λ c. c .plan-clear .ensures ∙ rw (c .before .before .d6 .given .1))
+    -- returns-8
     (λ c.
     c .plain2 .ensures
     ∙ rw (
       c .before .with-modes .ensures,
       c .before .before .with-mode .ensures,
-      c .before .before .before .before .d6 .given .1,
+      c .before .before .before .before .d7 .given .1,
     ))
-    -- returns-8
+    -- returns-9
     (λ c.
     c .settling .ensures
     ∙ rw (
@@ -102,7 +110,7 @@ plan-for-spec =
       c .before .cursor-of .ensures,
       c .before .before .before .before .enum-told2 .given .1,
     ))
-    -- returns-9
+    -- returns-10
     (λ c.
     c .plain3 .ensures
     ∙ rw (
@@ -110,9 +118,9 @@ plan-for-spec =
       c .before .before .next-bell .ensures,
       c .before .before .before .enum-told3 .given .1,
     ))
-    -- returns-10
-    (λ c. c .plan-setting .ensures ∙ rw (c .before .before .d7 .given .1))
     -- returns-11
-    (λ c. c .plan-send .ensures ∙ rw (c .before .before .d8 .given .1))
+    (λ c. c .plan-setting .ensures ∙ rw (c .before .before .d8 .given .1))
     -- returns-12
-    (λ c. c .plan-excluded .ensures ∙ rw (c .before .before .d9 .given .1)))
+    (λ c. c .plan-send .ensures ∙ rw (c .before .before .d9 .given .1))
+    -- returns-13
+    (λ c. c .plan-excluded .ensures ∙ rw (c .before .before .d10 .given .1)))

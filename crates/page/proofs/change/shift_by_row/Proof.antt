@@ -4,6 +4,7 @@ use mathlib.Core.Logic.{⊎-elim}
 use Prim.Native.Nat.{ℕ}
 use borrow.Author.Needs.{needs}
 use denote.Ref.{now}
+use Rattle.rules.specs.Cell.{space}
 use Rattle.rules.specs.Change.{shifted}
 use Rattle.page.proofs.change.shift_by_row.Statement.{statement}
 use Rattle.page.proofs.change.shift_by_row.Tie as tie
@@ -21,13 +22,13 @@ shift-by-row-spec =
     -- returns
     (λ c.
     let x = c .before .before .before .before .before .before .args in
-    c .before .before .shift .ensures ∙ sym (ap (λ (k : ℕ). shifted (x .down) k 32 (now (x .part))) (c .before .before .before .before .if1 .taken)))
+    c .before .before .shift .ensures ∙ sym (ap (λ (k : ℕ). shifted (x .down) k space (now (x .part))) (c .before .before .before .before .if1 .taken)))
     -- same-length-2
     (λ c. search needs)
     -- returns-2
     (λ c.
     let x = c .before .before .before .before .before .before .args in
     ⊎-elim
-    (λ e. c .before .before .shift2 .ensures ∙ sym (ap (λ (k : ℕ). shifted (x .down) k 32 (now (x .part))) e))
+    (λ e. c .before .before .shift2 .ensures ∙ sym (ap (λ (k : ℕ). shifted (x .down) k space (now (x .part))) e))
     (λ e. absurd (c .before .before .before .before .if1 .left e))
     (c .before .before .before .before .before .before .pre)))

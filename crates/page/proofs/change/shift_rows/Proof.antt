@@ -2,6 +2,7 @@
 use native.Mathlib.Omega.{arith}
 use borrow.Author.Needs.{needs}
 use denote.Ref.{now}
+use Rattle.rules.specs.Cell.{space}
 use Rattle.rules.specs.Change.{shifted, rowsShifted}
 use Rattle.rules.proofs.Rows.{rows-le, rows-small}
 use Rattle.page.proofs.Changes.{lent}
@@ -32,4 +33,4 @@ shift-rows-spec =
     -- returns
     (λ c.
     let x = c .before .before .before .before .before .args in
-    lent _ _ (shifted (x .down) (x .width) 32) (now (x .page)) (c .before .before .shift-by-row .ensures)))
+    lent _ _ (shifted (x .down) (x .width) space) (now (x .page)) (c .before .before .shift-by-row .ensures)))

@@ -24,8 +24,6 @@ argument-spec =
     (λ c. search needs)
     -- is-attribute-requires
     (λ c κs. search needs)
-    -- attribute-contents-requires
-    (λ c κs. search needs)
     -- judged-requires
     (λ c κs. search needs)
     -- enum-told-6
@@ -38,7 +36,7 @@ argument-spec =
     (λ c. search needs)
     -- is-attribute-requires-2
     (λ c κs. search needs)
-    -- attribute-contents-requires-2
+    -- attribute-contents-requires
     (λ c κs. search needs)
     -- judged-requires-3
     (λ c κs. search needs)
@@ -69,11 +67,11 @@ argument-spec =
     -- returns-4
     (λ c. rw (c .enum-told4 .given .1))
     -- returns-5
-    (λ c. c .judged .ensures ∙ rw (c .before .attribute-contents .ensures, c .before .before .is-attribute .ensures, c .before .before .before .enum-told5 .given .1))
+    (λ c. c .judged .ensures ∙ rw (c .before .is-attribute .ensures, c .before .before .enum-told5 .given .1))
     -- returns-6
     (λ c. c .judged2 .ensures ∙ rw (c .before .among .ensures, c .before .before .enum-told6 .given .1))
     -- returns-7
-    (λ c. c .judged3 .ensures ∙ rw (c .before .attribute-contents2 .ensures, c .before .before .is-attribute2 .ensures, c .before .before .before .enum-told7 .given .1))
+    (λ c. c .judged3 .ensures ∙ rw (c .before .attribute-contents .ensures, c .before .before .is-attribute2 .ensures, c .before .before .before .enum-told7 .given .1))
     -- returns-8
     (λ c. c .judged4 .ensures ∙ rw (c .before .or .ensures, c .before .before .among2 .ensures, c .before .before .before .enum-told8 .given .1))
     -- returns-9

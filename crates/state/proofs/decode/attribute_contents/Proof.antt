@@ -1,6 +1,6 @@
 -- `state::decode::attribute_contents` meets its contract.
 use Rattle.state.proofs.Tests.{tests}
-use Rattle.rules.specs.Decode.{attributeContents}
+use Rattle.rules.specs.Arguments.{attributeContents}
 use Rattle.state.proofs.decode.attribute_contents.Statement.{statement}
 use Rattle.state.proofs.decode.attribute_contents.Tie as tie
 
