@@ -5,12 +5,12 @@ use Rattle.rules.specs.Row.{columns, rowEnd}
 use Rattle.rules.specs.Search.{marksBy, others, startsFrom, firstIn, lastIn, around, aroundBack}
 use Rattle.rules.specs.Change.{within, filled, shiftLeft, shiftRight, editShifted, rowsShifted, columnFilled}
 use Rattle.rules.specs.State.{segmentTop, segmentBottom, cursorOf, withCursor, withMode, changed, stored, gatheredAfter, setupAfter}
-use Rattle.rules.specs.Possible.{powerOn, blank, unsplitOk, splitOk, screenOk, attributesOk, featuresOk, pendingOk, noStops, coreOk, setupOk, possible, good}
-use Rattle.rules.specs.Arguments.{isAttribute, attributeContents, featurePlace, isKey, isLabel}
+use Rattle.rules.specs.Possible.{powerOn, blank, unsplitOk, splitOk, screenOk, attributesOk, featuresOk, pendingOk, rememberedOk, noStops, coreOk, setupOk, possible, good}
+use Rattle.rules.specs.Arguments.{isAttribute, attributeContents, attributeOf, featurePlace, isKey, isLabel}
 use Rattle.rules.specs.Slot.{slotOk, slotEnd, slotMost, slotLow, isText, allText, textOk, textsOk}
 use Rattle.rules.specs.Decode.{lookup, idleRule, escapeRule, judged, featureRule, fieldRule, splitRule, digitRule, decimalRowRule, decimalColumnRule, slotRule, textRule, spoiltRule, argumentRule, decodeRule}
-use Rattle.rules.specs.Plan.{unlessGuarded, scrolls, nextCell, atTop, upCell, reversePlan, downPlan, tabCell, backTabCell, addressPlan, movePlan, activate, isSegment, windowPlan, storing, advancing, storePlan, rowEditPlan, editPlan, clearPlan, settingPlan, sendPlan, excludedPlan, planRule}
-use Rattle.rules.specs.Send.{openCell, cellPlace, textPlaces, places, bytesOf, replied}
+use Rattle.rules.specs.Plan.{unlessGuarded, scrolls, nextCell, atTop, upCell, reversePlan, downPlan, tabCell, backTabCell, addressPlan, movePlan, activate, isSegment, windowPlan, storing, advancing, storePlan, takesCell, attributePlan, rowEditPlan, editPlan, clearPlan, settingPlan, sendPlan, excludedPlan, planRule}
+use Rattle.rules.specs.Send.{model, openCell, cellPlace, textPlaces, places, bytesOf, replied}
 use Rattle.rules.specs.Carry.{applied, landed, done, carried}
 use Rattle.rules.specs.Step.{obeyed, innerRule, stepRule}
 use Rattle.rules.specs.Calls.{powerOnRule, joined, repeated, runRule, keySends, pressRule, ofStep, ofRun, ofPress, callRule, after, play}
@@ -28,22 +28,23 @@ use Rattle.rules.specs.SendCases.{twoFields, twoLabelRows, labelOverRowE
 use Rattle.rules.specs.RowList.{firstColumn, rowNumbers}
 use Rattle.rules.specs.RowCalls.{stepRowsRule, runRowsRule, rowsAfter, canRebuild, rowCallRule, rowAfter, rowPlay}
 use Rattle.rules.specs.RowCases.{rowsWith, openRows, rowHolds, rowCasesHold, fromPowerOn, rowCases}
+use Rattle.rules.specs.PersonalityCases.{as60, obeys60, refuses60, attr, graphic, flaggedCells, personalityCases}
 use Rattle.rules.specs.ByteCases.{span, lastAnswer, triedHold, bytesHold, low, high, digitBytes, attributeBytes, escapeBytes, firstBytes, argumentBytes, addressBytes, decimalBytes}
-use Rattle.rules.specs.PossibleCases.{placed, keyed, labelledAt, messaged, attributed, featured, stopped, shiftedOn, gathering, possibleStates, impossibleStates, allPossible, nonePossible}
+use Rattle.rules.specs.PossibleCases.{placed, keyed, labelledAt, messaged, attributed, featured, stopped, shiftedOn, remembering, gathering, possibleStates, impossibleStates, allPossible, nonePossible}
 use Rattle.rules.specs.Cases.{CaseList}
 
 pub cases : CaseList
 unfolding completes runCompletes callCompletes anyCompleted completesFrom stepCompletes same replies answers holds allHold casesHold host
     esc goTo labelled halves lower threeLetters lettersBelow pageOf cursorAt protectAt upperAt lowerAt belled fullKeys typed obeys refuses
-    obeysFrom refusesFrom countsOf restsOf segmentsOf modesOf stopsFrom movingCases writingCases replyCases callCases twoFields twoLabelRows labelOverRowEnd sendCases span lastAnswer
+    obeysFrom refusesFrom countsOf restsOf segmentsOf modesOf stopsFrom movingCases writingCases replyCases callCases twoFields twoLabelRows labelOverRowEnd sendCases as60 obeys60 refuses60 attr graphic flaggedCells personalityCases span lastAnswer
     triedHold bytesHold low high digitBytes attributeBytes escapeBytes firstBytes argumentBytes addressBytes decimalBytes placed keyed
-    labelledAt messaged shiftedOn gathering message labelling labelCases attributed featured stopped possibleStates impossibleStates allPossible nonePossible over powerOnRule columns rowEnd marksBy others
+    labelledAt messaged shiftedOn remembering gathering message labelling labelCases attributed featured stopped possibleStates impossibleStates allPossible nonePossible over powerOnRule columns rowEnd marksBy others
     startsFrom firstIn lastIn around aroundBack within filled shiftLeft shiftRight editShifted rowsShifted columnFilled segmentTop
     segmentBottom cursorOf withCursor withMode changed stored gatheredAfter setupAfter powerOn blank unsplitOk splitOk screenOk isLabel slotOk slotEnd slotMost slotLow isText allText textOk textsOk isAttribute
-    attributesOk featurePlace featuresOk isKey pendingOk noStops coreOk setupOk possible good lookup idleRule escapeRule judged attributeContents
+    attributesOk featurePlace featuresOk isKey pendingOk rememberedOk noStops coreOk setupOk possible good lookup idleRule escapeRule judged attributeContents attributeOf
     featureRule fieldRule splitRule digitRule decimalRowRule decimalColumnRule slotRule textRule spoiltRule argumentRule decodeRule unlessGuarded
     scrolls nextCell atTop upCell reversePlan downPlan tabCell backTabCell addressPlan movePlan activate isSegment windowPlan storing
-    advancing storePlan rowEditPlan editPlan clearPlan settingPlan sendPlan excludedPlan planRule applied openCell cellPlace textPlaces places bytesOf
+    advancing storePlan takesCell attributePlan rowEditPlan editPlan clearPlan settingPlan sendPlan excludedPlan planRule applied model openCell cellPlace textPlaces places bytesOf
     replied landed done carried obeyed innerRule stepRule joined repeated runRule keySends pressRule ofStep ofRun
     ofPress callRule after play firstColumn rowNumbers stepRowsRule runRowsRule rowsAfter canRebuild rowCallRule rowAfter rowPlay rowsWith openRows
     rowHolds rowCasesHold fromPowerOn rowCases
@@ -56,6 +57,7 @@ cases = record {
   sending = refl;
   rows = refl;
   wide-rows = refl;
+  personalities = refl;
   first = refl;
   argument = refl;
   address = refl;
@@ -65,6 +67,8 @@ cases = record {
   power-on = refl;
   short-page = refl;
   long-page = refl;
+  power-on-60 = refl;
+  short-page-60 = refl;
   room = refl;
   completed = record { in-run = refl; in-steps = refl; behind = refl; as-text = refl; no-room = refl; as-argument = refl; others = refl };
 }

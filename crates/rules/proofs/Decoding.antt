@@ -17,16 +17,17 @@ use Rattle.rules.specs.declared.Pending.the-variants as Pending
 use Rattle.rules.specs.declared.Argument.{Argument}
 use Rattle.rules.specs.declared.Argument.the-variants as Argument
 use Rattle.rules.specs.declared.Command.{Command}
+use Rattle.rules.specs.declared.Contents.{Contents}
 use Rattle.rules.specs.declared.Decoded.{Decoded}
 use Rattle.rules.specs.declared.Decoded.the-variants as Decoded
 use Rattle.rules.specs.Cell.{both, either, among}
 use Rattle.rules.specs.State.{number}
-use Rattle.rules.specs.Arguments.{isAttribute, featurePlace, isKey, isLabel}
+use Rattle.rules.specs.Arguments.{isAttribute, attributeContents, featurePlace, isKey, isLabel}
 use Rattle.rules.specs.Slot.{slotOk, slotEnd, slotMost, slotLow, isText, allText, textOk}
 use Rattle.rules.specs.Possible.{pendingOk}
 use Rattle.rules.specs.Decode.{lookup, controls, escapes, idleRule, escapeRule, judged, featureRule, fieldRule, splitRule, digitRule, decimalRowRule, decimalColumnRule, slotRule, textRule, spoiltRule, argumentRule, decodeRule}
 use Rattle.rules.proofs.Tests.{pick-if, both-parts, both-true, among-parts}
-use Rattle.rules.proofs.Good.{settingOk, commandOk}
+use Rattle.rules.proofs.Good.{settingOk, contentsOk, clearOk, commandOk}
 use Rattle.rules.proofs.Texts.{text-begun, text-grown}
 
 -- g are the bytes gathered
@@ -52,11 +53,11 @@ looked-up f (r ∷ t) other b e h =
     pick-if (λ (d : Decoded). f d ≡ true) (eqb b (r .0)) (λ z. p .0) (λ z. looked-up f t other b (p .1) h)
 
 controls-ok : (g : List ℕ) → entriesOk (decodedOk g) controls ≡ true
-unfolding entriesOk decodedOk commandOk pendingOk
+unfolding entriesOk decodedOk commandOk clearOk contentsOk pendingOk
 controls-ok g = refl
 
 escapes-ok : (g : List ℕ) → entriesOk (decodedOk g) escapes ≡ true
-unfolding entriesOk decodedOk commandOk settingOk pendingOk slotOk textOk slotMost allText
+unfolding entriesOk decodedOk commandOk clearOk contentsOk settingOk pendingOk slotOk textOk slotMost allText
 escapes-ok g = refl
 
 -- ---- the rules of the single sequences
@@ -75,10 +76,10 @@ module _ (g : List ℕ) where
   judged-ok false d h = refl
 
   idle-ok : (b : ℕ) → decodedOk g (idleRule b) ≡ true
-  unfolding idleRule decodedOk commandOk
+  unfolding idleRule decodedOk commandOk contentsOk
   idle-ok b =
       pick-if (Ok g) (ltb b 0x20) (λ e. looked-up (decodedOk g) controls _ b (controls-ok g) refl)
-      (λ e. pick-if (Ok g) (ltb b 0x7f) (λ z. refl) (λ z. refl))
+      (λ e. pick-if (Ok g) (ltb b 0x7f) (λ z. lt-ltb b 128 (omega (arith, ltb-true b 0x7f z))) (λ z. refl))
 
   escape-ok : (b : ℕ) → decodedOk g (escapeRule b) ≡ true
   unfolding escapeRule decodedOk
@@ -150,16 +151,21 @@ module _ (g : List ℕ) where
       let w = both-parts (ltb n (slotMost x)) (isText (slotLow x) b) t in
       both-true (r .0) (text-grown (slotLow x) (slotMost x) n g b (r .1) (ltb-true n (slotMost x) (w .0)) (w .1))) (λ t. r .0))
 
+-- attr is below 80h, as text and as an attribute
+attribute-contents-ok : (a : ℕ) → a < 128 → contentsOk (attributeContents a) ≡ true
+unfolding attributeContents contentsOk
+attribute-contents-ok a h = pick-if (λ (k : Contents). contentsOk k ≡ true) (eqb a 0x20) (λ e. lt-ltb a 128 h) (λ e. lt-ltb a 128 h)
+
 argument-ok : (g : List ℕ) (a : Argument) (b : ℕ) → b < 128 → decodedOk g (argumentRule a b) ≡ true
-unfolding argumentRule decodedOk pendingOk commandOk
+unfolding argumentRule decodedOk pendingOk commandOk clearOk contentsOk
 argument-ok g Argument.Address b h = lt-ltb b _ (omega arith)
 argument-ok g Argument.Segment b h = lt-ltb b _ (omega arith)
 argument-ok g Argument.Split b h = split-ok g b
 argument-ok g Argument.SplitRow b h = refl
-argument-ok g Argument.Attribute b h = judged-ok g (isAttribute b) _ (λ z. refl)
-argument-ok g Argument.Graphic b h = judged-ok g (among 0x30 16 b) _ (λ z. refl)
-argument-ok g Argument.FillAttribute b h = judged-ok g (isAttribute b) _ (λ z. refl)
-argument-ok g Argument.FillCode b h = judged-ok g (either (eqb b 0) (among 0x20 95 b)) _ (λ z. refl)
+argument-ok g Argument.Attribute b h = judged-ok g (isAttribute b) _ (λ z. z)
+argument-ok g Argument.Graphic b h = judged-ok g (among 0x30 16 b) _ (λ z. lt-ltb b 128 h)
+argument-ok g Argument.FillAttribute b h = judged-ok g (isAttribute b) _ (λ z. attribute-contents-ok b h)
+argument-ok g Argument.FillCode b h = judged-ok g (either (eqb b 0) (among 0x20 95 b)) _ (λ z. lt-ltb b 128 h)
 argument-ok g Argument.Feature b h = feature-ok g b
 argument-ok g Argument.FieldAttribute b h = lt-ltb b _ (omega arith)
 argument-ok g Argument.Slot b h = slot-ok g b

@@ -20,12 +20,12 @@ use Rattle.rules.specs.Noninterference.{afterEscape, anyOf, excludedByte
 use Rattle.rules.proofs.Unrevealing.{isExcluded}
 
 -- the values of a function at the numbers below n
-abbrev values : ℕ → (ℕ → Bool) → List Bool
+abbrev pub values : ℕ → (ℕ → Bool) → List Bool
 values zero f = []
 values (suc n) f = f n ∷ values n f
 
 -- equal values below n: for numerals a computed test
-below : (n : ℕ) (f g : ℕ → Bool) → values n f ≡ values n g → (i : ℕ) → i < n → f i ≡ g i
+pub below : (n : ℕ) (f g : ℕ → Bool) → values n f ≡ values n g → (i : ℕ) → i < n → f i ≡ g i
 below zero f g e i h = absurd (not-suc-le-zero h)
 below (suc n) f g e i h = by (ℕ-discrete i n) (below n f g (ap (drop 1) e) i)
   where

@@ -2,14 +2,14 @@
 -- And it keeps a possible state possible: `plan-kept`, which says also that the sequence stays as it was, that the set-up's change fits,
 -- and that no plan answers 6.
 -- Assumes nothing.
-use mathlib.Core.Path.{_≡_, refl}
-use mathlib.Core.Bool.{Bool, true, false}
+use mathlib.Core.Path.{_≡_, refl, sym}
+use mathlib.Core.Bool.{Bool, true, false, false≢true}
 use mathlib.Core.List.{List}
-use Prim.Native.Nat.{ℕ, _+_, _-_, _≤_, _<_}
+use Prim.Native.Nat.{ℕ, _+_, _-_, _%_, _≤_, _<_}
 use native.Mathlib.Omega.{arith}
 use lib.Dec.{ltb, eqb}
 use lib.ListN.{length, getD}
-use borrow.Author.Tests.{ltb-true, ltb-false, eqb-false, lt-ltb, eq-eqb}
+use borrow.Author.Tests.{ltb-true, ltb-false, eqb-false, lt-ltb, le-ltb, eq-eqb}
 use Rattle.rules.specs.declared.Screen.{Screen}
 use Rattle.rules.specs.declared.Modes.{Modes}
 use Rattle.rules.specs.declared.Core.{Core}
@@ -17,6 +17,9 @@ use Rattle.rules.specs.declared.Plan.{Plan}
 use Rattle.rules.specs.declared.Answer.{Answer}
 use Rattle.rules.specs.declared.Answer.the-variants as Answer
 use Rattle.rules.specs.declared.Contents.{Contents}
+use Rattle.rules.specs.declared.Contents.the-variants as Contents
+use Rattle.rules.specs.declared.Personality.{Personality}
+use Rattle.rules.specs.declared.Personality.the-variants as Personality
 use Rattle.rules.specs.declared.Move.{Move}
 use Rattle.rules.specs.declared.Move.the-variants as Move
 use Rattle.rules.specs.declared.Window.{Window}
@@ -38,12 +41,12 @@ use Rattle.rules.specs.declared.SetupChange.{SetupChange}
 use Rattle.rules.specs.declared.SetupChange.the-variants as SetupChange
 use Rattle.rules.specs.declared.Reply.{Reply}
 use Rattle.rules.specs.declared.Land.{Land}
-use Rattle.rules.specs.Cell.{pick, both, among, null, space, protectedSpace}
+use Rattle.rules.specs.Cell.{pick, both, either, among, null, space, protectedSpace}
 use Rattle.rules.specs.Row.{columnOf, rowStart}
-use Rattle.rules.specs.State.{number, widthOf, pageLength, segmentTop, segmentBottom, segmentStart, segmentEnd, cursorOf, activated, withScreen, withModes, withProtect, withMode, Inside}
-use Rattle.rules.specs.Possible.{screenOk}
-use Rattle.rules.specs.Arguments.{isAttribute, featurePlace}
-use Rattle.rules.specs.Plan.{refusing, plain, writingTwo, settling, replying, changing, unlessGuarded, scrolls, atTop, reversePlan, downPlan, tabCell, backTabCell, addressPlan, movePlan, unsplitScreen, splitScreen, activate, isSegment, windowPlan, storing, advancing, storePlan, rowEditPlan, editPlan, clearPlan, settingPlan, sendPlan, clearAll, excludedPlan, planRule}
+use Rattle.rules.specs.State.{number, widthOf, pageLength, segmentTop, segmentBottom, segmentStart, segmentEnd, cursorOf, activated, withScreen, withModes, withAttribute, withProtect, withMode, Inside}
+use Rattle.rules.specs.Possible.{screenOk, rememberedOk}
+use Rattle.rules.specs.Arguments.{isAttribute, attributeOf, featurePlace}
+use Rattle.rules.specs.Plan.{refusing, plain, writingTwo, settling, replying, changing, unlessGuarded, scrolls, atTop, reversePlan, downPlan, tabCell, backTabCell, addressPlan, movePlan, unsplitScreen, splitScreen, activate, isSegment, windowPlan, storing, advancing, storePlan, takesCell, attributePlan, rowEditPlan, editPlan, clearPlan, settingPlan, sendPlan, clearAll, excludedPlan, planRule}
 use Rattle.rules.specs.Good.{GoodWrite, GoodReply, GoodLand, GoodPlan}
 use Rattle.rules.proofs.Tests.{pick-if, both-parts, both-true, among-parts}
 use Rattle.rules.proofs.Rows.{columns-width, column-below, rows-le, cell-inside}
@@ -59,7 +62,7 @@ changeOk w (SetupChange.Attribute n a) = both (ltb n 4) (isAttribute a)
 changeOk w (SetupChange.Feature n f) = both (ltb n 5) (eqb (featurePlace f) n)
 changeOk w SetupChange.HideLine = true
 
--- a setting, and a command, that makes such a change
+-- a setting that makes such a change; contents whose code is below 80h; and a command of such
 unfoldable pub settingOk : Setting → Bool
 settingOk (Setting.Tab b) = true
 settingOk Setting.ClearTabs = true
@@ -67,14 +70,25 @@ settingOk (Setting.Attribute n a) = both (ltb n 4) (isAttribute a)
 settingOk (Setting.Feature f) = ltb (featurePlace f) 5
 settingOk Setting.HideLine = true
 
+unfoldable pub contentsOk : Contents → Bool
+contentsOk (Contents.Text c) = ltb c 128
+contentsOk (Contents.Attribute c) = ltb c 128
+contentsOk (Contents.Graphic c) = ltb c 128
+
+unfoldable pub clearOk : Clear → Bool
+clearOk (Clear.Row k) = contentsOk k
+clearOk (Clear.Rest k) = contentsOk k
+clearOk (Clear.Segment k) = contentsOk k
+clearOk Clear.Column = true
+
 unfoldable pub commandOk : Command → Bool
 commandOk Command.Nothing = true
 commandOk (Command.Go m) = true
 commandOk (Command.Window x) = true
-commandOk (Command.Store k) = true
-commandOk (Command.Attribute a) = true
+commandOk (Command.Store k) = contentsOk k
+commandOk (Command.Attribute a) = isAttribute a
 commandOk (Command.Edit x) = true
-commandOk (Command.Clear x) = true
+commandOk (Command.Clear x) = clearOk x
 commandOk (Command.Turn m b) = true
 commandOk Command.ProtectOn = true
 commandOk Command.Bell = true
@@ -82,25 +96,29 @@ commandOk (Command.Set x) = settingOk x
 commandOk (Command.Send x) = true
 commandOk (Command.Excluded x) = true
 
--- the next core of a plan
-record Next (c n : Core) : Type 0 where
+-- the next core of a plan; t says whether its command is good
+record Next (t : Bool) (c n : Core) : Type 0 where
   screen : screenOk (n .screen) ≡ true
   wide : n .screen .wide ≡ c .screen .wide
   pending : n .pending ≡ c .pending
   bells : c .bells < 256 → n .bells < 256
+  personality : n .personality ≡ c .personality
+  remembered : t ≡ true → rememberedOk (c .personality) (c .attribute) ≡ true → rememberedOk (n .personality) (n .attribute) ≡ true
 
--- what holds of every plan; t says whether its command is good
+-- what holds of every plan
 pub record PlanKept (t : Bool) (c : Core) (x : Plan) : Type 0 where
   pub good : GoodPlan x
   pub wide : x .next .screen .wide ≡ c .screen .wide
   pub pending : x .next .pending ≡ c .pending
   pub bells : c .bells < 256 → x .next .bells < 256
+  pub personality : x .next .personality ≡ c .personality
+  pub remembered : t ≡ true → rememberedOk (c .personality) (c .attribute) ≡ true → rememberedOk (x .next .personality) (x .next .attribute) ≡ true
   pub change : t ≡ true → changeOk (widthOf (c .screen)) (x .change) ≡ true
   pub answer : eqb (number (x .answer)) 6 ≡ false
 
 -- ---- the forms of plans
 
-module _ {t : Bool} {c n : Core} (h : Next c n) where
+module _ {t : Bool} {c n : Core} (h : Next t c n) where
   kept-refusing : (a : Answer) → eqb (number a) 6 ≡ false → PlanKept t c (refusing n a)
   unfolding changeOk
   kept-refusing a e =
@@ -109,6 +127,8 @@ module _ {t : Bool} {c n : Core} (h : Next c n) where
         wide = h .wide;
         pending = h .pending;
         bells = h .bells;
+        personality = h .personality;
+        remembered = h .remembered;
         change = λ u. refl;
         answer = e;
       }
@@ -121,6 +141,8 @@ module _ {t : Bool} {c n : Core} (h : Next c n) where
         wide = h .wide;
         pending = h .pending;
         bells = h .bells;
+        personality = h .personality;
+        remembered = h .remembered;
         change = λ u. refl;
         answer = refl;
       }
@@ -133,6 +155,8 @@ module _ {t : Bool} {c n : Core} (h : Next c n) where
         wide = h .wide;
         pending = h .pending;
         bells = h .bells;
+        personality = h .personality;
+        remembered = h .remembered;
         change = λ u. refl;
         answer = refl;
       }
@@ -144,21 +168,47 @@ module _ {t : Bool} {c n : Core} (h : Next c n) where
         wide = h .wide;
         pending = h .pending;
         bells = h .bells;
+        personality = h .personality;
+        remembered = h .remembered;
         change = f;
         answer = refl;
       }
 
 -- ---- the commands
 
+-- the attribute of a code that takes no cell can be remembered
+set-remembered : (m : Personality) (a : ℕ) → isAttribute a ≡ true → takesCell m a ≡ false → rememberedOk m (attributeOf a) ≡ true
+unfolding isAttribute takesCell attributeOf rememberedOk
+set-remembered Personality.Wy50 a e u = absurd (false≢true (sym u))
+set-remembered Personality.Wy60 a e u = by-code a u e
+  where
+    low : (a : ℕ) → among 0x30 16 a ≡ true → ltb (a % 16 + pick (ltb a 0x70) 0 16) 31 ≡ true
+    low a h =
+        let r = among-parts 0x30 16 a h in
+        rw (lt-ltb a 0x70 (omega arith)) (lt-ltb (a % 16 + 0) 31 (omega arith))
+
+    high : (a : ℕ) → among 0x70 15 a ≡ true → ltb (a % 16 + pick (ltb a 0x70) 0 16) 31 ≡ true
+    high a h =
+        let r = among-parts 0x70 15 a h in
+        rw (le-ltb a 0x70 (omega arith)) (lt-ltb (a % 16 + 16) 31 (omega arith))
+
+    by-low : (a : ℕ) (s : Bool) → among 0x30 16 a ≡ s → either s (among 0x70 15 a) ≡ true → ltb (a % 16 + pick (ltb a 0x70) 0 16) 31 ≡ true
+    by-low a true h e = low a h
+    by-low a false h e = high a e
+
+    by-code : (a : ℕ) → eqb a 0x20 ≡ false → either (eqb a 0x20) (either (among 0x30 16 a) (among 0x70 15 a)) ≡ true
+        → ltb (a % 16 + pick (ltb a 0x70) 0 16) 31 ≡ true
+    by-code a u e = by-low a (among 0x30 16 a) refl (rw u at e)
+
 module _ (c : Core) (ok : screenOk (c .screen) ≡ true) (i : Inside (c .screen)) where
-  here : Next c c
-  here = record { screen = ok; wide = refl; pending = refl; bells = λ h. h }
+  here : {t : Bool} → Next t c c
+  here = record { screen = ok; wide = refl; pending = refl; bells = λ h. h; personality = refl; remembered = λ t h. h }
 
-  on-screen : (x : Screen) → screenOk x ≡ true → x .wide ≡ c .screen .wide → Next c (withScreen c x)
-  on-screen x h w = record { screen = h; wide = w; pending = refl; bells = λ h. h }
+  on-screen : {t : Bool} (x : Screen) → screenOk x ≡ true → x .wide ≡ c .screen .wide → Next t c (withScreen c x)
+  on-screen x h w = record { screen = h; wide = w; pending = refl; bells = λ h. h; personality = refl; remembered = λ t h. h }
 
-  in-modes : (m : Modes) → Next c (withModes c m)
-  in-modes m = record { screen = ok; wide = refl; pending = refl; bells = λ h. h }
+  in-modes : {t : Bool} (m : Modes) → Next t c (withModes c m)
+  in-modes m = record { screen = ok; wide = refl; pending = refl; bells = λ h. h; personality = refl; remembered = λ t h. h }
 
   module _ {t : Bool} where
     kept-pick : (s : Bool) {x y : Plan} → (s ≡ true → PlanKept t c x) → (s ≡ false → PlanKept t c y) → PlanKept t c (pick s x y)
@@ -271,9 +321,9 @@ module _ (c : Core) (ok : screenOk (c .screen) ≡ true) (i : Inside (c .screen)
         (λ e. kept-writing here h tt (omega (arith, ltb-true (cursorOf (c .screen) + 1) (segmentEnd (c .screen)) e)))
         (λ e. kept-pick (scrolls (c .modes)) (λ u. kept-writing here h (omega arith) (omega arith)) (λ u. kept-writing here h tt (omega arith)))
 
-    kept-store : (g : List Bool) (k : Contents) → PlanKept t c (storePlan g c k)
+    kept-store : (g : List Bool) (k : Contents) (a : ℕ) → PlanKept t c (storePlan g c k a)
     unfolding storePlan storing
-    kept-store g k = kept-unless g (kept-advancing _ (pick-if (GoodWrite (widthOf (c .screen))) (c .modes .insert) (λ e. omega arith) (λ e. omega arith)))
+    kept-store g k a = kept-unless g (kept-advancing _ (pick-if (GoodWrite (widthOf (c .screen))) (c .modes .insert) (λ e. omega arith) (λ e. omega arith)))
 
     kept-row-edit : (down : Bool) → PlanKept t c (rowEditPlan c down)
     unfolding rowEditPlan
@@ -316,6 +366,19 @@ module _ (c : Core) (ok : screenOk (c .screen) ≡ true) (i : Inside (c .screen)
     kept-excluded Excluded.SendRow = kept-replying here (omega arith)
     kept-excluded Excluded.SendSegment = kept-replying here (omega arith)
 
+  kept-attribute : (g : List Bool) (a : ℕ) → PlanKept (isAttribute a) c (attributePlan g c a)
+  unfolding attributePlan
+  kept-attribute g a =
+      kept-pick (takesCell (c .personality) a) (λ u. kept-store g _ _)
+      (λ u. kept-refusing record {
+        screen = ok;
+        wide = refl;
+        pending = refl;
+        bells = λ h. h;
+        personality = refl;
+        remembered = λ e h. set-remembered (c .personality) a e u;
+      } Answer.Done refl)
+
   kept-setting : (x : Setting) → PlanKept (settingOk x) c (settingPlan c x)
   unfolding settingPlan settingOk changeOk
   kept-setting (Setting.Tab b) = kept-changing here (λ e. lt-ltb (columnOf (widthOf (c .screen)) (cursorOf (c .screen))) (widthOf (c .screen)) (omega arith))
@@ -329,13 +392,13 @@ module _ (c : Core) (ok : screenOk (c .screen) ≡ true) (i : Inside (c .screen)
   kept-command g n tabs Command.Nothing = kept-done
   kept-command g n tabs (Command.Go m) = kept-move g tabs n m
   kept-command g n tabs (Command.Window x) = kept-window x
-  kept-command g n tabs (Command.Store k) = kept-store g k
-  kept-command g n tabs (Command.Attribute a) = kept-store g _
+  kept-command g n tabs (Command.Store k) = kept-store g k _
+  kept-command g n tabs (Command.Attribute a) = kept-attribute g a
   kept-command g n tabs (Command.Edit x) = kept-edit g x
   kept-command g n tabs (Command.Clear x) = kept-clear x
   kept-command g n tabs (Command.Turn m b) = kept-refusing (in-modes (withMode (c .modes) m b)) Answer.Done refl
   kept-command g n tabs Command.ProtectOn = kept-writing (in-modes (withProtect (c .modes) true)) tt tt (omega arith)
-  kept-command g n tabs Command.Bell = kept-refusing record { screen = ok; wide = refl; pending = refl; bells = λ h. omega arith } Answer.Done refl
+  kept-command g n tabs Command.Bell = kept-refusing record { screen = ok; wide = refl; pending = refl; bells = λ h. omega arith; personality = refl; remembered = λ t h. h } Answer.Done refl
   kept-command g n tabs (Command.Set x) = kept-setting x
   kept-command g n tabs (Command.Send x) = kept-send g x
   kept-command g n tabs (Command.Excluded x) = kept-excluded x

@@ -1,6 +1,7 @@
 -- A possible state stays possible under every call, and no call changes the page's length: what the calls' one check needs.
 --     planned-kept, carried-kept, inner-kept, inner-setup     the inner step on a good page and core: what a loop over it wants
---     step-keeps, run-keeps, call-keeps, play-keeps           of any page and state, bad ones too: the length stays, and possible stays possible
+--     step-keeps, run-keeps, call-keeps, play-keeps           of any page and state, bad ones too: the length and the personality stay, and possible
+--                                                             stays possible
 --     call-length, call-possible                              these two of a call
 --     step-good, run-good, call-good, play-good               a good page and state stay good
 --     powerOn-possible, powerOn-good, powerOn-length
@@ -22,6 +23,8 @@ use Rattle.rules.specs.declared.Change.{Change}
 use Rattle.rules.specs.declared.Change.the-variants as Change
 use Rattle.rules.specs.declared.Setup.{Setup}
 use Rattle.rules.specs.declared.State.{State}
+use Rattle.rules.specs.declared.Personality.{Personality}
+use Rattle.rules.specs.declared.Personality.the-variants as Personality
 use Rattle.rules.specs.declared.Plan.{Plan}
 use Rattle.rules.specs.declared.Command.{Command}
 use Rattle.rules.specs.declared.Decoded.{Decoded}
@@ -33,7 +36,7 @@ use Rattle.rules.specs.declared.Land.the-variants as Land
 use Rattle.rules.specs.Row.{columns}
 use Rattle.rules.specs.Search.{guardedAt}
 use Rattle.rules.specs.State.{widthOf, pageLength, withCursor, keyPlace, labelPlace, shortText, idle, changed, stored, gatheredAfter, setupAfter}
-use Rattle.rules.specs.Possible.{powerOn, blank, unsplitOk, screenOk, attributesOk, featuresOk, pendingOk, noStops, tabsOk, narrow, coreOk, setupOk, possible, good}
+use Rattle.rules.specs.Possible.{powerOn, blank, unsplitOk, screenOk, attributesOk, featuresOk, pendingOk, rememberedOk, noStops, tabsOk, narrow, coreOk, setupOk, possible, good}
 use Rattle.rules.specs.Arguments.{isAttribute, featurePlace}
 use Rattle.rules.specs.Slot.{slotOk, slotLow, slotMost, allText, textOk, textsOk}
 use Rattle.rules.specs.Decode.{decodeRule}
@@ -57,6 +60,7 @@ use Rattle.rules.proofs.Decoding.{decodedOk, decoded-ok}
 pub record PossibleCore (c : Core) (g : List ℕ) : Type 0 where
   pub screen : screenOk (c .screen) ≡ true
   pub bells : c .bells < 256
+  pub remembered : rememberedOk (c .personality) (c .attribute) ≡ true
   pub pending : pendingOk (c .pending) g ≡ true
 
 -- w is the width of the page
@@ -99,16 +103,17 @@ possible-parts s h =
     let r1 = both-parts (narrow (s .core .screen)) _ (r .0) in
     let r2 = both-parts (screenOk (s .core .screen)) _ (r1 .1) in
     let r3 = both-parts (ltb (s .core .bells) 256) _ (r2 .1) in
+    let r4 = both-parts (rememberedOk (s .core .personality) (s .core .attribute)) _ (r3 .1) in
     record {
       narrow = not-wide (s .core .screen .wide) (r1 .0);
-      core = record { screen = r2 .0; bells = ltb-true (s .core .bells) 256 (r3 .0); pending = r3 .1 };
+      core = record { screen = r2 .0; bells = ltb-true (s .core .bells) 256 (r3 .0); remembered = r4 .0; pending = r4 .1 };
       setup = setup-parts (widthOf (s .core .screen)) (s .setup) (r .1);
     }
 
 pub possible-whole : (s : State) → s .core .screen .wide ≡ false → PossibleCore (s .core) (s .gathered) → PossibleSetup (widthOf (s .core .screen)) (s .setup) → possible s ≡ true
 unfolding possible coreOk
 possible-whole s n c u =
-    both-true (both-true (ap not n) (both-true (c .screen) (both-true (lt-ltb (s .core .bells) 256 (c .bells)) (c .pending))))
+    both-true (both-true (ap not n) (both-true (c .screen) (both-true (lt-ltb (s .core .bells) 256 (c .bells)) (both-true (c .remembered) (c .pending)))))
     (setup-whole (widthOf (s .core .screen)) (s .setup) u)
 
 -- ---- the set-up after a change that fits it
@@ -221,32 +226,38 @@ unfolding landed
 landed-kept g Land.Stay c t n h k = h
 landed-kept g (Land.Settle i) c t n h k =
     let r = in-settled (c .screen) (screen-inside (c .screen) (h .screen)) g n i k in
-    record { screen = cursor-kept (c .screen) _ (h .screen) (r .0) (r .1); bells = h .bells; pending = h .pending }
+    record { screen = cursor-kept (c .screen) _ (h .screen) (r .0) (r .1); bells = h .bells; remembered = h .remembered; pending = h .pending }
 
 landed-wide : (g : List Bool) (l : Land) (c : Core) → landed g l c .screen .wide ≡ c .screen .wide
 unfolding landed withCursor
 landed-wide g Land.Stay c = refl
 landed-wide g (Land.Settle i) c = refl
 
+landed-personality : (g : List Bool) (l : Land) (c : Core) → landed g l c .personality ≡ c .personality
+unfolding landed
+landed-personality g Land.Stay c = refl
+landed-personality g (Land.Settle i) c = refl
+
 -- what holds of the effect of a byte on a good page and core
 pub record EffectKept (c : Core) (g : List ℕ) (e : Effect) : Type 0 where
   pub size : length (e .page) ≡ pageLength (c .screen)
   pub wide : e .core .screen .wide ≡ c .screen .wide
+  pub personality : e .core .personality ≡ c .personality
   pub core : PossibleCore (e .core) (gatheredAfter (e .change) g)
   pub change : effectOk (widthOf (c .screen)) g (e .change) ≡ true
 
 idle-kept : (c : Core) (g : List ℕ) → PossibleCore c g → PossibleCore (idle c) g
 unfolding pendingOk
-idle-kept c g h = record { screen = h .screen; bells = h .bells; pending = refl }
+idle-kept c g h = record { screen = h .screen; bells = h .bells; remembered = h .remembered; pending = refl }
 
 module _ (p : List ℕ) (c : Core) (n : length p ≡ pageLength (c .screen)) (g : List ℕ) (h : PossibleCore c g) where
   -- the plan of a command, from the page's own guarded cells
   pub planned-kept : (tabs : List Bool) (d : Command) → PlanKept (commandOk d) (idle c) (planRule (guardedAt (c .modes .protect) p) tabs (idle c) d)
   planned-kept tabs d = plan-kept (idle c) (h .screen) (guardedAt (c .modes .protect) p) (length-guards (c .modes .protect) p ∙ n) tabs d
 
-  next-kept : {t : Bool} {x : Plan} → PlanKept t (idle c) x → PossibleCore (x .next) g
+  next-kept : {t : Bool} {x : Plan} → PlanKept t (idle c) x → t ≡ true → PossibleCore (x .next) g
   unfolding pendingOk
-  next-kept {t} {x} k = record { screen = k .good .screen; bells = k .bells (h .bells); pending = rw (k .pending) }
+  next-kept {t} {x} k e = record { screen = k .good .screen; bells = k .bells (h .bells); remembered = k .remembered e (h .remembered); pending = rw (k .pending) }
 
   pub carried-kept : {t : Bool} (x : Plan) (room : ℕ) → PlanKept t (idle c) x → t ≡ true → EffectKept c g (carried p c x room)
   unfolding carried done changeOk effectOk gatheredAfter
@@ -256,19 +267,20 @@ module _ (p : List ℕ) (c : Core) (n : length p ≡ pageLength (c .screen)) (g 
       record {
         size = length-after on x p ∙ n;
         wide = landed-wide (guardedAt (x .next .modes .protect) q) (x .land) (x .next) ∙ k .wide;
+        personality = landed-personality (guardedAt (x .next .modes .protect) q) (x .land) (x .next) ∙ k .personality;
         core = landed-kept (guardedAt (x .next .modes .protect) q) (x .land) (x .next) g
             (length-guards (x .next .modes .protect) q ∙ (length-after on x p ∙ (n ∙ ap (λ (b : Bool). 24 * columns b) (sym (k .wide)))))
-            (next-kept k) (k .good .place);
+            (next-kept k good) (k .good .place);
         change = k .change good;
       })
-      (λ e. record { size = n; wide = refl; core = h; change = refl })
+      (λ e. record { size = n; wide = refl; personality = refl; core = h; change = refl })
 
   obeyed-kept : (tabs : List Bool) (d : Decoded) (room : ℕ) → decodedOk g d ≡ true → EffectKept c g (obeyed p c tabs d room)
   unfolding obeyed decodedOk changeOk effectOk gatheredAfter
-  obeyed-kept tabs (Decoded.Wait q) room e = record { size = n; wide = refl; core = record { screen = h .screen; bells = h .bells; pending = e }; change = refl }
-  obeyed-kept tabs (Decoded.Gather x i b) room e = record { size = n; wide = refl; core = record { screen = h .screen; bells = h .bells; pending = e }; change = refl }
-  obeyed-kept tabs (Decoded.Take x i) room e = record { size = n; wide = refl; core = idle-kept c g h; change = e }
-  obeyed-kept tabs (Decoded.Reject a) room e = record { size = n; wide = refl; core = idle-kept c g h; change = refl }
+  obeyed-kept tabs (Decoded.Wait q) room e = record { size = n; wide = refl; personality = refl; core = record { screen = h .screen; bells = h .bells; remembered = h .remembered; pending = e }; change = refl }
+  obeyed-kept tabs (Decoded.Gather x i b) room e = record { size = n; wide = refl; personality = refl; core = record { screen = h .screen; bells = h .bells; remembered = h .remembered; pending = e }; change = refl }
+  obeyed-kept tabs (Decoded.Take x i) room e = record { size = n; wide = refl; personality = refl; core = idle-kept c g h; change = e }
+  obeyed-kept tabs (Decoded.Reject a) room e = record { size = n; wide = refl; personality = refl; core = idle-kept c g h; change = refl }
   obeyed-kept tabs (Decoded.Do d) room e = carried-kept _ room (planned-kept tabs d) e
 
   pub inner-kept : (tabs : List Bool) (b room : ℕ) → EffectKept c g (innerRule p c tabs b room)
@@ -277,7 +289,7 @@ module _ (p : List ℕ) (c : Core) (n : length p ≡ pageLength (c .screen)) (g 
       pick-if (EffectKept c g) (ltb b 128)
       (λ e. obeyed-kept tabs (decodeRule (c .pending) b) room
       (decoded-ok (c .pending) g b (ltb-true b 128 e) (h .pending)))
-      (λ e. record { size = n; wide = refl; core = h; change = refl })
+      (λ e. record { size = n; wide = refl; personality = refl; core = h; change = refl })
 
   pub inner-setup : (u : Setup) (b room : ℕ) → PossibleSetup (widthOf (c .screen)) u
       → PossibleSetup (widthOf (innerRule p c (u .tabs) b room .core .screen)) (setupAfter (innerRule p c (u .tabs) b room .change) g u)
@@ -289,17 +301,18 @@ module _ (p : List ℕ) (c : Core) (n : length p ≡ pageLength (c .screen)) (g 
 
 -- ---- the calls
 
--- from a page and a state to a page and a state: the length and the width stay, and possible stays possible
+-- from a page and a state to a page and a state: the length, the width and the personality stay, and possible stays possible
 pub record Keeps (p : List ℕ) (s : State) (q : List ℕ) (t : State) : Type 0 where
   pub size : length q ≡ length p
   pub wide : t .core .screen .wide ≡ s .core .screen .wide
+  pub personality : t .core .personality ≡ s .core .personality
   pub state : possible s ≡ true → possible t ≡ true
 
 keeps-same : {p : List ℕ} {s : State} → Keeps p s p s
-keeps-same = record { size = refl; wide = refl; state = λ h. h }
+keeps-same = record { size = refl; wide = refl; personality = refl; state = λ h. h }
 
 keeps-then : {p q r : List ℕ} {s t u : State} → Keeps p s q t → Keeps q t r u → Keeps p s r u
-keeps-then a b = record { size = b .size ∙ a .size; wide = b .wide ∙ a .wide; state = λ h. b .state (a .state h) }
+keeps-then a b = record { size = b .size ∙ a .size; wide = b .wide ∙ a .wide; personality = b .personality ∙ a .personality; state = λ h. b .state (a .state h) }
 
 pub good-parts : (p : List ℕ) (s : State) → good p s ≡ true → (length p ≡ pageLength (s .core .screen)) × (possible s ≡ true)
 unfolding good
@@ -327,6 +340,7 @@ step-keeps p s b room =
     record {
       size = k .size ∙ sym (r .0);
       wide = k .wide;
+      personality = k .personality;
       state = λ h. possible-whole _ (k .wide ∙ w .narrow) (k .core)
           (inner-setup p (s .core) (r .0) (s .gathered) (w .core) (s .setup) b room (w .setup));
     })
@@ -376,16 +390,18 @@ play-good calls p s h = keeps-good (play-keeps calls p s) h
 
 -- ---- power-on
 
-pub powerOn-possible : possible powerOn ≡ true
-unfolding possible coreOk setupOk powerOn columns noStops screenOk unsplitOk textsOk textOk allText attributesOk isAttribute featuresOk featurePlace pendingOk
-powerOn-possible = refl
+pub powerOn-possible : (m : Personality) → possible (powerOn m) ≡ true
+unfolding possible coreOk setupOk powerOn columns noStops screenOk unsplitOk textsOk textOk allText attributesOk isAttribute featuresOk featurePlace
+    rememberedOk pendingOk
+powerOn-possible Personality.Wy50 = refl
+powerOn-possible Personality.Wy60 = refl
 
-pub powerOn-good : (p : List ℕ) → length p ≡ 1920 → good (powerOnRule p .page) (powerOnRule p .state) ≡ true
+pub powerOn-good : (m : Personality) (p : List ℕ) → length p ≡ 1920 → good (powerOnRule m p .page) (powerOnRule m p .state) ≡ true
 unfolding powerOnRule blank powerOn columns
-powerOn-good p n = rw n (good-whole blank powerOn refl powerOn-possible)
+powerOn-good m p n = rw n (good-whole blank (powerOn m) refl (powerOn-possible m))
 
 -- a page of the wrong length is left
-pub powerOn-length : (p : List ℕ) → length (powerOnRule p .page) ≡ length p
+pub powerOn-length : (m : Personality) (p : List ℕ) → length (powerOnRule m p .page) ≡ length p
 unfolding powerOnRule blank
-powerOn-length p =
+powerOn-length m p =
     pick-if (λ (o : Outcome). length (o .page) ≡ length p) (eqb (length p) 1920) (λ e. sym (eqb-true (length p) 1920 e)) (λ e. refl)

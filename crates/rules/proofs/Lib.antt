@@ -22,9 +22,13 @@ pub mod Run
 pub mod Planned
 pub mod Left
 pub mod Press
+pub mod Remembered
 pub mod Reach
 pub mod Completed
 pub mod RowSteps
 pub mod RowNoninterference
 pub mod KeyStore
 pub mod ShiftedLine
+pub mod Numbers
+pub mod PageNumbers
+pub mod Personalities

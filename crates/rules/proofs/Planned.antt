@@ -11,6 +11,7 @@ use Rattle.rules.specs.declared.Plan.{Plan}
 use Rattle.rules.specs.declared.Write.{Write}
 use Rattle.rules.specs.declared.Answer.{Answer}
 use Rattle.rules.specs.declared.Answer.the-variants as Answer
+use Rattle.rules.specs.declared.Contents.{Contents}
 use Rattle.rules.specs.declared.Move.{Move}
 use Rattle.rules.specs.declared.Move.the-variants as Move
 use Rattle.rules.specs.declared.Window.{Window}
@@ -29,7 +30,7 @@ use Rattle.rules.specs.declared.Command.{Command}
 use Rattle.rules.specs.declared.Command.the-variants as Command
 use Rattle.rules.specs.Cell.{pick, among}
 use Rattle.rules.specs.State.{number}
-use Rattle.rules.specs.Plan.{refusing, unlessGuarded, reversePlan, downPlan, addressPlan, movePlan, activate, windowPlan, advancing, storePlan, rowEditPlan, editPlan, clearPlan, settingPlan, sendPlan, excludedPlan, planRule}
+use Rattle.rules.specs.Plan.{refusing, unlessGuarded, reversePlan, downPlan, addressPlan, movePlan, activate, windowPlan, advancing, storePlan, attributePlan, rowEditPlan, editPlan, clearPlan, settingPlan, sendPlan, excludedPlan, planRule}
 
 pub data Planned (c : Core) : Plan → Type 0 where
   obeys : {x : Plan} → x .answer ≡ Answer.Done → Planned c x
@@ -82,6 +83,14 @@ module _ (c : Core) where
   unfolding advancing
   advances w = search planning
 
+  stores : (g : List Bool) (k : Contents) (a : ℕ) → Planned c (storePlan g c k a)
+  unfolding storePlan
+  stores g k a = unless g (advances _)
+
+  attributes : (g : List Bool) (a : ℕ) → Planned c (attributePlan g c a)
+  unfolding attributePlan
+  attributes g a = search (stores, planning)
+
   row-edits : (down : Bool) → Planned c (rowEditPlan c down)
   unfolding rowEditPlan
   row-edits down = search planning
@@ -129,12 +138,12 @@ module _ (c : Core) where
   excludes Excluded.SendSegment = obeys refl
 
   pub planned : (g tabs : List Bool) (d : Command) → Planned c (planRule g tabs c d)
-  unfolding planRule storePlan
+  unfolding planRule
   planned g tabs Command.Nothing = obeys refl
   planned g tabs (Command.Go m) = moves g tabs m
   planned g tabs (Command.Window w) = windows w
-  planned g tabs (Command.Store k) = unless g (advances _)
-  planned g tabs (Command.Attribute a) = unless g (advances _)
+  planned g tabs (Command.Store k) = stores g k _
+  planned g tabs (Command.Attribute a) = attributes g a
   planned g tabs (Command.Edit x) = edits g x
   planned g tabs (Command.Clear x) = clears x
   planned g tabs (Command.Turn m b) = obeys refl

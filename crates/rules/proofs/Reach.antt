@@ -1,7 +1,7 @@
--- A sequence is possible exactly if some bytes from power-on leave it under way.
+-- A sequence is possible exactly if some bytes from power-on leave it under way, and so is a remembered attribute.
 --     reach     the statement of specs/Reach
 -- Assumes nothing.
-use mathlib.Core.Path.{_≡_, refl, ap, _∙_}
+use mathlib.Core.Path.{_≡_, refl, ap, subst, _∙_}
 use mathlib.Core.Bool.{Bool, true, false}
 use mathlib.Core.List.{List, [], _∷_, _++_, append-nil}
 use Prim.Native.Nat.{ℕ, zero, suc, _+_, _-_, _*_, _/_, _^_, _<_, _≤_}
@@ -13,6 +13,8 @@ use lib.Seq.{append-snoc, take-suc-set}
 use lib.ListN.{length, take, set, replicate, length-take, length-set}
 use borrow.Author.Tests.{ltb-true, leb-true, lt-ltb, le-leb, le-ltb, lt-leb, ne-eqb}
 use Rattle.rules.specs.declared.State.{State}
+use Rattle.rules.specs.declared.Personality.{Personality}
+use Rattle.rules.specs.declared.Personality.the-variants as Personality
 use Rattle.rules.specs.declared.Slot.{Slot}
 use Rattle.rules.specs.declared.Slot.the-variants as Slot
 use Rattle.rules.specs.declared.Pending.{Pending}
@@ -23,30 +25,27 @@ use Rattle.rules.specs.declared.Decoded.{Decoded}
 use Rattle.rules.specs.declared.Decoded.the-variants as Decoded
 use Rattle.rules.specs.Row.{columns}
 use Rattle.rules.specs.Cell.{both, either, among}
-use Rattle.rules.specs.State.{changed, gatheredAfter, setupAfter}
+use Rattle.rules.specs.State.{awaiting, changed, gatheredAfter, setupAfter}
 use Rattle.rules.specs.Arguments.{isAttribute, featurePlace, isKey, isLabel}
 use Rattle.rules.specs.Slot.{slotOk, slotEnd, slotMost, slotLow, isText, allText, textOk, textsOk}
-use Rattle.rules.specs.Possible.{powerOn, blank, unsplitOk, screenOk, attributesOk, featuresOk, pendingOk, noStops, coreOk, setupOk, possible, good}
+use Rattle.rules.specs.Possible.{powerOn, blank, unsplitOk, screenOk, attributesOk, featuresOk, pendingOk, rememberedOk, noStops, coreOk, setupOk, possible, good}
 use Rattle.rules.specs.Decode.{lookup, idleRule, escapeRule, splitRule, digitRule, decimalRowRule, decimalColumnRule, slotRule, textRule, argumentRule, decodeRule}
 use Rattle.rules.specs.Send.{digit}
 use Rattle.rules.specs.Step.{Outcome, obeyed, innerRule, stepRule}
-use Rattle.rules.specs.Calls.{Ran, joined, repeated, runRule, play}
+use Rattle.rules.specs.Calls.{Call, Ran, joined, repeated, runRule, play}
 use Rattle.rules.specs.Reach.{digits, opening, slotBytes, bytesFor, UnderWay, Reach}
 use Rattle.rules.proofs.Tests.{both-parts, both-true, among-parts}
 use Rattle.rules.proofs.Texts.{text-parts}
 use Rattle.rules.proofs.Decoding.{decodedOk, decoded-ok}
-use Rattle.rules.proofs.Kept.{possible-parts, play-keeps, powerOn-possible}
+use Rattle.rules.proofs.Kept.{PossibleState, possible-parts, play-keeps, powerOn-possible}
 use Rattle.rules.proofs.Run.{run-done}
+use Rattle.rules.proofs.Remembered.{attribute-reached}
 
 -- ---- bytes that a sequence awaits
 
 -- power-on with a sequence under way, and some bytes gathered
-abbrev waiting : Pending → List ℕ → State
-waiting q g = record {
-  core = record { screen = powerOn .core .screen; modes = powerOn .core .modes; bells = powerOn .core .bells; pending = q };
-  gathered = g;
-  setup = powerOn .setup;
-}
+abbrev waiting : Personality → Pending → List ℕ → State
+waiting m q g = record { core = awaiting (powerOn m .core) q; gathered = g; setup = powerOn m .setup }
 
 -- the bytes lead from a sequence to a sequence, each being awaited or gathered
 data Leads : List ℕ → Pending → List ℕ → Pending → List ℕ → Type 0 where
@@ -60,38 +59,40 @@ leads-append stay y = y
 leads-append (wait h e x) y = wait h e (leads-append x y)
 leads-append (gather h e x) y = gather h e (leads-append x y)
 
-good-waiting : (q : Pending) (g : List ℕ) → pendingOk q g ≡ true → good blank (waiting q g) ≡ true
-unfolding good possible coreOk setupOk blank powerOn columns noStops screenOk unsplitOk textsOk textOk allText attributesOk isAttribute featuresOk featurePlace
-good-waiting q g e = both-true e refl
+good-waiting : (m : Personality) (q : Pending) (g : List ℕ) → pendingOk q g ≡ true → good blank (waiting m q g) ≡ true
+unfolding good possible coreOk setupOk blank powerOn columns noStops screenOk unsplitOk textsOk textOk allText attributesOk isAttribute featuresOk
+    featurePlace rememberedOk
+good-waiting Personality.Wy50 q g e = both-true e refl
+good-waiting Personality.Wy60 q g e = both-true e refl
 
 abbrev quietly : State → Outcome
 quietly s = record { answer = 0; state = s; page = blank; reply = [] }
 
-module _ (q : Pending) (g : List ℕ) (b room : ℕ) (p : pendingOk q g ≡ true) (h : b < 128) where
-  step-waits : {r : Pending} → decodeRule q b ≡ Decoded.Wait r → stepRule blank (waiting q g) b room ≡ quietly (waiting r g)
+module _ (m : Personality) (q : Pending) (g : List ℕ) (b room : ℕ) (p : pendingOk q g ≡ true) (h : b < 128) where
+  step-waits : {r : Pending} → decodeRule q b ≡ Decoded.Wait r → stepRule blank (waiting m q g) b room ≡ quietly (waiting m r g)
   unfolding stepRule innerRule obeyed gatheredAfter setupAfter changed
-  step-waits e = rw (good-waiting q g p, lt-ltb b 128 h, e)
+  step-waits e = rw (good-waiting m q g p, lt-ltb b 128 h, e)
 
   step-gathers : {x : Slot} {n : ℕ} → decodeRule q b ≡ Decoded.Gather x n b
-      → stepRule blank (waiting q g) b room ≡ quietly (waiting (Pending.Text x (n + 1)) (set g n b))
+      → stepRule blank (waiting m q g) b room ≡ quietly (waiting m (Pending.Text x (n + 1)) (set g n b))
   unfolding stepRule innerRule obeyed gatheredAfter setupAfter changed
-  step-gathers e = rw (good-waiting q g p, lt-ltb b 128 h, e)
+  step-gathers e = rw (good-waiting m q g p, lt-ltb b 128 h, e)
 
 quiet-byte : (b : ℕ) (bs : List ℕ) (s t : State) (room : ℕ) → stepRule blank s b room ≡ quietly t
     → (repeated (b ∷ bs) blank s room) .state ≡ (repeated bs blank t room) .state
 unfolding repeated joined
 quiet-byte b bs s t room e = rw (e, sub-zero)
 
-leads-run : {a : List ℕ} {q z : Pending} {g l : List ℕ} (room : ℕ) → Leads a q g z l → pendingOk q g ≡ true
-    → (repeated a blank (waiting q g) room) .state ≡ waiting z l
+leads-run : (m : Personality) {a : List ℕ} {q z : Pending} {g l : List ℕ} (room : ℕ) → Leads a q g z l → pendingOk q g ≡ true
+    → (repeated a blank (waiting m q g) room) .state ≡ waiting m z l
 unfolding decodedOk
-leads-run room (stay {q} {g}) p = ap (λ (r : Ran). r .state) (run-done blank (waiting q g) room)
-leads-run room (wait {b} {bs} {q} {r} {z} {g} h e x) p =
-    quiet-byte b bs (waiting q g) (waiting r g) room (step-waits q g b room p h e)
-    ∙ leads-run room x (rw e at (decoded-ok q g b h p))
-leads-run room (gather {b} {n} {bs} {x} {q} {z} {g} h e y) p =
-    quiet-byte b bs (waiting q g) (waiting (Pending.Text x (n + 1)) (set g n b)) room (step-gathers q g b room p h e)
-    ∙ leads-run room y (rw e at (decoded-ok q g b h p))
+leads-run m room (stay {q} {g}) p = ap (λ (r : Ran). r .state) (run-done blank (waiting m q g) room)
+leads-run m room (wait {b} {bs} {q} {r} {z} {g} h e x) p =
+    quiet-byte b bs (waiting m q g) (waiting m r g) room (step-waits m q g b room p h e)
+    ∙ leads-run m room x (rw e at (decoded-ok q g b h p))
+leads-run m room (gather {b} {n} {bs} {x} {q} {z} {g} h e y) p =
+    quiet-byte b bs (waiting m q g) (waiting m (Pending.Text x (n + 1)) (set g n b)) room (step-gathers m q g b room p h e)
+    ∙ leads-run m room y (rw e at (decoded-ok q g b h p))
 
 -- nothing is gathered at power-on
 abbrev none : List ℕ
@@ -289,13 +290,14 @@ led (Pending.FieldNumber n) g k e = plain (λ x n z. cc) (escape (lit< tt) refl 
 led (Pending.Text x n) g k e = led-text x n g k e
 led (Pending.Spoilt x) g k e = plain (λ y n z. cc) (led-slot x e (spaces x))
 
-run-leads : {q : Pending} {g : List ℕ} (bytes : List ℕ) → Leads bytes Pending.Idle none q g → (runRule blank powerOn bytes 1944) .state ≡ waiting q g
+run-leads : (m : Personality) {q : Pending} {g : List ℕ} (bytes : List ℕ) → Leads bytes Pending.Idle none q g
+    → (runRule blank (powerOn m) bytes 1944) .state ≡ waiting m q g
 unfolding runRule powerOn pendingOk
-run-leads bytes x = rw (good-waiting Pending.Idle none refl) (leads-run 1944 x refl)
+run-leads m bytes x = rw (good-waiting m Pending.Idle none refl) (leads-run m 1944 x refl)
 
-led-under-way : (q : Pending) (g : List ℕ) → Led q g → UnderWay q g ((runRule blank powerOn (bytesFor q g) 1944) .state)
-led-under-way q g (plain h x) = rw (run-leads (bytesFor q g) x) (record { pending = refl; text = λ y n e. absurd (omega (arith, h y n e)) })
-led-under-way q g (text n h x t) = rw (run-leads (bytesFor q g) x) (record { pending = refl; text = λ y m e. rw (h y m e) t })
+led-under-way : (m : Personality) (q : Pending) (g : List ℕ) → Led q g → UnderWay q g ((runRule blank (powerOn m) (bytesFor q g) 1944) .state)
+led-under-way m q g (plain h x) = rw (run-leads m (bytesFor q g) x) (record { pending = refl; text = λ y n e. absurd (omega (arith, h y n e)) })
+led-under-way m q g (text n h x t) = rw (run-leads m (bytesFor q g) x) (record { pending = refl; text = λ y m e. rw (h y m e) t })
 
 -- ---- and no other
 
@@ -314,11 +316,21 @@ same-text (Pending.FieldNumber m) g k h t = h
 same-text (Pending.Text x n) g k h t = rw (t x n refl) at h
 same-text (Pending.Spoilt x) g k h t = h
 
+-- what is possible after any calls from power-on
+left : (m : Personality) (calls : List Call) → PossibleState (play calls blank (powerOn m) .state)
+left m calls = possible-parts _ (play-keeps calls blank (powerOn m) .state (powerOn-possible m))
+
+-- the personality is still m
+left-attribute : (m : Personality) (calls : List Call) → rememberedOk m (play calls blank (powerOn m) .state .core .attribute) ≡ true
+unfolding powerOn
+left-attribute m calls =
+    let s = play calls blank (powerOn m) .state in
+    subst (λ (n : Personality). rememberedOk n (s .core .attribute) ≡ true) (play-keeps calls blank (powerOn m) .personality) (left m calls .core .remembered)
+
 pub reach : Reach
 reach = record {
-  possible-reached = λ q g n h. led-under-way q g (led q g n h);
-  reached-possible = λ calls q g u.
-      let s : State = play calls blank powerOn .state in
-      let h = possible-parts s (play-keeps calls blank powerOn .state powerOn-possible) .core .pending in
-      same-text q (s .gathered) g (rw (u .pending) at h) (u .text);
+  possible-reached = λ m q g n h. led-under-way m q g (led q g n h);
+  reached-possible = λ m calls q g u. same-text q _ g (rw (u .pending) at (left m calls .core .pending)) (u .text);
+  attribute-reached = attribute-reached;
+  reached-attribute = λ m calls. left-attribute m calls;
 }

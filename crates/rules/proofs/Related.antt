@@ -130,7 +130,7 @@ related-open (suc i) (public u h) = related-open i h
 abbrev pub conceals : Reply → Bool
 conceals Reply.Nothing = true
 conceals Reply.Acknowledge = true
-conceals Reply.Identity = true
+conceals (Reply.Identity m) = true
 conceals (Reply.Address r c) = true
 conceals (Reply.SegmentAddress n r c) = true
 conceals (Reply.Decimal r c) = true
@@ -149,7 +149,7 @@ related-places : (w : ℕ) (r : Reply) → conceals r ≡ true → {p q x y : Li
 unfolding places
 related-places w Reply.Nothing e h = refl
 related-places w Reply.Acknowledge e h = refl
-related-places w Reply.Identity e h = refl
+related-places w (Reply.Identity m) e h = refl
 related-places w (Reply.Address r c) e h = refl
 related-places w (Reply.SegmentAddress n r c) e h = refl
 related-places w (Reply.Decimal r c) e h = refl
@@ -165,7 +165,7 @@ related-reply w r e h = ap bytesOf (related-places w r e h)
 pub related-reply-length : (w : ℕ) (r : Reply) {p q x y : List ℕ} → Related p q x y → length (replied w true x r) ≡ length (replied w true y r)
 related-reply-length w Reply.Nothing h = ap length (related-reply w Reply.Nothing refl h)
 related-reply-length w Reply.Acknowledge h = ap length (related-reply w Reply.Acknowledge refl h)
-related-reply-length w Reply.Identity h = ap length (related-reply w Reply.Identity refl h)
+related-reply-length w (Reply.Identity m) h = ap length (related-reply w (Reply.Identity m) refl h)
 related-reply-length w (Reply.Address r c) h = ap length (related-reply w (Reply.Address r c) refl h)
 related-reply-length w (Reply.SegmentAddress n r c) h = ap length (related-reply w (Reply.SegmentAddress n r c) refl h)
 related-reply-length w (Reply.Decimal r c) h = ap length (related-reply w (Reply.Decimal r c) refl h)

@@ -42,7 +42,7 @@ pub places-small : (w : ℕ) (on : Bool) (p : List ℕ) (r : Reply) → Small (p
 unfolding places openCell
 places-small w on p Reply.Nothing = none
 places-small w on p Reply.Acknowledge = one none
-places-small w on p Reply.Identity = one (one (one none))
+places-small w on p (Reply.Identity m) = one (one (one none))
 places-small w on p (Reply.Address r c) = one (one (one none))
 places-small w on p (Reply.SegmentAddress n r c) = one (one (one (one none)))
 places-small w on p (Reply.Decimal r c) = one (one (one (one (one (one (one none))))))
@@ -88,7 +88,7 @@ module _ {w : ℕ} (k : Width w) where
   unfolding places replied
   replied-bound on p Reply.Nothing h = omega (arith, bytes-most (places-small w on p Reply.Nothing))
   replied-bound on p Reply.Acknowledge h = omega (arith, bytes-most (places-small w on p Reply.Acknowledge))
-  replied-bound on p Reply.Identity h = omega (arith, bytes-most (places-small w on p Reply.Identity))
+  replied-bound on p (Reply.Identity m) h = omega (arith, bytes-most (places-small w on p (Reply.Identity m)))
   replied-bound on p (Reply.Address r c) h = omega (arith, bytes-most (places-small w on p (Reply.Address r c)))
   replied-bound on p (Reply.SegmentAddress n r c) h = omega (arith, bytes-most (places-small w on p (Reply.SegmentAddress n r c)))
   replied-bound on p (Reply.Decimal r c) h = omega (arith, bytes-most (places-small w on p (Reply.Decimal r c)))

@@ -48,7 +48,7 @@ use Rattle.rules.specs.Arguments.{isKey, isLabel}
 use Rattle.rules.specs.Slot.{slotEnd, slotMost, slotLow, isText}
 use Rattle.rules.specs.Possible.{powerOn, good}
 use Rattle.rules.specs.Decode.{lookup, controls, escapes, idleRule, escapeRule, judged, featureRule, fieldRule, splitRule, digitRule, decimalRowRule, decimalColumnRule, slotRule, textRule, spoiltRule, argumentRule, decodeRule}
-use Rattle.rules.specs.Plan.{unlessGuarded, reversePlan, downPlan, addressPlan, movePlan, activate, windowPlan, advancing, storePlan, rowEditPlan, editPlan, clearPlan, settingPlan, sendPlan, excludedPlan, planRule}
+use Rattle.rules.specs.Plan.{unlessGuarded, reversePlan, downPlan, addressPlan, movePlan, activate, windowPlan, advancing, storePlan, takesCell, attributePlan, rowEditPlan, editPlan, clearPlan, settingPlan, sendPlan, excludedPlan, planRule}
 use Rattle.rules.specs.Send.{places, bytesOf, replied}
 use Rattle.rules.specs.Carry.{Effect, replyOf, done, carried}
 use Rattle.rules.specs.Step.{obeyed, innerRule, stepRule}
@@ -170,9 +170,13 @@ module _ (p : List ℕ) (c : Core) (g : List ℕ) (u : Setup) (room : ℕ) where
   setting-line (Setting.Feature f) = rw (le-leb 0 room (omega arith))
   setting-line Setting.HideLine = rw (le-leb 0 room (omega arith))
 
-  still-store : (g : List Bool) (k : Contents) → Still (storePlan g (idle c) k)
+  still-store : (g : List Bool) (k : Contents) (a : ℕ) → Still (storePlan g (idle c) k a)
   unfolding storePlan unlessGuarded advancing
-  still-store g k = search still-pick
+  still-store g k a = search still-pick
+
+  still-attribute : (g : List Bool) (a : ℕ) → Still (attributePlan g (idle c) a)
+  unfolding attributePlan
+  still-attribute g a = still-pick (takesCell (c .personality) a) _ _ (still-store g _ _) refl
 
   command-line : (tabs : List Bool) (d : Command)
       → setupAfter (carried p c (planRule (guardedAt (c .modes .protect) p) tabs (idle c) d) room .change) g u .shifted ≡ commandLine d (u .shifted)
@@ -180,8 +184,8 @@ module _ (p : List ℕ) (c : Core) (g : List ℕ) (u : Setup) (room : ℕ) where
   command-line tabs Command.Nothing = still-carried _ refl
   command-line tabs (Command.Go m) = still-carried _ (still-move (idle c) _ tabs m)
   command-line tabs (Command.Window x) = still-carried _ (still-window (idle c) x)
-  command-line tabs (Command.Store k) = still-carried _ (still-store _ k)
-  command-line tabs (Command.Attribute a) = still-carried _ (still-store _ _)
+  command-line tabs (Command.Store k) = still-carried _ (still-store _ k _)
+  command-line tabs (Command.Attribute a) = still-carried _ (still-attribute _ a)
   command-line tabs (Command.Edit x) = still-carried _ (still-edit (idle c) _ x)
   command-line tabs (Command.Clear x) = still-carried _ (still-clear (idle c) x)
   command-line tabs (Command.Turn m b) = still-carried _ refl
@@ -368,7 +372,7 @@ step-line p s b room h =
 pub shifted-line : ShiftedLine
 unfolding stepRule callRule ofPress powerOn
 shifted-line = record {
-  power-on = refl;
+  power-on = λ m. refl;
   step = step-line;
   bad = λ p s b room h. rw h;
   press = λ p s v room. refl;

@@ -33,7 +33,7 @@ use Rattle.rules.specs.declared.Command.the-variants as Command
 use Rattle.rules.specs.declared.Write.{Write}
 use Rattle.rules.specs.Cell.{pick, both}
 use Rattle.rules.specs.State.{number, withMode}
-use Rattle.rules.specs.Plan.{unlessGuarded, scrolls, reversePlan, downPlan, addressPlan, movePlan, activate, windowPlan, storing, advancing, storePlan, rowEditPlan, editPlan, clearPlan, settingPlan, sendPlan, excludedPlan, planRule}
+use Rattle.rules.specs.Plan.{unlessGuarded, scrolls, reversePlan, downPlan, addressPlan, movePlan, activate, windowPlan, storing, advancing, storePlan, attributePlan, rowEditPlan, editPlan, clearPlan, settingPlan, sendPlan, excludedPlan, planRule}
 use Rattle.rules.proofs.Related.{spares, conceals}
 
 -- protect mode stays on, no guarded cell is written to, and none is replied
@@ -136,9 +136,13 @@ module _ (g tabs : List Bool) (c : Core) (on : c .modes .protect ≡ true) where
   unfolding advancing
   advance w e = rw (no-scroll (c .modes) on) (search forms)
 
-  store : (k : Contents) → Unrevealing (storePlan g c k)
+  store : (k : Contents) (a : ℕ) → Unrevealing (storePlan g c k a)
   unfolding storePlan
-  store k = unless-guarded (advance _ (storing-spares _ _ _))
+  store k a = unless-guarded (advance _ (storing-spares _ _ _))
+
+  attribute : (a : ℕ) → Unrevealing (attributePlan g c a)
+  unfolding attributePlan
+  attribute a = search (forms, store)
 
   row-edit : (down : Bool) → Unrevealing (rowEditPlan c down)
   unfolding rowEditPlan
@@ -194,8 +198,8 @@ module _ (g tabs : List Bool) (c : Core) (on : c .modes .protect ≡ true) where
   unrevealing Command.Nothing e = search forms
   unrevealing (Command.Go m) e = move m
   unrevealing (Command.Window x) e = window x
-  unrevealing (Command.Store k) e = store k
-  unrevealing (Command.Attribute a) e = store _
+  unrevealing (Command.Store k) e = store k _
+  unrevealing (Command.Attribute a) e = attribute a
   unrevealing (Command.Edit x) e = edit x
   unrevealing (Command.Clear x) e = clear x
   unrevealing (Command.Turn m b) e = search (forms, turn-keeps)

@@ -1,7 +1,7 @@
 -- Which bytes the arguments of commands may be.
-use Prim.Native.Nat.{ℕ}
+use Prim.Native.Nat.{ℕ, _+_, _%_}
 use mathlib.Core.Bool.{Bool}
-use lib.Dec.{eqb}
+use lib.Dec.{eqb, ltb}
 use Rattle.rules.specs.declared.Contents.{Contents}
 use Rattle.rules.specs.declared.Contents.the-variants as Contents
 use Rattle.rules.specs.Cell.{pick, either, among}
@@ -13,6 +13,11 @@ isAttribute a = either (eqb a 0x20) (either (among 0x30 16 a) (among 0x70 15 a))
 -- what a cell of it holds: attr 20h is a text space
 unfoldable pub attributeContents : ℕ → Contents
 attributeContents a = pick (eqb a 0x20) (Contents.Text a) (Contents.Attribute a)
+
+-- the attribute of a code of 30h to 3Fh or 70h to 7Eh (document 02, A8): its low four bits are underscore 8, reverse 4, blink 2 and blank 1, and
+-- 70h to 7Eh add dim, 16
+unfoldable pub attributeOf : ℕ → ℕ
+attributeOf a = a % 16 + pick (ltb a 0x70) 0 16
 
 -- which feature a code of ESC ` sets: 0 and 1 whether the cursor is shown, 2 to 5 its style, 6 7 A the protected look, 8 and 9 whether the
 -- screen is shown, 3Ch to 40h scrolling. Five for any other code

@@ -8,10 +8,18 @@ use lib.ListN.{getD, take, replicate}
 use Rattle.rules.specs.declared.State.{State}
 use Rattle.rules.specs.declared.Screen.{Screen}
 use Rattle.rules.specs.declared.Modes.{Modes}
+use Rattle.rules.specs.declared.Personality.the-variants as Personality
 use Rattle.rules.specs.Cell.{pick, both, same}
 use Rattle.rules.specs.State.{cursorOf, shortBytes, labelPlace}
 use Rattle.rules.specs.Possible.{powerOn, blank}
 use Rattle.rules.specs.Calls.{Call, Step, Press, Given, Played, play}
+
+-- the power-on states of the two personalities
+abbrev pub wy50 : State
+wy50 = powerOn Personality.Wy50
+
+abbrev pub wy60 : State
+wy60 = powerOn Personality.Wy60
 
 -- what a case claims once its calls are made: a cell's number, the active cursor's cell, all reply bytes joined, the answer of each call
 pub data Claim : Type 0 where
@@ -31,6 +39,8 @@ pub data Claim : Type 0 where
   FieldAttributes : List ℕ → Claim
   Features : List ℕ → Claim
   Bells : ℕ → Claim
+  -- the attribute remembered
+  Remembered : ℕ → Claim
   -- the host message, the label of a value of ESC z, whether the shifted line is on
   Message : List ℕ → Claim
   Label : ℕ → List ℕ → Claim
@@ -79,6 +89,7 @@ holds r (TabStops l) = same (stopsFrom 0 (r .state .setup .tabs)) l
 holds r (FieldAttributes l) = same (r .state .setup .attributes) l
 holds r (Features l) = same (r .state .setup .features) l
 holds r (Bells n) = eqb (r .state .core .bells) n
+holds r (Remembered a) = eqb (r .state .core .attribute) a
 holds r (Message l) = same (take (r .state .setup .message .len) (r .state .setup .message .bytes)) l
 holds r (Label v l) = same (shortBytes (getD (r .state .setup .labels) (labelPlace v) record { len = 0; bytes = [] })) l
 holds r (Shifted b) = pick b (r .state .setup .shifted) (not (r .state .setup .shifted))
@@ -87,14 +98,14 @@ unfoldable pub allHold : Played → List Claim → Bool
 allHold r [] = true
 allHold r (c ∷ cs) = both (holds r c) (allHold r cs)
 
--- calls from power-on, or from another page and state, and what is claimed of them
+-- calls from the power-on of a WY-50, or from another page and state, and what is claimed of them
 pub data Case : Type 0 where
   from-power-on : List Call → List Claim → Case
   from-page : List ℕ → State → List Call → List Claim → Case
 
 unfoldable pub casesHold : List Case → Bool
 casesHold [] = true
-casesHold (from-power-on calls claims ∷ cs) = both (allHold (play calls blank powerOn) claims) (casesHold cs)
+casesHold (from-power-on calls claims ∷ cs) = both (allHold (play calls blank wy50) claims) (casesHold cs)
 casesHold (from-page p s calls claims ∷ cs) = both (allHold (play calls p s) claims) (casesHold cs)
 
 -- host bytes, each with a room of 1,944

@@ -6,9 +6,9 @@ use Prim.Native.Nat.{ℕ, zero, suc}
 use lib.Dec.{eqb}
 use Rattle.rules.specs.declared.State.{State}
 use Rattle.rules.specs.Cell.{pick, both}
-use Rattle.rules.specs.Possible.{powerOn}
 use Rattle.rules.specs.Calls.{Given}
 use Rattle.rules.specs.Noninterference.{anyOf}
+use Rattle.rules.specs.Bench.{wy50}
 use Rattle.rules.specs.Inputs.{esc, halves, lower, typed}
 
 -- n numbers from `first` on
@@ -31,7 +31,7 @@ triedHold (b ∷ bs) behind n taken s =
 
 unfoldable pub bytesHold : List ByteCase → Bool
 bytesHold [] = true
-bytesHold (takes before tried behind n taken ∷ cs) = both (triedHold tried behind n taken ((typed before [] powerOn) .state)) (bytesHold cs)
+bytesHold (takes before tried behind n taken ∷ cs) = both (triedHold tried behind n taken ((typed before [] wy50) .state)) (bytesHold cs)
 
 -- every byte below 80h, and every byte above
 unfoldable pub low : List ℕ

@@ -1,9 +1,9 @@
 -- Worked cases of document 01, "Numbers that come back", and of keys.
 use mathlib.Core.List.{List, [], _∷_, _++_}
 use lib.ListN.{replicate}
-use Rattle.rules.specs.Possible.{powerOn, blank}
+use Rattle.rules.specs.Possible.{blank}
 use Rattle.rules.specs.Calls.{Step, Run, Press}
-use Rattle.rules.specs.Bench.{Cell, Cursor, Replies, Answers, Counts, Rests, TabStops, FieldAttributes, Bells, Case, from-power-on, from-page, host}
+use Rattle.rules.specs.Bench.{wy50, Cell, Cursor, Replies, Answers, Counts, Rests, TabStops, FieldAttributes, Bells, Case, from-power-on, from-page, host}
 use Rattle.rules.specs.Inputs.{esc, pageOf, protectAt, belled, fullKeys, refuses}
 
 unfoldable pub callCases : List Case
@@ -37,9 +37,9 @@ callCases =
     ∷ from-page (pageOf (206 ∷ [])) (protectAt 0) (Run (0xe9 ∷ 0x1b ∷ 0x7e ∷ 0x1b ∷ 0x47 ∷ 0x40 ∷ 0x41 ∷ 0x0c ∷ 0x42 ∷ []) 0 ∷ [])
     (Answers (0 ∷ []) ∷ Counts (9 ∷ 0 ∷ 4 ∷ []) ∷ Rests [] ∷ Cell 1 0x42 ∷ [])
     -- 7, before 1 and 8: zeros, the whole input back, nothing changed
-    ∷ from-page (replicate 1919 0) powerOn (Step 0x41 9 ∷ Step 0xff 9 ∷ Run (0x41 ∷ 0x42 ∷ []) 9 ∷ Run [] 9 ∷ Press 0x40 9 ∷ [])
+    ∷ from-page (replicate 1919 0) wy50 (Step 0x41 9 ∷ Step 0xff 9 ∷ Run (0x41 ∷ 0x42 ∷ []) 9 ∷ Run [] 9 ∷ Press 0x40 9 ∷ [])
     (Answers (7 ∷ 7 ∷ 7 ∷ 7 ∷ 7 ∷ []) ∷ Counts (0 ∷ 0 ∷ 0 ∷ 0 ∷ 0 ∷ 0 ∷ 0 ∷ 0 ∷ 0 ∷ []) ∷ Rests (0x41 ∷ 0x42 ∷ []) ∷ Replies [] ∷ Cell 0 0 ∷ Cursor 0 ∷ [])
-    ∷ from-page (replicate 1921 0) powerOn (Step 0x41 9 ∷ Run (0x41 ∷ 0x42 ∷ []) 9 ∷ Press 0x40 9 ∷ [])
+    ∷ from-page (replicate 1921 0) wy50 (Step 0x41 9 ∷ Run (0x41 ∷ 0x42 ∷ []) 9 ∷ Press 0x40 9 ∷ [])
     (Answers (7 ∷ 7 ∷ 7 ∷ []) ∷ Counts (0 ∷ 0 ∷ 0 ∷ 0 ∷ 0 ∷ []) ∷ Rests (0x41 ∷ 0x42 ∷ []) ∷ Replies [] ∷ [])
     ∷ from-page blank (belled 256) (Step 0x07 9 ∷ Run (0x05 ∷ []) 9 ∷ Press 0x40 9 ∷ []) (Answers (7 ∷ 7 ∷ 7 ∷ []) ∷ Rests (0x05 ∷ []) ∷ Replies [] ∷ Bells 256 ∷ [])
     -- ESC z: bytes are stored literally, ESC and controls too; up to 8; 80h and above 1, not gathered

@@ -6,6 +6,7 @@ use lib.Dec.{leb, eqb}
 use lib.ListN.{length, getD}
 use Rattle.rules.specs.declared.State.{State}
 use Rattle.rules.specs.declared.ShortText.{ShortText}
+use Rattle.rules.specs.declared.Personality.{Personality}
 use Rattle.rules.specs.Cell.{pick, among}
 use Rattle.rules.specs.Row.{narrowCells}
 use Rattle.rules.specs.State.{shortBytes, keyPlace}
@@ -13,11 +14,11 @@ use Rattle.rules.specs.Possible.{powerOn, blank, good}
 use Rattle.rules.specs.Arguments.{isKey}
 use Rattle.rules.specs.Step.{Outcome, stepRule}
 
--- power-on: a narrow page, all cells 0. A wrong page length answers 7 and leaves the page
-unfoldable pub powerOnRule : List ℕ → Outcome
-powerOnRule p =
-    pick (eqb (length p) narrowCells) (record { answer = 0; state = powerOn; page = blank; reply = [] })
-    (record { answer = 7; state = powerOn; page = p; reply = [] })
+-- power-on with a personality: a narrow page, all cells 0. A wrong page length answers 7 and leaves the page
+unfoldable pub powerOnRule : Personality → List ℕ → Outcome
+powerOnRule m p =
+    pick (eqb (length p) narrowCells) (record { answer = 0; state = powerOn m; page = blank; reply = [] })
+    (record { answer = 7; state = powerOn m; page = p; reply = [] })
 
 -- a run: its answer, bytes taken, how many of these answered 1 to 4, the reply, the bytes not taken
 pub record Ran : Type 0 where

@@ -3,12 +3,12 @@ use mathlib.Core.Path.{_≡_}
 use mathlib.Core.Bool.{true, false}
 use mathlib.Core.List.{[], _∷_, _++_}
 use lib.ListN.{replicate}
-use Rattle.rules.specs.Possible.{powerOn}
+use Rattle.rules.specs.declared.Personality.the-variants as Personality
 use Rattle.rules.specs.Room.{over}
 use Rattle.rules.specs.Calls.{powerOnRule}
 use Rattle.rules.specs.RowList.{rowList}
 use Rattle.rules.specs.Completed.{SixCompleted}
-use Rattle.rules.specs.Bench.{casesHold}
+use Rattle.rules.specs.Bench.{wy50, wy60, casesHold}
 use Rattle.rules.specs.MovingCases.{movingCases}
 use Rattle.rules.specs.WritingCases.{writingCases}
 use Rattle.rules.specs.ReplyCases.{replyCases}
@@ -16,6 +16,7 @@ use Rattle.rules.specs.CallCases.{callCases}
 use Rattle.rules.specs.LabelCases.{labelCases}
 use Rattle.rules.specs.SendCases.{sendCases}
 use Rattle.rules.specs.RowCases.{rowsWith, rowCases, rowCasesHold}
+use Rattle.rules.specs.PersonalityCases.{personalityCases}
 use Rattle.rules.specs.ByteCases.{bytesHold, firstBytes, argumentBytes, addressBytes, decimalBytes}
 use Rattle.rules.specs.PossibleCases.{possibleStates, impossibleStates, allPossible, nonePossible}
 
@@ -28,6 +29,7 @@ pub record CaseList : Type 0 where
   pub sending : casesHold sendCases ≡ true
   pub rows : rowCasesHold rowCases ≡ true
   pub wide-rows : rowList 132 (replicate 79 true ++ replicate 3089 false) ≡ 53 ∷ 80 ∷ rowsWith 132 1 23
+  pub personalities : casesHold personalityCases ≡ true
   -- which bytes, tried with all of them
   pub first : bytesHold firstBytes ≡ true
   pub argument : bytesHold argumentBytes ≡ true
@@ -35,10 +37,12 @@ pub record CaseList : Type 0 where
   pub decimal : bytesHold decimalBytes ≡ true
   pub possible : allPossible possibleStates ≡ true
   pub impossible : nonePossible impossibleStates ≡ true
-  -- power-on: all cells 0; a wrong page length answers 7 and leaves the page
-  pub power-on : powerOnRule (replicate 1920 5) ≡ record { answer = 0; state = powerOn; page = replicate 1920 0; reply = [] }
-  pub short-page : powerOnRule (replicate 1919 5) ≡ record { answer = 7; state = powerOn; page = replicate 1919 5; reply = [] }
-  pub long-page : powerOnRule (replicate 1921 5) ≡ record { answer = 7; state = powerOn; page = replicate 1921 5; reply = [] }
+  -- power-on: all cells 0; a wrong page length answers 7 and leaves the page. The state is that of the personality
+  pub power-on : powerOnRule Personality.Wy50 (replicate 1920 5) ≡ record { answer = 0; state = wy50; page = replicate 1920 0; reply = [] }
+  pub short-page : powerOnRule Personality.Wy50 (replicate 1919 5) ≡ record { answer = 7; state = wy50; page = replicate 1919 5; reply = [] }
+  pub long-page : powerOnRule Personality.Wy50 (replicate 1921 5) ≡ record { answer = 7; state = wy50; page = replicate 1921 5; reply = [] }
+  pub power-on-60 : powerOnRule Personality.Wy60 (replicate 1920 5) ≡ record { answer = 0; state = wy60; page = replicate 1920 0; reply = [] }
+  pub short-page-60 : powerOnRule Personality.Wy60 (replicate 1919 5) ≡ record { answer = 7; state = wy60; page = replicate 1919 5; reply = [] }
   -- what lies beyond a reply is untouched
   pub room : over (1 ∷ 2 ∷ []) (7 ∷ 8 ∷ 9 ∷ []) ≡ 1 ∷ 2 ∷ 9 ∷ []
   -- demand 3: what completes one of the six, and what does not

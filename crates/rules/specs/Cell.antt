@@ -1,4 +1,4 @@
--- One cell's number (document 01, "The page and the state").
+-- One cell's number (document 01, "The page and the state", amended by request A8 of document 02: its kind, and its attribute).
 use Prim.Native.Nat.{ℕ, _+_, _*_, _/_, _%_}
 use mathlib.Core.Bool.{Bool, true, false, not}
 use mathlib.Core.List.{List, [], _∷_}
@@ -35,29 +35,53 @@ code v = v % 128
 abbrev pub protected : ℕ → Bool
 protected v = eqb (v / 128 % 2) 1
 
--- 0 text, 1 attribute, anything else graphic
+-- 0 text, 1 attribute, 2 graphic, and 3 reads as graphic
 abbrev pub kind : ℕ → ℕ
-kind v = v / 256
+kind v = pick (ltb (v / 256 % 4) 2) (v / 256 % 4) 2
 
--- the number of a written cell
-abbrev pub cell : ℕ → Bool → ℕ → ℕ
-cell c p k = c + pick p 128 0 + 256 * k
+-- the five attribute flags, and the attribute that they make: dim 16, underscore 8, reverse 4, blink 2, blank 1. The bit worth 32768 is read by
+-- nobody
+abbrev pub isDim : ℕ → Bool
+isDim v = eqb (v / 16384 % 2) 1
 
--- "contents": a cell's code and kind
-abbrev pub written : Contents → Bool → ℕ
-written (Contents.Text c) p = cell c p 0
-written (Contents.Attribute c) p = cell c p 1
-written (Contents.Graphic c) p = cell c p 2
+abbrev pub isUnderscore : ℕ → Bool
+isUnderscore v = eqb (v / 8192 % 2) 1
 
--- unprotected: a null, and the space that clearing, inserting, deleting and scrolling bring in; and the protected space of ESC V and ESC ,
+abbrev pub isReverse : ℕ → Bool
+isReverse v = eqb (v / 4096 % 2) 1
+
+abbrev pub isBlink : ℕ → Bool
+isBlink v = eqb (v / 2048 % 2) 1
+
+abbrev pub isBlank : ℕ → Bool
+isBlank v = eqb (v / 1024 % 2) 1
+
+abbrev pub attribute : ℕ → ℕ
+attribute v = v / 1024 % 32
+
+abbrev pub normal : ℕ
+normal = 0
+
+-- the number of a written cell: its code, whether it is protected, its kind and its attribute
+abbrev pub cell : ℕ → Bool → ℕ → ℕ → ℕ
+cell c p k a = c + pick p 128 0 + 256 * k + 1024 * a
+
+-- "contents": a cell's code and kind; a is its attribute
+abbrev pub written : Contents → Bool → ℕ → ℕ
+written (Contents.Text c) p a = cell c p 0 a
+written (Contents.Attribute c) p a = cell c p 1 a
+written (Contents.Graphic c) p a = cell c p 2 a
+
+-- unprotected and normal: a null, and the space that clearing, inserting, deleting and scrolling bring in; and the protected space of ESC V
+-- and ESC ,
 abbrev pub null : ℕ
-null = written (Contents.Text 0) false
+null = written (Contents.Text 0) false normal
 
 abbrev pub space : ℕ
-space = written (Contents.Text 0x20) false
+space = written (Contents.Text 0x20) false normal
 
 abbrev pub protectedSpace : ℕ
-protectedSpace = written (Contents.Text 0x20) true
+protectedSpace = written (Contents.Text 0x20) true normal
 
 -- "guarded": protect mode is on and the cell is protected
 abbrev pub guarded : Bool → ℕ → Bool

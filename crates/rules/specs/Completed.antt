@@ -9,10 +9,11 @@ use lib.ListN.{length, replicate}
 use Rattle.rules.specs.declared.State.{State}
 use Rattle.rules.specs.declared.Pending.{Pending}
 use Rattle.rules.specs.declared.Pending.the-variants as Pending
-use Rattle.rules.specs.Possible.{powerOn, blank, good}
+use Rattle.rules.specs.Possible.{blank, good}
 use Rattle.rules.specs.Step.{stepRule}
 use Rattle.rules.specs.Calls.{Call, Step, Run, Press, runRule, play}
 use Rattle.rules.specs.Noninterference.{Alike, anyCompleted, Indistinguishable}
+use Rattle.rules.specs.Bench.{wy50}
 
 -- the six, by their last bytes: ESC ', ESC *, ESC +, ESC , and ESC 6, ESC 7
 pub data OneOfSix : ℕ → Type 0 where
@@ -81,10 +82,10 @@ pub record NoneCompleted : Type 0 where
 
 -- whether a run over bytes from power-on completes one of the six; and whether the steps on ESC and a byte do
 unfoldable pub completesFrom : ℕ → List ℕ → Bool
-completesFrom room bytes = anyCompleted (Run bytes room ∷ []) blank powerOn
+completesFrom room bytes = anyCompleted (Run bytes room ∷ []) blank wy50
 
 unfoldable pub stepCompletes : ℕ → Bool
-stepCompletes b = anyCompleted (Step 0x1b 1944 ∷ Step b 1944 ∷ []) blank powerOn
+stepCompletes b = anyCompleted (Step 0x1b 1944 ∷ Step b 1944 ∷ []) blank wy50
 
 -- each of the six is completed by its last byte, in a run and in steps; not as text, not without room, not as an argument
 pub record SixCompleted : Type 0 where

@@ -27,7 +27,7 @@ GoodWrite w (Write.Rows down top bottom) = (top ≤ bottom) × (bottom ≤ heigh
 abbrev pub GoodReply : ℕ → Reply → Type 0
 GoodReply w Reply.Nothing = Unit {0}
 GoodReply w Reply.Acknowledge = Unit {0}
-GoodReply w Reply.Identity = Unit {0}
+GoodReply w (Reply.Identity m) = Unit {0}
 GoodReply w (Reply.Address r c) = Unit {0}
 GoodReply w (Reply.SegmentAddress n r c) = Unit {0}
 GoodReply w (Reply.Decimal r c) = Unit {0}

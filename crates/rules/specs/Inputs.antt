@@ -5,10 +5,10 @@ use Prim.Native.Nat.{ℕ, _+_, _-_}
 use lib.ListN.{length, take, replicate}
 use Rattle.rules.specs.declared.State.{State}
 use Rattle.rules.specs.State.{withCursor, withScreen, withModes, withProtect, withBells, withKeys}
-use Rattle.rules.specs.Possible.{powerOn, blank}
+use Rattle.rules.specs.Possible.{blank}
 use Rattle.rules.specs.Step.{outcomeOf, innerRule}
 use Rattle.rules.specs.Calls.{Played, ofStep, after}
-use Rattle.rules.specs.Bench.{Claim, Answers, Case, from-power-on, from-page, host}
+use Rattle.rules.specs.Bench.{wy50, Claim, Answers, Case, from-power-on, from-page, host}
 
 -- ESC and a byte; ESC = with a row and a column counted from 0
 unfoldable pub esc : ℕ → List ℕ
@@ -42,41 +42,41 @@ pageOf l = take 1920 (l ++ blank)
 
 -- the power-on state, but with the cursor at a cell
 unfoldable pub cursorAt : ℕ → State
-cursorAt n = record { core = withScreen (powerOn .core) (withCursor (powerOn .core .screen) n); gathered = powerOn .gathered; setup = powerOn .setup }
+cursorAt n = record { core = withScreen (wy50 .core) (withCursor (wy50 .core .screen) n); gathered = wy50 .gathered; setup = wy50 .setup }
 
 -- and with protect mode on
 unfoldable pub protectAt : ℕ → State
 protectAt n = record {
-  core = withModes (cursorAt n .core) (withProtect (powerOn .core .modes) true);
-  gathered = powerOn .gathered;
-  setup = powerOn .setup;
+  core = withModes (cursorAt n .core) (withProtect (wy50 .core .modes) true);
+  gathered = wy50 .gathered;
+  setup = wy50 .setup;
 }
 
 -- and, of a page split at row 13, in segment 0 or in segment 1, the other cursor home
 unfoldable pub upperAt : ℕ → State
 upperAt n = record {
-  core = withScreen (powerOn .core) record { wide = false; active = 0; split = 13; cursor0 = n; cursor1 = 960 };
-  gathered = powerOn .gathered;
-  setup = powerOn .setup;
+  core = withScreen (wy50 .core) record { wide = false; active = 0; split = 13; cursor0 = n; cursor1 = 960 };
+  gathered = wy50 .gathered;
+  setup = wy50 .setup;
 }
 
 unfoldable pub lowerAt : ℕ → State
 lowerAt n = record {
-  core = withScreen (powerOn .core) record { wide = false; active = 1; split = 13; cursor0 = 0; cursor1 = n };
-  gathered = powerOn .gathered;
-  setup = powerOn .setup;
+  core = withScreen (wy50 .core) record { wide = false; active = 1; split = 13; cursor0 = 0; cursor1 = n };
+  gathered = wy50 .gathered;
+  setup = wy50 .setup;
 }
 
 -- the power-on state with some bells counted
 unfoldable pub belled : ℕ → State
-belled n = record { core = withBells (powerOn .core) n; gathered = powerOn .gathered; setup = powerOn .setup }
+belled n = record { core = withBells (wy50 .core) n; gathered = wy50 .gathered; setup = wy50 .setup }
 
 -- the power-on state with 8 bytes in every key
 unfoldable pub fullKeys : State
 fullKeys = record {
-  core = powerOn .core;
-  gathered = powerOn .gathered;
-  setup = withKeys (powerOn .setup) (replicate 32 record { len = 8; bytes = replicate 8 0x61 });
+  core = wy50 .core;
+  gathered = wy50 .gathered;
+  setup = withKeys (wy50 .setup) (replicate 32 record { len = 8; bytes = replicate 8 0x61 });
 }
 
 -- bytes worked by the rule of a byte on a good page, each with a room of 3,192

@@ -35,6 +35,9 @@ pub mod RowCases
 pub mod ByteCases
 pub mod PossibleCases
 pub mod LabelCases
+pub mod PersonalityCases
 pub mod Cases
 pub mod Wide
 pub mod ShiftedLine
+pub mod Numbers
+pub mod Personalities

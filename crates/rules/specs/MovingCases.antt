@@ -1,8 +1,7 @@
 -- Worked cases of document 01, "Where the cursor may go".
 use mathlib.Core.List.{List, [], _∷_, _++_}
 use lib.ListN.{replicate}
-use Rattle.rules.specs.Possible.{powerOn}
-use Rattle.rules.specs.Bench.{Cell, Cursor, Segments, Case}
+use Rattle.rules.specs.Bench.{wy50, Cell, Cursor, Segments, Case}
 use Rattle.rules.specs.Inputs.{esc, goTo, labelled, halves, lower, threeLetters, lettersBelow, cursorAt, protectAt, upperAt, lowerAt, obeys, refuses, obeysFrom, refusesFrom}
 
 unfoldable pub movingCases : List Case
@@ -75,8 +74,8 @@ movingCases =
     ∷ obeys (esc 0x29 ++ esc 0x6a) (Cell 0 32 ∷ Cell 79 32 ∷ Cell 80 0 ∷ [])
     ∷ obeysFrom [] (cursorAt 1840) (esc 0x29 ++ 0x0a ∷ []) (Cell 1840 32 ∷ Cell 1919 32 ∷ [])
     -- a shifted or scrolled cell keeps its number
-    ∷ obeysFrom (0xffc1 ∷ []) powerOn (esc 0x6a) (Cell 80 0xffc1 ∷ [])
-    ∷ obeysFrom (0xffc1 ∷ []) powerOn (esc 0x51) (Cell 1 0xffc1 ∷ [])
+    ∷ obeysFrom (0xffc1 ∷ []) wy50 (esc 0x6a) (Cell 80 0xffc1 ∷ [])
+    ∷ obeysFrom (0xffc1 ∷ []) wy50 (esc 0x51) (Cell 1 0xffc1 ∷ [])
     -- 09h, ESC i, protect off: the next tab stop to the right, else stay; protected cells are not looked at
     ∷ obeysFrom [] (cursorAt 8) (esc 0x31 ++ goTo 1 3 ++ 0x09 ∷ []) (Cursor 88 ∷ [])
     ∷ obeysFrom [] (cursorAt 8) (esc 0x31 ++ goTo 1 3 ++ esc 0x69) (Cursor 88 ∷ [])

@@ -13,7 +13,8 @@ use Rattle.rules.specs.Possible.{good}
 use Rattle.rules.specs.Step.{stepRule}
 use Rattle.rules.specs.Calls.{Call, Step, Run, Press, callRule, Played, play}
 
--- pages alike at the start: the same length, the same protected bit in each cell, and the same number in each unprotected cell
+-- pages alike at the start: the same length, the same protected bit in each cell, and the same number in each unprotected cell. A protected
+-- cell's code, kind and attribute may differ
 pub record AlikePages (p q : List ℕ) : Type 0 where
   pub length : lib.ListN.length p ≡ lib.ListN.length q
   pub bits : (i : ℕ) → i < lib.ListN.length p → protected (getD p i 0) ≡ protected (getD q i 0)
@@ -84,7 +85,7 @@ pub record Indistinguishable (p q : List ℕ) (a b : Played) : Type 0 where
   pub state : a .state ≡ b .state
   pub pages : KeptPages p q (a .page) (b .page)
 
--- any list of calls, from any page and state with protect mode on, in which the first terminal completes none of the six
+-- any list of calls, from any page and state with protect mode on, of either personality, in which the first terminal completes none of the six
 abbrev pub Demand3 : Type 0
 Demand3 =
     (p q : List ℕ) (s t : State) (calls : List Call) → s .core .modes .protect ≡ true → Alike p q s t → anyCompleted calls p s ≡ false

@@ -12,6 +12,8 @@ use Rattle.rules.specs.declared.Plan.{Plan}
 use Rattle.rules.specs.declared.Answer.{Answer}
 use Rattle.rules.specs.declared.Answer.the-variants as Answer
 use Rattle.rules.specs.declared.Contents.{Contents}
+use Rattle.rules.specs.declared.Personality.{Personality}
+use Rattle.rules.specs.declared.Personality.the-variants as Personality
 use Rattle.rules.specs.declared.Move.{Move}
 use Rattle.rules.specs.declared.Move.the-variants as Move
 use Rattle.rules.specs.declared.Window.{Window}
@@ -36,11 +38,11 @@ use Rattle.rules.specs.declared.Reply.{Reply}
 use Rattle.rules.specs.declared.Reply.the-variants as Reply
 use Rattle.rules.specs.declared.Land.{Land}
 use Rattle.rules.specs.declared.Land.the-variants as Land
-use Rattle.rules.specs.Cell.{pick, both, either, among, written, null, space, protectedSpace}
+use Rattle.rules.specs.Cell.{pick, both, either, among, normal, written, null, space, protectedSpace}
 use Rattle.rules.specs.Row.{columns, addressed, rowOf, columnOf, rowStart, rowEnd}
 use Rattle.rules.specs.Search.{previousOpen, nextField, previousField, nextTab, previousTab}
-use Rattle.rules.specs.State.{widthOf, segmentTop, segmentBottom, segmentStart, segmentEnd, cursorOf, activated, withScreen, withModes, withBells, withProtect, withMode}
-use Rattle.rules.specs.Arguments.{attributeContents, featurePlace}
+use Rattle.rules.specs.State.{widthOf, segmentTop, segmentBottom, segmentStart, segmentEnd, cursorOf, activated, withScreen, withModes, withBells, withAttribute, withProtect, withMode}
+use Rattle.rules.specs.Arguments.{attributeContents, attributeOf, featurePlace}
 
 -- the forms of plans
 abbrev pub refusing : Core → Answer → Plan
@@ -178,8 +180,18 @@ advancing c w =
     (pick (scrolls (c .modes)) (writingTwo c w (scroll x false) (Land.Settle (segmentEnd x - widthOf x)))
     (writing c w (Land.Settle (segmentStart x))))
 
-unfoldable pub storePlan : List Bool → Core → Contents → Plan
-storePlan g c k = unlessGuarded g c (advancing c (storing (c .modes .insert) (cursorOf (c .screen)) (written k (c .modes .mark))))
+-- a store with an attribute
+unfoldable pub storePlan : List Bool → Core → Contents → ℕ → Plan
+storePlan g c k a = unlessGuarded g c (advancing c (storing (c .modes .insert) (cursorOf (c .screen)) (written k (c .modes .mark) a)))
+
+-- ESC G (amended by request A8 of document 02): in WY-50 every code takes a cell; in WY-60 only 20h does, and any other is remembered
+unfoldable pub takesCell : Personality → ℕ → Bool
+takesCell Personality.Wy50 a = true
+takesCell Personality.Wy60 a = eqb a 0x20
+
+unfoldable pub attributePlan : List Bool → Core → ℕ → Plan
+attributePlan g c a =
+    pick (takesCell (c .personality) a) (storePlan g c (attributeContents a) normal) (plain (withAttribute c (attributeOf a)))
 
 -- ESC Q, ESC W: the edit run moves, a space comes in, the cursor stays. ESC E, ESC R: the cursor's row, within the segment; protect on: 4
 unfoldable pub rowEditPlan : Core → Bool → Plan
@@ -194,13 +206,13 @@ editPlan g c Edit.DeleteCell = unlessGuarded g c (writing c (Write.Edit false (c
 editPlan g c Edit.InsertRow = rowEditPlan c true
 editPlan g c Edit.DeleteRow = rowEditPlan c false
 
--- what clearing writes is unprotected, but for ESC V: protected spaces in the cursor's column
+-- what clearing writes is normal, and unprotected but for ESC V: protected spaces in the cursor's column
 unfoldable pub clearPlan : Core → Clear → Plan
 clearPlan c (Clear.Row k) =
-    writing c (Write.Fill (cursorOf (c .screen)) (rowEnd (widthOf (c .screen)) (cursorOf (c .screen))) (written k false)) Land.Stay
-clearPlan c (Clear.Rest k) = writing c (Write.Fill (cursorOf (c .screen)) (segmentEnd (c .screen)) (written k false)) Land.Stay
+    writing c (Write.Fill (cursorOf (c .screen)) (rowEnd (widthOf (c .screen)) (cursorOf (c .screen))) (written k false normal)) Land.Stay
+clearPlan c (Clear.Rest k) = writing c (Write.Fill (cursorOf (c .screen)) (segmentEnd (c .screen)) (written k false normal)) Land.Stay
 clearPlan c (Clear.Segment k) =
-    writing c (Write.Fill (segmentStart (c .screen)) (segmentEnd (c .screen)) (written k false)) (Land.Settle (segmentStart (c .screen)))
+    writing c (Write.Fill (segmentStart (c .screen)) (segmentEnd (c .screen)) (written k false normal)) (Land.Settle (segmentStart (c .screen)))
 clearPlan c Clear.Column =
     writing c
     (Write.Column (segmentTop (c .screen)) (segmentBottom (c .screen)) (columnOf (widthOf (c .screen)) (cursorOf (c .screen))) protectedSpace)
@@ -224,7 +236,7 @@ cursorColumn x = columnOf (widthOf x) (cursorOf x)
 
 unfoldable pub sendPlan : List Bool → Core → Send → Plan
 sendPlan g c Send.Acknowledge = replying c Reply.Acknowledge
-sendPlan g c Send.Identity = replying c Reply.Identity
+sendPlan g c Send.Identity = replying c (Reply.Identity (c .personality))
 sendPlan g c Send.Cursor = replying c (Reply.Address (0x20 + cursorRow (c .screen)) (0x20 + cursorColumn (c .screen)))
 sendPlan g c Send.SegmentCursor =
     replying c (Reply.SegmentAddress (0x30 + c .screen .active) (0x20 + cursorRow (c .screen)) (0x20 + cursorColumn (c .screen)))
@@ -255,8 +267,8 @@ unfoldable pub planRule : List Bool → List Bool → Core → Command → Plan
 planRule g tabs c Command.Nothing = plain c
 planRule g tabs c (Command.Go m) = movePlan g tabs c m
 planRule g tabs c (Command.Window x) = windowPlan c x
-planRule g tabs c (Command.Store k) = storePlan g c k
-planRule g tabs c (Command.Attribute a) = storePlan g c (attributeContents a)
+planRule g tabs c (Command.Store k) = storePlan g c k (c .attribute)
+planRule g tabs c (Command.Attribute a) = attributePlan g c a
 planRule g tabs c (Command.Edit x) = editPlan g c x
 planRule g tabs c (Command.Clear x) = clearPlan c x
 planRule g tabs c (Command.Turn m b) = plain (withModes c (withMode (c .modes) m b))

@@ -8,23 +8,26 @@ use Rattle.rules.specs.declared.Core.{Core}
 use Rattle.rules.specs.declared.Setup.{Setup}
 use Rattle.rules.specs.declared.State.{State}
 use Rattle.rules.specs.declared.Screen.{Screen}
-use Rattle.rules.specs.declared.Core.{Core}
-use Rattle.rules.specs.declared.Setup.{Setup}
+use Rattle.rules.specs.declared.Personality.{Personality}
+use Rattle.rules.specs.declared.Personality.the-variants as Personality
 use Rattle.rules.specs.declared.Pending.{Pending}
 use Rattle.rules.specs.declared.Pending.the-variants as Pending
-use Rattle.rules.specs.Cell.{pick, both, either, among}
+use Rattle.rules.specs.Cell.{pick, both, either, among, normal}
 use Rattle.rules.specs.Row.{height, narrowCells}
 use Rattle.rules.specs.State.{widthOf, pageLength, noText, noLong}
 use Rattle.rules.specs.Arguments.{isAttribute, featurePlace}
 use Rattle.rules.specs.Slot.{slotOk, slotLow, slotMost, textOk, textsOk}
 
-unfoldable pub powerOn : State
-powerOn = record {
+-- with each personality (document 02, A8)
+unfoldable pub powerOn : Personality → State
+powerOn m = record {
   core = record {
     screen = record { wide = false; active = 0; split = 0; cursor0 = 0; cursor1 = 0 };
     modes = record { protect = false; mark = false; insert = false; autoscroll = true; locked = false; local = false };
     bells = 0;
     pending = Pending.Idle;
+    personality = m;
+    attribute = normal;
   };
   gathered = replicate 46 0;
   setup = record {
@@ -87,13 +90,20 @@ pendingOk (Pending.FieldNumber n) g = ltb n 128
 pendingOk (Pending.Text x n) g = both (slotOk x) (textOk (slotLow x) (slotMost x) n g)
 pendingOk (Pending.Spoilt x) g = slotOk x
 
+-- the attribute remembered (document 02, A8): in WY-50 only normal, in WY-60 any that ESC G sets, so not dim with all four others, 31
+unfoldable pub rememberedOk : Personality → ℕ → Bool
+rememberedOk Personality.Wy50 a = eqb a normal
+rememberedOk Personality.Wy60 a = ltb a 31
+
 -- document 01 has narrow pages only; the rules are said over both widths, and no wide screen is possible until request A11 lands
 abbrev pub narrow : Screen → Bool
 narrow x = not (x .wide)
 
 -- the term "possible": of the core with the bytes gathered, and of the set-up, w being the width of the page
 unfoldable pub coreOk : Core → List ℕ → Bool
-coreOk c g = both (narrow (c .screen)) (both (screenOk (c .screen)) (both (ltb (c .bells) 256) (pendingOk (c .pending) g)))
+coreOk c g =
+    both (narrow (c .screen)) (both (screenOk (c .screen)) (both (ltb (c .bells) 256)
+    (both (rememberedOk (c .personality) (c .attribute)) (pendingOk (c .pending) g))))
 
 -- keys of any bytes below 7Fh; labels and message of 20h to 7Eh (document 02, A1)
 unfoldable pub setupOk : ℕ → Setup → Bool

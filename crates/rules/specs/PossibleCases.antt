@@ -9,51 +9,56 @@ use Rattle.rules.specs.declared.Pending.{Pending}
 use Rattle.rules.specs.declared.Pending.the-variants as Pending
 use Rattle.rules.specs.declared.Slot.the-variants as Slot
 use Rattle.rules.specs.Cell.{both}
-use Rattle.rules.specs.State.{withScreen, awaiting, withTabs, withAttributes, withFeatures, withKeys, withLabels, withMessage, withShifted}
-use Rattle.rules.specs.Possible.{powerOn, possible}
+use Rattle.rules.specs.State.{withScreen, withAttribute, awaiting, withTabs, withAttributes, withFeatures, withKeys, withLabels, withMessage, withShifted}
+use Rattle.rules.specs.Possible.{possible}
+use Rattle.rules.specs.Bench.{wy50, wy60}
 use Rattle.rules.specs.Inputs.{belled}
 
 -- the power-on state, but with another active segment, split row and cursors
 unfoldable pub placed : ℕ → ℕ → ℕ → ℕ → State
 placed a s c d = record {
-  core = withScreen (powerOn .core) record { wide = false; active = a; split = s; cursor0 = c; cursor1 = d };
-  gathered = powerOn .gathered;
-  setup = powerOn .setup;
+  core = withScreen (wy50 .core) record { wide = false; active = a; split = s; cursor0 = c; cursor1 = d };
+  gathered = wy50 .gathered;
+  setup = wy50 .setup;
 }
 
 -- with another set-up
 abbrev pub settled : Setup → State
-settled u = record { core = powerOn .core; gathered = powerOn .gathered; setup = u }
+settled u = record { core = wy50 .core; gathered = wy50 .gathered; setup = u }
 
 -- with a key of n bytes, which are given, at a place; a label; a message; field attributes; features; a tab stop; the shifted line on
 unfoldable pub keyed : ℕ → ℕ → List ℕ → State
-keyed place n bytes = settled (withKeys (powerOn .setup) (set (powerOn .setup .keys) place record { len = n; bytes = bytes }))
+keyed place n bytes = settled (withKeys (wy50 .setup) (set (wy50 .setup .keys) place record { len = n; bytes = bytes }))
 
 unfoldable pub labelledAt : ℕ → ℕ → List ℕ → State
-labelledAt place n bytes = settled (withLabels (powerOn .setup) (set (powerOn .setup .labels) place record { len = n; bytes = bytes }) false)
+labelledAt place n bytes = settled (withLabels (wy50 .setup) (set (wy50 .setup .labels) place record { len = n; bytes = bytes }) false)
 
 unfoldable pub messaged : ℕ → List ℕ → State
-messaged n bytes = settled (withMessage (powerOn .setup) record { len = n; bytes = bytes })
+messaged n bytes = settled (withMessage (wy50 .setup) record { len = n; bytes = bytes })
 
 unfoldable pub attributed : List ℕ → State
-attributed l = settled (withAttributes (powerOn .setup) l)
+attributed l = settled (withAttributes (wy50 .setup) l)
 
 unfoldable pub featured : List ℕ → State
-featured l = settled (withFeatures (powerOn .setup) l)
+featured l = settled (withFeatures (wy50 .setup) l)
 
 unfoldable pub stopped : ℕ → State
-stopped column = settled (withTabs (powerOn .setup) (set (powerOn .setup .tabs) column true))
+stopped column = settled (withTabs (wy50 .setup) (set (wy50 .setup .tabs) column true))
 
 unfoldable pub shiftedOn : State
-shiftedOn = settled (withShifted (powerOn .setup) true)
+shiftedOn = settled (withShifted (wy50 .setup) true)
+
+-- of each personality, with an attribute remembered
+unfoldable pub remembering : State → ℕ → State
+remembering s a = record { core = withAttribute (s .core) a; gathered = s .gathered; setup = s .setup }
 
 -- with a text under way, or a spoilt one, of which the bytes gathered are given
 unfoldable pub gathering : Pending → List ℕ → State
-gathering q g = record { core = awaiting (powerOn .core) q; gathered = g; setup = powerOn .setup }
+gathering q g = record { core = awaiting (wy50 .core) q; gathered = g; setup = wy50 .setup }
 
 unfoldable pub possibleStates : List State
 possibleStates =
-    powerOn
+    wy50
     -- split row none or 2 to 24, each cursor within its segment; unsplit the whole page for both
     ∷ placed 0 0 1919 1919
     ∷ placed 0 2 79 80
@@ -85,6 +90,12 @@ possibleStates =
     ∷ featured (0x31 ∷ 0x35 ∷ 0x41 ∷ 0x39 ∷ 0x40 ∷ [])
     ∷ stopped 79
     ∷ belled 255
+    -- the attribute remembered: in WY-50 normal, in WY-60 any but dim with all four others
+    ∷ remembering wy50 0
+    ∷ remembering wy60 0
+    ∷ remembering wy60 15
+    ∷ remembering wy60 16
+    ∷ remembering wy60 30
     ∷ []
 
 unfoldable pub impossibleStates : List State
@@ -129,6 +140,10 @@ impossibleStates =
     ∷ stopped 80
     ∷ stopped 131
     ∷ belled 256
+    ∷ remembering wy50 1
+    ∷ remembering wy50 16
+    ∷ remembering wy60 31
+    ∷ remembering wy60 32
     ∷ []
 
 unfoldable pub allPossible : List State → Bool

@@ -1,18 +1,22 @@
--- A sequence under way is possible exactly if some bytes fed from power-on leave it under way: the bytes, and the statement.
+-- A sequence under way is possible exactly if some bytes fed from power-on leave it under way, and so is a remembered attribute: the bytes, and
+-- the statement.
 use mathlib.Core.Path.{_≡_}
 use mathlib.Core.Bool.{true}
 use mathlib.Core.List.{List, [], _∷_, _++_}
 use Prim.Native.Nat.{ℕ, zero, suc, _+_, _/_}
+use lib.Dec.{ltb}
 use lib.ListN.{length, take, replicate}
 use Rattle.rules.specs.declared.State.{State}
+use Rattle.rules.specs.declared.Personality.{Personality}
 use Rattle.rules.specs.declared.Slot.{Slot}
 use Rattle.rules.specs.declared.Slot.the-variants as Slot
 use Rattle.rules.specs.declared.Pending.{Pending}
 use Rattle.rules.specs.declared.Pending.the-variants as Pending
 use Rattle.rules.specs.declared.Argument.{Argument}
 use Rattle.rules.specs.declared.Argument.the-variants as Argument
+use Rattle.rules.specs.Cell.{pick}
 use Rattle.rules.specs.Slot.{slotMost}
-use Rattle.rules.specs.Possible.{powerOn, blank, pendingOk}
+use Rattle.rules.specs.Possible.{powerOn, blank, pendingOk, rememberedOk}
 use Rattle.rules.specs.Send.{digit}
 use Rattle.rules.specs.Calls.{Call, runRule, play}
 
@@ -61,10 +65,19 @@ pub record UnderWay (q : Pending) (g : List ℕ) (s : State) : Type 0 where
   pub pending : s .core .pending ≡ q
   pub text : (x : Slot) (n : ℕ) → q ≡ Pending.Text x n → take n (s .gathered) ≡ take n g
 
--- the statement; 46 bytes can be gathered
+-- ESC G and the code of an attribute
+unfoldable pub attributeBytes : ℕ → List ℕ
+attributeBytes a = 0x1b ∷ 0x47 ∷ pick (ltb a 16) (0x30 + a) (0x60 + a) ∷ []
+
+-- the statement, of each personality m; 46 bytes can be gathered
 pub record Reach : Type 0 where
   -- bytes from power-on leave each possible sequence under way
-  pub possible-reached : (q : Pending) (g : List ℕ) → length g ≡ 46 → pendingOk q g ≡ true
-      → UnderWay q g ((runRule blank powerOn (bytesFor q g) 1944) .state)
+  pub possible-reached : (m : Personality) (q : Pending) (g : List ℕ) → length g ≡ 46 → pendingOk q g ≡ true
+      → UnderWay q g ((runRule blank (powerOn m) (bytesFor q g) 1944) .state)
   -- whatever calls from power-on, they leave no other
-  pub reached-possible : (calls : List Call) (q : Pending) (g : List ℕ) → UnderWay q g ((play calls blank powerOn) .state) → pendingOk q g ≡ true
+  pub reached-possible : (m : Personality) (calls : List Call) (q : Pending) (g : List ℕ)
+      → UnderWay q g ((play calls blank (powerOn m)) .state) → pendingOk q g ≡ true
+  -- bytes from power-on leave each possible attribute remembered, and no calls any other
+  pub attribute-reached : (m : Personality) (a : ℕ) → rememberedOk m a ≡ true
+      → (runRule blank (powerOn m) (attributeBytes a) 1944) .state .core .attribute ≡ a
+  pub reached-attribute : (m : Personality) (calls : List Call) → rememberedOk m ((play calls blank (powerOn m)) .state .core .attribute) ≡ true

@@ -1,9 +1,8 @@
 -- Worked cases of document 01, power-on and "Modes and replies".
 use mathlib.Core.List.{List, [], _∷_, _++_}
 use lib.ListN.{replicate}
-use Rattle.rules.specs.Possible.{powerOn}
 use Rattle.rules.specs.Calls.{Step, Press}
-use Rattle.rules.specs.Bench.{Cell, Cursor, Replies, Answers, Segments, InModes, TabStops, FieldAttributes, Features, Bells, Case, from-power-on, from-page}
+use Rattle.rules.specs.Bench.{wy50, Cell, Cursor, Replies, Answers, Segments, InModes, TabStops, FieldAttributes, Features, Bells, Case, from-power-on, from-page}
 use Rattle.rules.specs.Inputs.{esc, goTo, labelled, lettersBelow, pageOf, cursorAt, protectAt, lowerAt, belled, obeys, obeysFrom, refusesFrom}
 
 unfoldable pub replyCases : List Case
@@ -68,11 +67,11 @@ replyCases =
     ∷ obeysFrom [] (cursorAt 1919) (esc 0x3f ++ esc 0x62) (Replies (0x37 ∷ 0x6f ∷ 0x0d ∷ 0x32 ∷ 0x34 ∷ 0x52 ∷ 0x30 ∷ 0x38 ∷ 0x30 ∷ 0x43 ∷ []) ∷ [])
     -- ESC M: the cursor cell, no CR; guarded 4, before 6
     ∷ obeys (0x41 ∷ 0x08 ∷ [] ++ esc 0x4d) (Replies (0x41 ∷ []) ∷ Cursor 0 ∷ [])
-    ∷ obeysFrom (206 ∷ []) powerOn (esc 0x4d) (Replies (0x4e ∷ []) ∷ [])
+    ∷ obeysFrom (206 ∷ []) wy50 (esc 0x4d) (Replies (0x4e ∷ []) ∷ [])
     ∷ refusesFrom 4 (206 ∷ []) (protectAt 0) (esc 0x4d) (Replies [] ∷ [])
     ∷ from-page (pageOf (206 ∷ [])) (protectAt 0) (Step 0x1b 0 ∷ Step 0x4d 0 ∷ []) (Answers (0 ∷ 4 ∷ []) ∷ [])
     -- a text cell with code 20h to 7Eh goes as its code, any other cell as 20h
-    ∷ obeysFrom (0x1f ∷ 0x20 ∷ 0x7e ∷ 0x7f ∷ 0x141 ∷ 0x241 ∷ 0x341 ∷ 0xff41 ∷ 0xc1 ∷ 0x00 ∷ []) powerOn (goTo 0 9 ++ esc 0x36)
+    ∷ obeysFrom (0x1f ∷ 0x20 ∷ 0x7e ∷ 0x7f ∷ 0x141 ∷ 0x241 ∷ 0x341 ∷ 0xff41 ∷ 0xc1 ∷ 0x00 ∷ []) wy50 (goTo 0 9 ++ esc 0x36)
     (Replies (0x20 ∷ 0x20 ∷ 0x7e ∷ 0x20 ∷ 0x20 ∷ 0x20 ∷ 0x20 ∷ 0x20 ∷ 0x41 ∷ 0x20 ∷ 0x0d ∷ []) ∷ Cursor 9 ∷ [])
     -- ESC 6: the row from column 1 through the cursor, then CR, guarded cells too; ESC 4: the same with guarded cells left out
     ∷ obeys (0x41 ∷ 0x1f ∷ [] ++ labelled 1 1 ++ 0x42 ∷ [] ++ esc 0x26 ++ esc 0x36) (Replies (0x20 ∷ 0x4e ∷ 0x42 ∷ 0x20 ∷ 0x0d ∷ []) ∷ [])

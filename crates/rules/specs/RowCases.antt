@@ -5,9 +5,9 @@ use Prim.Native.Nat.{ℕ, zero, suc}
 use lib.ListN.{replicate}
 use Rattle.rules.specs.declared.State.{State}
 use Rattle.rules.specs.Cell.{both, same}
-use Rattle.rules.specs.Possible.{powerOn, blank}
+use Rattle.rules.specs.Possible.{blank}
 use Rattle.rules.specs.Calls.{Run, Press}
-use Rattle.rules.specs.Bench.{answers}
+use Rattle.rules.specs.Bench.{wy50, answers}
 use Rattle.rules.specs.Inputs.{esc, goTo, labelled, pageOf, protectAt}
 use Rattle.rules.specs.RowCalls.{Session, RowCall, Bare, ListStep, ListRun, Rebuild, RowPlayed, rowPlay}
 
@@ -33,22 +33,22 @@ rowCasesHold (from p l s calls a after ∷ cs) =
 
 -- from power-on, with its list
 unfoldable pub fromPowerOn : List RowCall → List ℕ → List ℕ → RowCase
-fromPowerOn calls a after = from blank (openRows 24) powerOn calls a after
+fromPowerOn calls a after = from blank (openRows 24) wy50 calls a after
 
 unfoldable pub rowCases : List RowCase
 rowCases =
     -- the list of a page: protect off, every row has 80 open cells from column 1 on, marked ones too
-    from blank (replicate 48 7) powerOn (Rebuild ∷ []) (0 ∷ []) (openRows 24)
-    ∷ from (pageOf (replicate 3 206)) (replicate 48 0) powerOn (Rebuild ∷ []) (0 ∷ []) (openRows 24)
+    from blank (replicate 48 7) wy50 (Rebuild ∷ []) (0 ∷ []) (openRows 24)
+    ∷ from (pageOf (replicate 3 206)) (replicate 48 0) wy50 (Rebuild ∷ []) (0 ∷ []) (openRows 24)
     -- protect on: row 1 open from column 3 on, row 2 not at all, row 3 only in its last column
     ∷ from (pageOf (206 ∷ 206 ∷ replicate 78 0 ++ replicate 159 160)) (replicate 48 0) (protectAt 0) (Rebuild ∷ []) (0 ∷ [])
     (78 ∷ 3 ∷ 0 ∷ 0 ∷ 1 ∷ 80 ∷ openRows 21)
     -- an open cell between two guarded ones
     ∷ from (pageOf (206 ∷ 65 ∷ 206 ∷ [])) (replicate 48 0) (protectAt 1) (Rebuild ∷ []) (0 ∷ []) (78 ∷ 2 ∷ openRows 23)
     -- the rebuild: 47 and 49 numbers, a page of 1,919 cells and an impossible state answer 7, and the list is left
-    ∷ from blank (replicate 47 7) powerOn (Rebuild ∷ []) (7 ∷ []) (replicate 47 7)
-    ∷ from blank (replicate 49 7) powerOn (Rebuild ∷ []) (7 ∷ []) (replicate 49 7)
-    ∷ from (replicate 1919 0) (replicate 48 7) powerOn (Rebuild ∷ []) (7 ∷ []) (replicate 48 7)
+    ∷ from blank (replicate 47 7) wy50 (Rebuild ∷ []) (7 ∷ []) (replicate 47 7)
+    ∷ from blank (replicate 49 7) wy50 (Rebuild ∷ []) (7 ∷ []) (replicate 49 7)
+    ∷ from (replicate 1919 0) (replicate 48 7) wy50 (Rebuild ∷ []) (7 ∷ []) (replicate 48 7)
     ∷ from blank (replicate 48 7) (protectAt 1920) (Rebuild ∷ []) (7 ∷ []) (replicate 48 7)
     -- a step and a run with the list: text leaves it
     ∷ fromPowerOn (ListStep 0x41 0 ∷ ListRun (0x42 ∷ 0x43 ∷ []) 0 ∷ []) (0 ∷ 0 ∷ []) (openRows 24)
@@ -65,16 +65,16 @@ rowCases =
     -- a refused byte leaves it, and it agrees
     ∷ fromPowerOn (ListStep 0xe9 0 ∷ ListStep 0x1b 0 ∷ ListStep 0x35 0 ∷ []) (1 ∷ 0 ∷ 6 ∷ []) (openRows 24)
     -- one that disagrees: 7 to the step and to the run, over no bytes too; the list is left, and a call without it is made all the same
-    ∷ from blank (79 ∷ 1 ∷ openRows 23) powerOn (ListStep 0x41 0 ∷ ListRun [] 0 ∷ Bare (Run (0x41 ∷ []) 0) ∷ []) (7 ∷ 7 ∷ 0 ∷ []) (79 ∷ 1 ∷ openRows 23)
-    ∷ from blank (80 ∷ 2 ∷ openRows 23) powerOn (ListStep 0x41 0 ∷ []) (7 ∷ []) (80 ∷ 2 ∷ openRows 23)
-    ∷ from blank (openRows 23) powerOn (ListStep 0x41 0 ∷ []) (7 ∷ []) (openRows 23)
-    ∷ from blank [] powerOn (ListStep 0x41 0 ∷ ListRun [] 0 ∷ []) (7 ∷ 7 ∷ []) []
-    ∷ from blank (openRows 25) powerOn (ListRun (0x41 ∷ []) 0 ∷ []) (7 ∷ []) (openRows 25)
+    ∷ from blank (79 ∷ 1 ∷ openRows 23) wy50 (ListStep 0x41 0 ∷ ListRun [] 0 ∷ Bare (Run (0x41 ∷ []) 0) ∷ []) (7 ∷ 7 ∷ 0 ∷ []) (79 ∷ 1 ∷ openRows 23)
+    ∷ from blank (80 ∷ 2 ∷ openRows 23) wy50 (ListStep 0x41 0 ∷ []) (7 ∷ []) (80 ∷ 2 ∷ openRows 23)
+    ∷ from blank (openRows 23) wy50 (ListStep 0x41 0 ∷ []) (7 ∷ []) (openRows 23)
+    ∷ from blank [] wy50 (ListStep 0x41 0 ∷ ListRun [] 0 ∷ []) (7 ∷ 7 ∷ []) []
+    ∷ from blank (openRows 25) wy50 (ListRun (0x41 ∷ []) 0 ∷ []) (7 ∷ []) (openRows 25)
     -- a call without the list leaves it behind, and the next one with it answers 7 until the rebuild
     ∷ fromPowerOn (Bare (Run (labelled 0 0 ++ esc 0x26) 0) ∷ ListStep 0x41 0 ∷ Rebuild ∷ ListStep 0x41 0 ∷ []) (0 ∷ 7 ∷ 0 ∷ 0 ∷ []) (79 ∷ 2 ∷ openRows 23)
     -- a key press takes none
     ∷ fromPowerOn (Bare (Press 0x40 8) ∷ ListStep 0x41 0 ∷ []) (0 ∷ 0 ∷ []) (openRows 24)
     -- a bad page with its own list, a state that is not possible: 7
-    ∷ from (replicate 1919 0) (openRows 23 ++ 79 ∷ 1 ∷ []) powerOn (ListStep 0x41 0 ∷ []) (7 ∷ []) (openRows 23 ++ 79 ∷ 1 ∷ [])
+    ∷ from (replicate 1919 0) (openRows 23 ++ 79 ∷ 1 ∷ []) wy50 (ListStep 0x41 0 ∷ []) (7 ∷ []) (openRows 23 ++ 79 ∷ 1 ∷ [])
     ∷ from blank (openRows 24) (protectAt 1920) (ListRun [] 0 ∷ []) (7 ∷ []) (openRows 24)
     ∷ []

@@ -1,9 +1,11 @@
--- What a reply sends (document 01, "Modes and replies", amended by requests A2 and A7 of document 02): a reply is a row of places, each of which
+-- What a reply sends (document 01, "Modes and replies", amended by requests A2, A7 and A8 of document 02): a reply is a row of places, each of which
 -- gives one byte or none, by the page as it stands.
 use mathlib.Core.Bool.{Bool, true, false, not}
 use mathlib.Core.List.{List, [], _∷_, _++_}
 use Prim.Native.Nat.{ℕ, zero, suc, _+_, _-_, _/_, _%_}
 use lib.ListN.{getD, take, drop}
+use Rattle.rules.specs.declared.Personality.{Personality}
+use Rattle.rules.specs.declared.Personality.the-variants as Personality
 use Rattle.rules.specs.declared.Reply.{Reply}
 use Rattle.rules.specs.declared.Reply.the-variants as Reply
 use Rattle.rules.specs.Cell.{pick, both, protected, guarded, sent}
@@ -15,6 +17,11 @@ each (b ∷ l) = (b ∷ []) ∷ each l
 
 abbrev pub digit : ℕ → ℕ
 digit n = 0x30 + n % 10
+
+-- ESC SPACE replies 50 or 60: the first digit
+unfoldable pub model : Personality → ℕ
+model Personality.Wy50 = 0x35
+model Personality.Wy60 = 0x36
 
 -- ESC M: the cell, where it is not guarded
 unfoldable pub openCell : Bool → ℕ → List ℕ
@@ -46,7 +53,7 @@ textOf w out p a e = textPlaces w out w false (take (e - a) (drop a p))
 unfoldable pub places : ℕ → Bool → List ℕ → Reply → List (List ℕ)
 places w on p Reply.Nothing = []
 places w on p Reply.Acknowledge = each (0x06 ∷ [])
-places w on p Reply.Identity = each (0x35 ∷ 0x30 ∷ 0x0d ∷ [])
+places w on p (Reply.Identity m) = each (model m ∷ 0x30 ∷ 0x0d ∷ [])
 places w on p (Reply.Address r c) = each (r ∷ c ∷ 0x0d ∷ [])
 places w on p (Reply.SegmentAddress n r c) = each (n ∷ r ∷ c ∷ 0x0d ∷ [])
 places w on p (Reply.Decimal r c) = each (digit (r / 10) ∷ digit r ∷ 0x52 ∷ digit (c / 100) ∷ digit (c / 10) ∷ digit c ∷ 0x43 ∷ [])

@@ -6,6 +6,7 @@ use Prim.Native.Nat.{ℕ}
 use lib.Dec.{ltb, leb, eqb}
 use lib.ListN.{length, take}
 use Rattle.rules.specs.declared.State.{State}
+use Rattle.rules.specs.declared.Personality.{Personality}
 use Rattle.rules.specs.declared.Slot.{Slot}
 use Rattle.rules.specs.declared.Slot.the-variants as Slot
 use Rattle.rules.specs.declared.Pending.{Pending}
@@ -68,7 +69,7 @@ abbrev pub lineAfter : Pending → List ℕ → ℕ → Bool → Bool
 lineAfter q g b was = pick (both (slotAwaited q) (eqb b 0x7f)) false (either (both (upperUnderWay q g) (eqb b 0x0d)) was)
 
 pub record ShiftedLine : Type 0 where
-  pub power-on : powerOn .setup .shifted ≡ false
+  pub power-on : (m : Personality) → powerOn m .setup .shifted ≡ false
   pub step : (p : List ℕ) (s : State) (b room : ℕ) → good p s ≡ true
       → stepRule p s b room .state .setup .shifted ≡ lineAfter (s .core .pending) (s .gathered) b (s .setup .shifted)
   pub bad : (p : List ℕ) (s : State) (b room : ℕ) → good p s ≡ false → stepRule p s b room .state .setup .shifted ≡ s .setup .shifted

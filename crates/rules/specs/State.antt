@@ -112,17 +112,20 @@ abbrev pub labelPlace : ℕ → ℕ
 labelPlace v = pick (ltb v 0x50) (v - 0x30) (v - 0x48)
 
 abbrev pub withScreen : Core → Screen → Core
-withScreen c x = record { screen = x; modes = c .modes; bells = c .bells; pending = c .pending }
+withScreen c x = record { screen = x; modes = c .modes; bells = c .bells; pending = c .pending; personality = c .personality; attribute = c .attribute }
 
 abbrev pub withModes : Core → Modes → Core
-withModes c m = record { screen = c .screen; modes = m; bells = c .bells; pending = c .pending }
+withModes c m = record { screen = c .screen; modes = m; bells = c .bells; pending = c .pending; personality = c .personality; attribute = c .attribute }
 
 abbrev pub withBells : Core → ℕ → Core
-withBells c n = record { screen = c .screen; modes = c .modes; bells = n; pending = c .pending }
+withBells c n = record { screen = c .screen; modes = c .modes; bells = n; pending = c .pending; personality = c .personality; attribute = c .attribute }
+
+abbrev pub withAttribute : Core → ℕ → Core
+withAttribute c a = record { screen = c .screen; modes = c .modes; bells = c .bells; pending = c .pending; personality = c .personality; attribute = a }
 
 -- another sequence is under way
 abbrev pub awaiting : Core → Pending → Core
-awaiting c q = record { screen = c .screen; modes = c .modes; bells = c .bells; pending = q }
+awaiting c q = record { screen = c .screen; modes = c .modes; bells = c .bells; pending = q; personality = c .personality; attribute = c .attribute }
 
 -- the sequence is cleared
 abbrev pub idle : Core → Core

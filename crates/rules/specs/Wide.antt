@@ -8,21 +8,16 @@ use lib.ListN.{replicate}
 use Rattle.rules.specs.declared.State.{State}
 use Rattle.rules.specs.Cell.{both}
 use Rattle.rules.specs.Row.{wideCells}
-use Rattle.rules.specs.Possible.{powerOn}
-use Rattle.rules.specs.Bench.{Claim, Cell, Cursor, Replies, Answers, allHold}
+use Rattle.rules.specs.State.{withScreen}
+use Rattle.rules.specs.Bench.{wy50, Claim, Cell, Cursor, Replies, Answers, allHold}
 use Rattle.rules.specs.Inputs.{esc, goTo, labelled, typed}
 
 -- the power-on state with a wide screen
 abbrev pub widePowerOn : State
 widePowerOn = record {
-  core = record {
-    screen = record { wide = true; active = 0; split = 0; cursor0 = 0; cursor1 = 0 };
-    modes = powerOn .core .modes;
-    bells = 0;
-    pending = powerOn .core .pending;
-  };
-  gathered = powerOn .gathered;
-  setup = powerOn .setup;
+  core = withScreen (wy50 .core) record { wide = true; active = 0; split = 0; cursor0 = 0; cursor1 = 0 };
+  gathered = wy50 .gathered;
+  setup = wy50 .setup;
 }
 
 pub data WideCase : Type 0 where

@@ -86,12 +86,21 @@ pub enum Pending {
     Spoilt(Slot),
 }
 
-// What the bytes of the host change most.
+// Whose rules the terminal follows: chosen at power-on, changed by no byte.
+pub enum Personality {
+    Wy50,
+    Wy60,
+}
+
+// What the bytes of the host change most. `attribute` is the one that ESC G sets in WY-60, remembered for the cells stored later: dim 16,
+// underscore 8, reverse 4, blink 2, blank 1.
 pub struct Core {
     pub screen: Screen,
     pub modes: Modes,
     pub bells: u8,
     pub pending: Pending,
+    pub personality: Personality,
+    pub attribute: u8,
 }
 
 // `gathered` holds the bytes of a text under way.
@@ -214,6 +223,7 @@ pub enum Command {
     Nothing,
     Go(Move),
     Window(Window),
+    // with the remembered attribute
     Store(Contents),
     // ESC G and its code
     Attribute(u8),
@@ -293,7 +303,7 @@ pub enum Change {
 pub enum Reply {
     Nothing,
     Acknowledge,
-    Identity,
+    Identity(Personality),
     Address(u8, u8),
     SegmentAddress(u8, u8, u8),
     Decimal(u8, u8),
