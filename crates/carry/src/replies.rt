@@ -6,12 +6,13 @@ ghost use lib.Dec.{leb};
 ghost use lib.ListN.{length};
 ghost use Rattle.rules.specs.Row.{Width};
 ghost use Rattle.rules.specs.Good.{GoodReply};
-ghost use Rattle.rules.specs.Send.{digit as digitOf, leavesOut, replied};
+ghost use Rattle.rules.specs.Send.{model, digit as digitOf, leavesOut, replied};
 ghost use Rattle.rules.specs.Room.{over};
 use page::text::cell_length;
 use page::text::put_cell;
 use page::text::put_text;
 use page::text::text_fits;
+use rules::Personality;
 use rules::Reply;
 
 // ESC 4 and ESC 5 leave protected cells out, ESC 6 and ESC 7 send all.
@@ -29,7 +30,7 @@ pub fn reply_fits(page: &[u16], width: usize, on: bool, x: Reply, room: usize) -
     match x {
         Reply::Nothing => true,
         Reply::Acknowledge => 1 <= room,
-        Reply::Identity => 3 <= room,
+        Reply::Identity(_) => 3 <= room,
         Reply::Address(_, _) => 3 <= room,
         Reply::SegmentAddress(_, _, _) => 4 <= room,
         Reply::Decimal(_, _) => 7 <= room,
@@ -56,6 +57,17 @@ fn put_bytes(room: &mut [u8], bytes: &[u8]) -> usize
         i += 1;
     }
     i
+}
+
+// ESC SPACE: the model's number and CR.
+fn put_identity(room: &mut [u8], m: Personality) -> usize
+    requires { ⌜ 3 ≤ length (now room) ⌝ }
+    ensures { λ x. ⌜ (x ≡ 3) × (now (room .exit) ≡ over (model m ∷ 0x30 ∷ 0x0d ∷ []) (now (room .entry))) ⌝ }
+{
+    match m {
+        Personality::Wy50 => put_bytes(room, b"50\r"),
+        Personality::Wy60 => put_bytes(room, b"60\r"),
+    }
 }
 
 // The last decimal digit of a number.
@@ -90,7 +102,7 @@ pub fn put_reply(page: &[u16], width: usize, on: bool, x: Reply, room: &mut [u8]
     match x {
         Reply::Nothing => 0,
         Reply::Acknowledge => put_bytes(room, b"\x06"),
-        Reply::Identity => put_bytes(room, b"50\r"),
+        Reply::Identity(m) => put_identity(room, m),
         Reply::Address(r, c) => put_bytes(room, &[r, c, 0x0d]),
         Reply::SegmentAddress(n, r, c) => put_bytes(room, &[n, r, c, 0x0d]),
         Reply::Decimal(r, c) => put_decimal(room, r, c),

@@ -10,6 +10,7 @@ use lib.ListN.{length, getD}
 use Rattle.rules.specs.declared.State.{State}
 use Rattle.rules.specs.declared.Pending.{Pending}
 use Rattle.rules.specs.Cell.{pick, both}
+use Rattle.rules.specs.declared.Personality.the-variants as Personality
 use Rattle.rules.specs.Possible.{good, powerOn}
 use Rattle.rules.specs.Step.{stepRule}
 use Rattle.rules.specs.Calls.{Ran, Run, Given, ofRun, callRule, after, play, runRule}
@@ -59,7 +60,7 @@ asking-not p s room = rw (run-not p s room (question-others (s .core .pending)),
 -- ---- the same is given
 
 abbrev nothing : Given
-nothing = record { answer = 0; counts = []; reply = []; rest = []; state = powerOn }
+nothing = record { answer = 0; counts = []; reply = []; rest = []; state = powerOn Personality.Wy50 }
 
 same-given : (p q : List ℕ) (s t : State) (l : List ℕ) (room : ℕ)
     → (play (Run l room ∷ []) p s) .given ≡ (play (Run l room ∷ []) q t) .given

@@ -86,7 +86,10 @@ pub fn plan_send(page: &[u16], core: Core, s: Send) -> Plan
     let column = cursor_column(x);
     match s {
         Send::Acknowledge => replying(core, Reply::Acknowledge),
-        Send::Identity => replying(core, Reply::Identity),
+        Send::Identity => {
+            let m = core.personality;
+            replying(core, Reply::Identity(m))
+        }
         Send::Cursor => replying(core, Reply::Address(0x20 + row, 0x20 + column)),
         Send::SegmentCursor => replying(
             core,

@@ -5,14 +5,17 @@ ghost use Prim.Native.Nat.{_<_};
 ghost use lib.ListN.{length, getD};
 ghost use Rattle.rules.specs.Row.{wideCells};
 ghost use Rattle.rules.specs.Search.{guardedAt};
-ghost use Rattle.rules.specs.Cell.{written, space};
+ghost use Rattle.rules.specs.Cell.{normal, written, space};
+ghost use Rattle.rules.specs.Arguments.{attributeOf};
 ghost use Rattle.rules.specs.State.{Inside, pageLength, cursorOf};
-ghost use Rattle.rules.specs.Plan.{unlessGuarded, writing as writingOf, storing as storingOf, advancing as advancingOf, storePlan, rowEditPlan, editPlan, clearPlan};
+ghost use Rattle.rules.specs.Plan.{unlessGuarded, writing as writingOf, storing as storingOf, advancing as advancingOf, storePlan, takesCell, attributePlan, rowEditPlan, editPlan, clearPlan};
+use super::forms::plain;
 use super::forms::refusing;
 use super::forms::writing;
 use super::forms::writing_two;
 use super::moves::scroll;
 use super::moves::scrolls;
+use page::cell::NORMAL;
 use page::cell::PROTECTED_SPACE;
 use page::cell::SPACE;
 use page::cell::written_cell;
@@ -23,8 +26,11 @@ use rules::Contents;
 use rules::Core;
 use rules::Edit;
 use rules::Land;
+use rules::Personality;
 use rules::Plan;
 use rules::Write;
+use state::core::with_attribute;
+use state::decode::attribute_contents;
 use state::screen::cursor_column;
 use state::screen::cursor_of;
 use state::screen::cursor_row;
@@ -79,17 +85,49 @@ fn advancing(core: Core, w: Write) -> Plan
     writing(core, w, Land::Settle(segment_start(x)))
 }
 
-pub fn plan_store(page: &[u16], core: Core, k: Contents) -> Plan
-    requires { ⌜ (length (now page) ≡ pageLength (core .screen)) × Inside (core .screen) ⌝ }
-    ensures { λ r. ⌜ r ≡ storePlan (guardedAt (core .modes .protect) (now (page .entry))) core k ⌝ }
+pub fn plan_store(page: &[u16], core: Core, k: Contents, attribute: u8) -> Plan
+    requires { ⌜ (length (now page) ≡ pageLength (core .screen)) × (Inside (core .screen) × (attribute < 32)) ⌝ }
+    ensures { λ r. ⌜ r ≡ storePlan (guardedAt (core .modes .protect) (now (page .entry))) core k attribute ⌝ }
 {
     let x = core.screen;
     let at = cursor_of(x);
     if guarded_at(page, core.modes.protect, at) {
         return refusing(core, Answer::Barred);
     }
-    let v = written_cell(k, core.modes.mark);
+    let v = written_cell(k, core.modes.mark, attribute);
     advancing(core, storing(core.modes.insert, at, v))
+}
+
+// Whether a code of ESC G takes a cell.
+fn takes_cell(m: Personality, a: u8) -> bool
+    ensures { λ r. ⌜ r ≡ takesCell m a ⌝ }
+{
+    match m {
+        Personality::Wy50 => true,
+        Personality::Wy60 => a == 0x20,
+    }
+}
+
+// The attribute of a code.
+fn attribute_of(a: u8) -> u8
+    ensures { λ r. ⌜ r ≡ attributeOf a ⌝ }
+{
+    if a < 0x70 {
+        return a % 16;
+    }
+    a % 16 + 16
+}
+
+// ESC G.
+pub fn plan_attribute(page: &[u16], core: Core, a: u8) -> Plan
+    requires { ⌜ (length (now page) ≡ pageLength (core .screen)) × Inside (core .screen) ⌝ }
+    ensures { λ r. ⌜ r ≡ attributePlan (guardedAt (core .modes .protect) (now (page .entry))) core a ⌝ }
+{
+    let m = core.personality;
+    if takes_cell(m, a) {
+        return plan_store(page, core, attribute_contents(a), NORMAL);
+    }
+    plain(with_attribute(core, attribute_of(a)))
 }
 
 // ESC Q and ESC W: the edit run moves by one cell and a space comes in.
@@ -141,12 +179,12 @@ pub fn plan_edit(page: &[u16], core: Core, e: Edit) -> Plan
 
 // The open cells from `from` up to `to` are cleared.
 fn fill(k: Contents, from: u16, to: u16) -> Write
-    ensures { λ r. ⌜ r ≡ Write.Fill from to (written k false) ⌝ }
+    ensures { λ r. ⌜ r ≡ Write.Fill from to (written k false normal) ⌝ }
 {
     Write::Fill {
         from: from,
         to: to,
-        value: written_cell(k, false),
+        value: written_cell(k, false, NORMAL),
     }
 }
 

@@ -1,7 +1,7 @@
 // Setters of the core.
 ghost use mathlib.Core.Path.{_≡_};
 ghost use Prim.Native.Nat.{_+_, _%_};
-ghost use Rattle.rules.specs.State.{withScreen, withModes, withBells, awaiting, idle, withProtect, withMode};
+ghost use Rattle.rules.specs.State.{withScreen, withModes, withBells, withAttribute, awaiting, idle, withProtect, withMode};
 use rules::Core;
 use rules::Mode;
 use rules::Modes;
@@ -32,17 +32,28 @@ pub fn with_bells(c: Core, n: u8) -> Core
     t
 }
 
+pub fn with_attribute(c: Core, a: u8) -> Core
+    ensures { λ r. ⌜ r ≡ withAttribute c a ⌝ }
+{
+    let mut t = c;
+    t.attribute = a;
+    t
+}
+
 // Another sequence is under way.
 pub fn awaiting(c: Core, q: Pending) -> Core
     ensures { λ r. ⌜ r ≡ awaiting c q ⌝ }
 {
     let screen = c.screen;
     let modes = c.modes;
+    let personality = c.personality;
     Core {
         screen: screen,
         modes: modes,
         bells: c.bells,
         pending: q,
+        personality: personality,
+        attribute: c.attribute,
     }
 }
 

@@ -16,6 +16,7 @@ use rules::Answer;
 use rules::Core;
 use rules::Modes;
 use rules::Pending;
+use rules::Personality;
 use rules::Screen;
 use rules::Setup;
 use rules::State;
@@ -36,8 +37,8 @@ pub fn answer_number(a: Answer) -> u8
     }
 }
 
-pub fn power_on_state() -> State
-    ensures { λ r. ⌜ r ≡ powerOn ⌝ }
+pub fn power_on_state(m: Personality) -> State
+    ensures { λ r. ⌜ r ≡ powerOn m ⌝ }
 {
     let none = texts::no_text();
     let message = texts::no_long();
@@ -60,6 +61,8 @@ pub fn power_on_state() -> State
             },
             bells: 0,
             pending: Pending::Idle,
+            personality: m,
+            attribute: 0,
         },
         gathered: [0; 46],
         setup: Setup {

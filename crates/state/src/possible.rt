@@ -4,7 +4,7 @@ ghost use Prim.Native.Nat.{_^_, _≤_};
 ghost use lib.Dec.{leb, ltb};
 ghost use lib.ListN.{length, take};
 ghost use Rattle.rules.specs.Cell.{both};
-ghost use Rattle.rules.specs.Possible.{unsplitOk, splitOk, screenOk, attributesOk, featuresOk, pendingOk, tabsOk, coreOk, setupOk, possible};
+ghost use Rattle.rules.specs.Possible.{unsplitOk, splitOk, screenOk, attributesOk, featuresOk, pendingOk, rememberedOk, tabsOk, coreOk, setupOk, possible};
 ghost use Rattle.rules.specs.Arguments.{isAttribute, featurePlace};
 ghost use Rattle.rules.specs.Slot.{slotMost, slotLow, allText, textOk, textsOk};
 use crate::logic::among;
@@ -19,6 +19,7 @@ use crate::width::columns;
 use rules::Core;
 use rules::LongText;
 use rules::Pending;
+use rules::Personality;
 use rules::Screen;
 use rules::Setup;
 use rules::ShortText;
@@ -224,6 +225,16 @@ fn bells_ok(n: u8) -> bool
     true
 }
 
+// The attribute remembered: in WY-50 only normal.
+fn remembered_ok(m: Personality, a: u8) -> bool
+    ensures { λ r. ⌜ r ≡ rememberedOk m a ⌝ }
+{
+    match m {
+        Personality::Wy50 => a == 0,
+        Personality::Wy60 => a < 31,
+    }
+}
+
 // No tab stop beyond the columns of the page.
 fn tabs_ok(tabs: [bool; 132], width: u16) -> bool
     ensures { λ r. ⌜ r ≡ tabsOk width tabs ⌝ }
@@ -242,9 +253,12 @@ pub fn core_ok(core: Core, gathered: [u8; 46]) -> bool
 {
     let screen = core.screen;
     let pending = core.pending;
-    let sequence = and(bells_ok(core.bells), pending_ok(pending, gathered));
+    let personality = core.personality;
+    let remembered = remembered_ok(personality, core.attribute);
+    let sequence = and(remembered, pending_ok(pending, gathered));
+    let rest = and(bells_ok(core.bells), sequence);
     let narrow = !screen.wide;
-    and(narrow, and(screen_ok(screen), sequence))
+    and(narrow, and(screen_ok(screen), rest))
 }
 
 pub fn setup_ok(setup: Setup, width: u16) -> bool

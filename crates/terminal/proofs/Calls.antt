@@ -20,6 +20,7 @@ use Rattle.rules.specs.declared.Answer.{Answer}
 use Rattle.rules.specs.declared.Answer.the-variants as Answer
 use Rattle.rules.specs.declared.ShortText.{ShortText}
 use Rattle.rules.specs.declared.State.{State}
+use Rattle.rules.specs.declared.Personality.{Personality}
 use Rattle.rules.specs.declared.RunResult.{RunResult}
 use Rattle.rules.specs.declared.PressResult.{PressResult}
 use Rattle.rules.specs.Cell.{pick}
@@ -52,15 +53,15 @@ unfolding within blank
 blank-filled p n =
     rw (take-all 1920 p (omega arith), drop-of-length-le p {i = 1920} (omega arith), append-nil, all-filled 0 p, n)
 
-pub powered-on : (p q : List ℕ) (s : State) → length p ≡ 1920 → s ≡ powerOn → q ≡ within 0 1920 (filled false 0) p
-    → PoweredOn (powerOnRule p) (record { answer = Answer.Done; state = s }) q
+pub powered-on : (m : Personality) (p q : List ℕ) (s : State) → length p ≡ 1920 → s ≡ powerOn m → q ≡ within 0 1920 (filled false 0) p
+    → PoweredOn (powerOnRule m p) (record { answer = Answer.Done; state = s }) q
 unfolding powerOnRule
-powered-on p q s n e i = rw n (record { answer = refl; state = e; page = i ∙ blank-filled p n })
+powered-on m p q s n e i = rw n (record { answer = refl; state = e; page = i ∙ blank-filled p n })
 
-pub power-on-refused : (p : List ℕ) (s : State) → (length p ≡ 1920 → ⊥) → s ≡ powerOn
-    → PoweredOn (powerOnRule p) (record { answer = Answer.BadCall; state = s }) p
+pub power-on-refused : (m : Personality) (p : List ℕ) (s : State) → (length p ≡ 1920 → ⊥) → s ≡ powerOn m
+    → PoweredOn (powerOnRule m p) (record { answer = Answer.BadCall; state = s }) p
 unfolding powerOnRule
-power-on-refused p s n e = rw (ne-eqb (length p) 1920 n) (record { answer = refl; state = e; page = refl })
+power-on-refused m p s n e = rw (ne-eqb (length p) 1920 n) (record { answer = refl; state = e; page = refl })
 
 -- ---- a bad page or state: 7, and nothing changes
 

@@ -43,6 +43,7 @@ use Rattle.rules.specs.Left.{leaves}
 use Rattle.rules.proofs.Tests.{pick-if}
 use Rattle.rules.proofs.Kept.{good-parts, possible-parts, step-keeps, step-good}
 use Rattle.rules.proofs.Left.{step-left}
+use Rattle.rules.proofs.Numbers.{remembered-below}
 use Rattle.rules.proofs.Run.{run-stop, run-go, run-done, preceded-none, preceded-joined}
 use Rattle.page.proofs.RowList.{beside-is}
 use Rattle.carry.specs.Carried.{Carried}
@@ -163,11 +164,11 @@ module _ {p₀ : List ℕ} {s₀ : State} {input w₀ p w : List ℕ} {c : Core}
   abbrev s : State
   s = stateOf c g u
 
-  pub ready : (length p ≡ pageLength (c .screen)) × ((screenOk (c .screen) ≡ true) × ((t : List ℕ) × (pendingOk (c .pending) t ≡ true)))
+  pub ready : (length p ≡ pageLength (c .screen)) × ((screenOk (c .screen) ≡ true) × (((t : List ℕ) × (pendingOk (c .pending) t ≡ true)) × (c .attribute < 32)))
   ready =
       let h = good-parts p s (R .fine) in
       let k = possible-parts s (h .1) .core in
-      (h .0, (k .screen, (g, k .pending)))
+      (h .0, (k .screen, ((g, k .pending), omega (arith, remembered-below (c .personality) (c .attribute) (k .remembered)))))
 
   pub room-size : n ≤ length w
   room-size = omega (arith, R .used, R .size)

@@ -28,23 +28,24 @@ use Rattle.terminal.specs.Text.{Typed, none, stored, placed, TextRun, st
 use Rattle.terminal.proofs.TextRuns.{Range, typed-range}
 
 -- a text cell that is stored is open, but for write-protect mode with protect mode on
-text-open : (on mark : Bool) (b : ℕ) → b ≤ 0x7e → both on mark ≡ false → guarded on (written (Contents.Text b) mark) ≡ false
-text-open true true b h f = absurd (false≢true (sym f))
-text-open true false b h f = ne-eqb ((b + 0 + 256 * 0) / 128 % 2) 1 (λ e. omega arith)
-text-open false mark b h f = refl
+text-open : (on mark : Bool) (a b : ℕ) → b ≤ 0x7e → both on mark ≡ false → guarded on (written (Contents.Text 0) mark a + b) ≡ false
+text-open true true a b h f = absurd (false≢true (sym f))
+text-open true false a b h f = ne-eqb ((0 + 0 + 256 * 0 + 1024 * a + b) / 128 % 2) 1 (λ e. omega arith)
+text-open false mark a b h f = refl
 
-module _ {on mark wide : Bool} {home end : ℕ} {l : List ℕ} {at₀ i₀ : ℕ} {p₀ : List ℕ} (a : at₀ < length p₀) (e : end ≤ length p₀) (h : i₀ < length l) where
+module _ {on : Bool} {base : ℕ} {wide : Bool} {home end : ℕ} {l : List ℕ} {at₀ i₀ : ℕ} {p₀ : List ℕ} (a : at₀ < length p₀) (e : end ≤ length p₀) (h : i₀ < length l) where
   -- it guards no cell
-  typed-guards : {at i : ℕ} {p : List ℕ} → both on mark ≡ false → Typed on mark wide home end l at₀ i₀ p₀ at i p → guardedAt on p ≡ guardedAt on p₀
+  typed-guards : {at i : ℕ} {p : List ℕ} → ((b : ℕ) → b ≤ 0x7e → guarded on (base + b) ≡ false) → Typed on base wide home end l at₀ i₀ p₀ at i p
+      → guardedAt on p ≡ guardedAt on p₀
   typed-guards f none = refl
   typed-guards f (stored {at} {i} {v} {p} u k s w) =
       let r = typed-range u h a e in
       let here : guarded on (getD p at 0) ≡ false = sym (guard-at on p at (omega (arith, s .inside, r .size))) ∙ s .here in
-      guards-set on p at v (ap (guarded on) w ∙ text-open on mark (getD l i 0) (s .high) f ∙ sym here) ∙ typed-guards f u
+      guards-set on p at v (ap (guarded on) w ∙ f (getD l i 0) (s .high) ∙ sym here) ∙ typed-guards f u
   typed-guards f (placed u k s) = typed-guards f u
 
   -- a run that took no byte left the page
-  typed-same : {at i : ℕ} {p : List ℕ} → i ≡ i₀ → Typed on mark wide home end l at₀ i₀ p₀ at i p → p ≡ p₀
+  typed-same : {at i : ℕ} {p : List ℕ} → i ≡ i₀ → Typed on base wide home end l at₀ i₀ p₀ at i p → p ≡ p₀
   typed-same f none = refl
   typed-same f (stored u k s w) = absurd (omega (arith, typed-range u h a e .from))
   typed-same f (placed u k s) = absurd (omega (arith, typed-range u h a e .from))
@@ -66,7 +67,8 @@ text-guards c {i₀ = i₀} {p₀ = p₀} {i = i} {p = p} ok n h (typed quiet ov
     by : cursorOf (c .screen) < length p₀ → segmentEnd (c .screen) ≤ length p₀ → (t : Bool) → eqb i i₀ ≡ t → closedNone t (c .modes .protect) (c .modes .mark) ≡ true
         → guardedAt (c .modes .protect) p ≡ guardedAt (c .modes .protect) p₀
     by a e true u f = ap (guardedAt (c .modes .protect)) (typed-same a e h (eqb-true i i₀ u) t)
-    by a e false u f = typed-guards a e h (not-both (c .modes .protect) (c .modes .mark) f) t
+    by a e false u f =
+        typed-guards a e h (λ b k. text-open (c .modes .protect) (c .modes .mark) (c .attribute) b k (not-both (c .modes .protect) (c .modes .mark) f)) t
 
 pub text-behind : (c : Core) {l : List ℕ} {i₀ : ℕ} {p₀ : List ℕ} {at i : ℕ} {p : List ℕ} {rows : List ℕ} → screenOk (c .screen) ≡ true
     → length p₀ ≡ pageLength (c .screen) → i₀ < length l → TextRun c l i₀ p₀ at i p

@@ -34,10 +34,26 @@ use Rattle.rules.proofs.Rows.{columns-width}
 use Rattle.rules.proofs.Screens.{screen-inside}
 use Rattle.carry.proofs.Carrying.{carried-is}
 use Rattle.terminal.specs.Loop.{stateOf, lastAnswer}
-use Rattle.terminal.specs.Text.{Stored, Addressed, Typed, none, stored, placed, TextRun, still, typed, textCore}
+use Rattle.terminal.specs.Text.{Stored, Addressed, Typed, none, stored, placed, TextRun, still, typed, textBase, textCore}
 use Rattle.terminal.proofs.Carrying.{quiet-carried}
 use Rattle.terminal.proofs.Loop.{Running, ready, go, nothing-made, lentTail, backTail, tail-lent, tail-back}
 use Rattle.terminal.proofs.TextSteps.{rows-below, stores, waits, places}
+
+-- a text cell's number is its code and what stands beside it
+base-is : (b : ℕ) (p : Bool) (a : ℕ) → written (Contents.Text b) p a ≡ written (Contents.Text 0) p a + b
+base-is b true a = omega arith
+base-is b false a = omega arith
+
+pub base-small : (p : Bool) (a : ℕ) → a < 32 → written (Contents.Text 0) p a < 32768
+base-small true a h = omega arith
+base-small false a h = omega arith
+
+-- a run stays in the segment
+pub typed-inside : {on : Bool} {base : ℕ} {wide : Bool} {home end : ℕ} {l : List ℕ} {at₀ i₀ : ℕ} {p₀ : List ℕ} {at i : ℕ} {p : List ℕ}
+    → Typed on base wide home end l at₀ i₀ p₀ at i p → at₀ < end → at < end
+typed-inside none h = h
+typed-inside (stored t k s e) h = s .inside
+typed-inside (placed t k s) h = s .inside
 
 -- where a run over l from the byte i₀ and the page p₀ ends
 pub record Range (l : List ℕ) (i₀ : ℕ) (p₀ : List ℕ) (at i : ℕ) (p : List ℕ) : Type 0 where
@@ -46,14 +62,14 @@ pub record Range (l : List ℕ) (i₀ : ℕ) (p₀ : List ℕ) (at i : ℕ) (p :
   pub below : at < length p₀
   pub size : length p ≡ length p₀
 
-module _ {on mark wide : Bool} {home end : ℕ} {l : List ℕ} {at₀ i₀ : ℕ} {p₀ : List ℕ} where
-  pub typed-then : {at i : ℕ} {p : List ℕ} → Typed on mark wide home end l at₀ i₀ p₀ at i p
-      → {at′ i′ : ℕ} {p′ : List ℕ} → Typed on mark wide home end l at i p at′ i′ p′ → Typed on mark wide home end l at₀ i₀ p₀ at′ i′ p′
+module _ {on : Bool} {base : ℕ} {wide : Bool} {home end : ℕ} {l : List ℕ} {at₀ i₀ : ℕ} {p₀ : List ℕ} where
+  pub typed-then : {at i : ℕ} {p : List ℕ} → Typed on base wide home end l at₀ i₀ p₀ at i p
+      → {at′ i′ : ℕ} {p′ : List ℕ} → Typed on base wide home end l at i p at′ i′ p′ → Typed on base wide home end l at₀ i₀ p₀ at′ i′ p′
   typed-then t none = t
   typed-then t (stored u h s e) = stored (typed-then t u) h s e
   typed-then t (placed u h s) = placed (typed-then t u) h s
 
-  pub typed-range : {at i : ℕ} {p : List ℕ} → Typed on mark wide home end l at₀ i₀ p₀ at i p → i₀ < length l → at₀ < length p₀ → end ≤ length p₀
+  pub typed-range : {at i : ℕ} {p : List ℕ} → Typed on base wide home end l at₀ i₀ p₀ at i p → i₀ < length l → at₀ < length p₀ → end ≤ length p₀
       → Range l i₀ p₀ at i p
   typed-range none h a e = record { from = omega arith; within = h; below = a; size = refl }
   typed-range (stored {at} {i} {v} {p} u k s w) h a e =
@@ -110,6 +126,7 @@ module _ {p₀ : List ℕ} {s₀ : State} {input w₀ : List ℕ} {g : List ℕ}
 record Like (c d : Core) (at : ℕ) : Type 0 where
   idle : d .pending ≡ Pending.Idle
   modes : d .modes ≡ c .modes
+  attribute : d .attribute ≡ c .attribute
   cursor : cursorOf (d .screen) ≡ at
   wide : d .screen .wide ≡ c .screen .wide
   home : segmentStart (d .screen) ≡ segmentStart (c .screen)
@@ -140,6 +157,7 @@ unfolding segmentTop segmentBottom withCursor
 like-text c at = record {
   idle = refl;
   modes = refl;
+  attribute = refl;
   cursor = cursor-set (c .screen) at;
   wide = refl;
   home = refl;
@@ -153,7 +171,7 @@ data Arrived (c : Core) (i₀ : ℕ) : ℕ → ℕ → Core → Type 0 where
   there : {at i : ℕ} → i₀ < i → Arrived c i₀ at i (textCore c at)
 
 like : {c d : Core} {i₀ at i : ℕ} → c .pending ≡ Pending.Idle → Arrived c i₀ at i d → Like c d at
-like {c} q here = record { idle = q; modes = refl; cursor = refl; wide = refl; home = refl; end = refl; next = λ i. refl }
+like {c} q here = record { idle = q; modes = refl; attribute = refl; cursor = refl; wide = refl; home = refl; end = refl; next = λ i. refl }
 like {c} q (there {at} h) = like-text c at
 
 later : {c d : Core} {i₀ at i : ℕ} → Arrived c i₀ at i d → i₀ ≤ i
@@ -196,7 +214,7 @@ module _ {p₀ : List ℕ} {s₀ : State} {input w₀ : List ℕ} {g : List ℕ}
     L = like quiet (G .arrived)
 
     went-stored : {v : ℕ} → i + 1 < length input → Stored (c .modes .protect) (segmentEnd (c .screen)) at q (getD input i 0)
-        → v ≡ written (Contents.Text (getD input i 0)) (c .modes .mark) → Went (at + 1) (i + 1) (set q at v)
+        → v ≡ textBase c + getD input i 0 → Went (at + 1) (i + 1) (set q at v)
     went-stored h s e =
         let b = getD input i 0 in
         let k = ready (G .running) in
@@ -207,7 +225,8 @@ module _ {p₀ : List ℕ} {s₀ : State} {input w₀ : List ℕ} {g : List ℕ}
               stores q d (k .0) (k .1 .0) (u .tabs) room b (L .idle) (ap (λ (m : Modes). m .insert) (L .modes) ∙ over) (like-stored L s)
               ∙ ap₂ (λ (x : Core) (y : List ℕ). effect 0 x unchanged y [])
               (ap (λ (j : ℕ). textCore d (j + 1)) (L .cursor) ∙ L .next (at + 1))
-              (ap₂ (set q) (L .cursor) (ap (λ (m : Modes). written (Contents.Text b) (m .mark)) (L .modes) ∙ sym e)));
+              (ap₂ (set q) (L .cursor) (ap₂ (λ (m : Modes) (a : ℕ). written (Contents.Text b) (m .mark) a) (L .modes) (L .attribute)
+              ∙ (base-is b (c .modes .mark) (c .attribute) ∙ sym e))));
         }
 
     went-placed : {k : ℕ} → i + 4 < length input
@@ -234,7 +253,7 @@ module _ {p₀ : List ℕ} {s₀ : State} {input w₀ : List ℕ} {g : List ℕ}
         }
 
   typed-run : {at i : ℕ} {p′ : List ℕ}
-      → Typed (c .modes .protect) (c .modes .mark) (c .screen .wide) (segmentStart (c .screen)) (segmentEnd (c .screen)) input (cursorOf (c .screen)) i₀ p at i p′
+      → Typed (c .modes .protect) (textBase c) (c .screen .wide) (segmentStart (c .screen)) (segmentEnd (c .screen)) input (cursorOf (c .screen)) i₀ p at i p′
       → Went at i p′
   typed-run none = record { core = c; arrived = here; running = R }
   typed-run (stored t h s e) = went-stored (typed-run t) h s e

@@ -77,7 +77,7 @@ module _ (p : List ℕ) (c : Core) (size : length p ≡ pageLength (c .screen)) 
     at = cursorOf (c .screen)
 
     abbrev v : ℕ
-    v = written (Contents.Text b) (c .modes .mark)
+    v = written (Contents.Text b) (c .modes .mark) (c .attribute)
 
     decoded : decodeRule (c .pending) b ≡ Decoded.Do (Command.Store (Contents.Text b))
     unfolding decodeRule idleRule

@@ -32,19 +32,23 @@ pub record Addressed (on wide : Bool) (home end : ℕ) (l : List ℕ) (i : ℕ) 
   pub inside : k < end
   pub unguarded : getD (guardedAt on p) k false ≡ false
 
--- from the cursor at₀, the byte i₀ of the input l and the page p₀, to the cursor, the byte and the page given last
-pub data Typed (on mark wide : Bool) (home end : ℕ) (l : List ℕ) (at₀ i₀ : ℕ) (p₀ : List ℕ) : ℕ → ℕ → List ℕ → Type 0 where
-  none : Typed on mark wide home end l at₀ i₀ p₀ at₀ i₀ p₀
-  stored : {at i v : ℕ} {p : List ℕ} → Typed on mark wide home end l at₀ i₀ p₀ at i p → i + 1 < length l → Stored on end at p (getD l i 0)
-      → v ≡ written (Contents.Text (getD l i 0)) mark → Typed on mark wide home end l at₀ i₀ p₀ (at + 1) (i + 1) (set p at v)
-  placed : {at i k : ℕ} {p : List ℕ} → Typed on mark wide home end l at₀ i₀ p₀ at i p → i + 4 < length l → Addressed on wide home end l i p k
-      → Typed on mark wide home end l at₀ i₀ p₀ k (i + 4) p
+-- what the number of a text cell that a core stores has beside its code
+abbrev pub textBase : Core → ℕ
+textBase c = written (Contents.Text 0) (c .modes .mark) (c .attribute)
+
+-- base is that; from the cursor at₀, the byte i₀ of the input l and the page p₀, to the cursor, the byte and the page given last
+pub data Typed (on : Bool) (base : ℕ) (wide : Bool) (home end : ℕ) (l : List ℕ) (at₀ i₀ : ℕ) (p₀ : List ℕ) : ℕ → ℕ → List ℕ → Type 0 where
+  none : Typed on base wide home end l at₀ i₀ p₀ at₀ i₀ p₀
+  stored : {at i v : ℕ} {p : List ℕ} → Typed on base wide home end l at₀ i₀ p₀ at i p → i + 1 < length l → Stored on end at p (getD l i 0)
+      → v ≡ base + getD l i 0 → Typed on base wide home end l at₀ i₀ p₀ (at + 1) (i + 1) (set p at v)
+  placed : {at i k : ℕ} {p : List ℕ} → Typed on base wide home end l at₀ i₀ p₀ at i p → i + 4 < length l → Addressed on wide home end l i p k
+      → Typed on base wide home end l at₀ i₀ p₀ k (i + 4) p
 
 -- such a run from a core on, where nothing is under way and insert mode is off; or nothing is done
 pub data TextRun (c : Core) (l : List ℕ) (i₀ : ℕ) (p₀ : List ℕ) : ℕ → ℕ → List ℕ → Type 0 where
   still : TextRun c l i₀ p₀ (cursorOf (c .screen)) i₀ p₀
   typed : {at i : ℕ} {p : List ℕ} → c .pending ≡ Pending.Idle → c .modes .insert ≡ false
-      → Typed (c .modes .protect) (c .modes .mark) (c .screen .wide) (segmentStart (c .screen)) (segmentEnd (c .screen)) l (cursorOf (c .screen)) i₀ p₀ at i p
+      → Typed (c .modes .protect) (textBase c) (c .screen .wide) (segmentStart (c .screen)) (segmentEnd (c .screen)) l (cursorOf (c .screen)) i₀ p₀ at i p
       → TextRun c l i₀ p₀ at i p
 
 -- the core after it

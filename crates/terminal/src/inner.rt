@@ -3,7 +3,7 @@
 ghost use mathlib.Core.Path.{_≡_};
 ghost use mathlib.Core.Bool.{true};
 ghost use mathlib.Core.List.{List, []};
-ghost use Prim.Native.Nat.{ℕ};
+ghost use Prim.Native.Nat.{ℕ, _<_};
 ghost use lib.ListN.{length};
 ghost use Rattle.rules.specs.State.{number, widthOf, pageLength, idle as idleOf};
 ghost use Rattle.rules.specs.RowList.{Beside};
@@ -49,7 +49,7 @@ fn obey(
     d: Command,
     room: &mut [u8],
 ) -> CoreResult
-    requires { ⌜ (length (now page) ≡ pageLength (core .screen)) × ((screenOk (core .screen) ≡ true) × Beside (widthOf (core .screen)) (guardedAt (core .modes .protect) (now page)) (now rows)) ⌝ }
+    requires { ⌜ (length (now page) ≡ pageLength (core .screen)) × ((screenOk (core .screen) ≡ true) × ((core .attribute < 32) × Beside (widthOf (core .screen)) (guardedAt (core .modes .protect) (now page)) (now rows))) ⌝ }
     ensures { λ r. ⌜ Carried (carried (now (page .entry)) core (planRule (guardedAt (core .modes .protect) (now (page .entry))) (now (tabs .entry)) (idleOf core) d) (length (now (room .entry)))) r (now (page .exit)) (now (room .entry)) (now (room .exit)) × BesideAfter (widthOf (core .screen)) (carried (now (page .entry)) core (planRule (guardedAt (core .modes .protect) (now (page .entry))) (now (tabs .entry)) (idleOf core) d) (length (now (room .entry)))) (now (rows .exit)) ⌝ }
 {
     let next = idle(core);
@@ -65,7 +65,7 @@ pub fn inner(
     b: u8,
     room: &mut [u8],
 ) -> CoreResult
-    requires { ⌜ (length (now page) ≡ pageLength (core .screen)) × ((screenOk (core .screen) ≡ true) × (((g : List ℕ) × (pendingOk (core .pending) g ≡ true)) × Beside (widthOf (core .screen)) (guardedAt (core .modes .protect) (now page)) (now rows))) ⌝ }
+    requires { ⌜ (length (now page) ≡ pageLength (core .screen)) × ((screenOk (core .screen) ≡ true) × (((g : List ℕ) × (pendingOk (core .pending) g ≡ true)) × ((core .attribute < 32) × Beside (widthOf (core .screen)) (guardedAt (core .modes .protect) (now page)) (now rows)))) ⌝ }
     ensures { λ r. ⌜ Carried (innerRule (now (page .entry)) core (now (tabs .entry)) b (length (now (room .entry)))) r (now (page .exit)) (now (room .entry)) (now (room .exit)) × BesideAfter (widthOf (core .screen)) (innerRule (now (page .entry)) core (now (tabs .entry)) b (length (now (room .entry)))) (now (rows .exit)) ⌝ }
 {
     if 128 <= b {

@@ -19,6 +19,8 @@ ghost use Rattle.rules.specs.RowCalls.{stepRowsRule, runRowsRule, rowsAfter, re
 ghost use Rattle.terminal.specs.Promise.{PoweredOn, Stepped, Completed, Sent};
 use bytes::repeat;
 use key::press_key;
+use page::cell::NULL;
+pub use page::cell::attribute_of;
 pub use page::cell::code_of;
 pub use page::cell::is_protected;
 pub use page::cell::kind_of;
@@ -27,6 +29,7 @@ use page::change::fill_cells;
 use page::rows::is_row_list;
 use page::rows::rebuild;
 use rules::Answer;
+use rules::Personality;
 use rules::PowerOn;
 use rules::PressResult;
 use rules::RunResult;
@@ -50,13 +53,13 @@ fn is_good(page: &[u16], state: State) -> bool
     and(page.len() == n as usize, possible(state))
 }
 
-// All cells 0, and the power-on state. Ruled out: one that clears a page of the wrong length, or leaves a cell of the right one.
-pub fn power_on(page: &mut [u16]) -> PowerOn
-    ensures { λ r. ⌜ PoweredOn (powerOnRule (now (page .entry))) r (now (page .exit)) ⌝ }
+// All cells 0, and the power-on state of a personality. Ruled out: one that clears a page of the wrong length, or leaves a cell of the right one.
+pub fn power_on(page: &mut [u16], personality: Personality) -> PowerOn
+    ensures { λ r. ⌜ PoweredOn (powerOnRule personality (now (page .entry))) r (now (page .exit)) ⌝ }
 {
-    let state = power_on_state();
+    let state = power_on_state(personality);
     if page.len() == NARROW_CELLS {
-        fill_cells(page, false, 0, NARROW_CELLS, 0);
+        fill_cells(page, false, 0, NARROW_CELLS, NULL);
         return PowerOn {
             answer: Answer::Done,
             state: state,

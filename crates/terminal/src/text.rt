@@ -28,18 +28,15 @@ pub struct Reached {
     pub taken: usize,
 }
 
-// Whether the byte is text, and the cell and the next one are open cells of the segment.
-fn is_stored(page: &[u16], on: bool, at: usize, end: usize, b: u8) -> bool
-    requires { ⌜ (length (now page) ≤ wideCells) × ((end ≤ length (now page)) × (at < length (now page))) ⌝ }
-    ensures { λ r. ⌜ (r ≡ true → Stored on end at (now (page .entry)) b) ⌝ }
+// Whether the byte is text, and the cell and the next one are open.
+fn is_stored(page: &[u16], on: bool, at: usize, b: u8) -> bool
+    requires { ⌜ (length (now page) ≤ wideCells) × (at + 1 < length (now page)) ⌝ }
+    ensures { λ r. ⌜ ((end : ℕ) → at + 1 < end → r ≡ true → Stored on end at (now (page .entry)) b) ⌝ }
 {
     if b < 0x20 {
         return false;
     }
     if 0x7e < b {
-        return false;
-    }
-    if end <= at + 1 {
         return false;
     }
     if is_guarded_at(page, on, at) {
@@ -48,27 +45,48 @@ fn is_stored(page: &[u16], on: bool, at: usize, end: usize, b: u8) -> bool
     !is_guarded_at(page, on, at + 1)
 }
 
-// Text is stored from the cursor `first` on.
+// The number of a text cell.
+fn text_cell(base: u16, b: u8) -> u16
+    requires { ⌜ base < 32768 ⌝ }
+    ensures { λ r. ⌜ r ≡ base + b ⌝ }
+{
+    base + b as u16
+}
+
+// The byte before which a run stops at the latest: it leaves the segment's last cell and the last byte of the input.
+fn stop(first: usize, end: usize, from: usize, len: usize) -> usize
+    requires { ⌜ (first < end) × (from < len) ⌝ }
+    ensures { λ r. ⌜ ((n : ℕ) → from + n < r → (first + n + 1 < end) × (from + n + 1 < len)) ⌝ }
+{
+    let cells = end - first - 1;
+    if cells < len - from - 1 {
+        return from + cells;
+    }
+    len - 1
+}
+
+// Text is stored from the cursor `first` on; `base` is what the numbers of its cells have beside their codes.
 fn store(
     page: &mut [u16],
     on: bool,
-    mark: bool,
+    base: u16,
     first: usize,
     end: usize,
     input: &[u8],
     from: usize,
 ) -> Reached
-    requires { ⌜ (length (now page) ≤ wideCells) × ((end ≤ length (now page)) × ((first < length (now page)) × (from < length (now input)))) ⌝ }
-    ensures { λ r. ⌜ ((wide : Bool) (home : ℕ) → Typed on mark wide home end (now (input .entry)) first from (now (page .entry)) (r .at) (r .taken) (now (page .exit))) ⌝ }
+    requires { ⌜ (length (now page) ≤ wideCells) × ((end ≤ length (now page)) × ((first < end) × ((from < length (now input)) × (base < 32768)))) ⌝ }
+    ensures { λ r. ⌜ ((wide : Bool) (home : ℕ) → Typed on base wide home end (now (input .entry)) first from (now (page .entry)) (r .at) (r .taken) (now (page .exit))) ⌝ }
 {
+    let last = stop(first, end, from, input.len());
     let mut at = first;
     let mut i = from;
-    while i + 1 < input.len() {
+    while i < last {
         let b = input[i];
-        if !is_stored(page, on, at, end, b) {
+        if !is_stored(page, on, at, b) {
             return Reached { at: at, taken: i };
         }
-        page[at] = written_cell(Contents::Text(b), mark);
+        page[at] = text_cell(base, b);
         at += 1;
         i += 1;
     }
@@ -130,7 +148,7 @@ fn address(
 fn runs(
     page: &mut [u16],
     on: bool,
-    mark: bool,
+    base: u16,
     wide: bool,
     first: usize,
     home: usize,
@@ -138,13 +156,13 @@ fn runs(
     input: &[u8],
     from: usize,
 ) -> Reached
-    requires { ⌜ (length (now page) ≤ wideCells) × ((end ≤ length (now page)) × ((home ≤ wideCells) × ((first < length (now page)) × (from < length (now input))))) ⌝ }
-    ensures { λ r. ⌜ Typed on mark wide home end (now (input .entry)) first from (now (page .entry)) (r .at) (r .taken) (now (page .exit)) ⌝ }
+    requires { ⌜ (length (now page) ≤ wideCells) × ((end ≤ length (now page)) × ((home ≤ wideCells) × ((first < end) × ((from < length (now input)) × (base < 32768))))) ⌝ }
+    ensures { λ r. ⌜ Typed on base wide home end (now (input .entry)) first from (now (page .entry)) (r .at) (r .taken) (now (page .exit)) ⌝ }
 {
     let mut at = first;
     let mut i = from;
     while i + 1 < input.len() {
-        let run = store(page, on, mark, at, end, input, i);
+        let run = store(page, on, base, at, end, input, i);
         at = run.at;
         i = run.taken;
         let k = address(page, on, wide, home, end, input, i);
@@ -168,7 +186,7 @@ fn still(core: Core, from: usize) -> Reached
 
 // A run from the byte `from` on, if it is text or ESC.
 pub fn text(page: &mut [u16], core: Core, input: &[u8], from: usize) -> Reached
-    requires { ⌜ (length (now page) ≡ pageLength (core .screen)) × ((screenOk (core .screen) ≡ true) × (from < length (now input))) ⌝ }
+    requires { ⌜ (length (now page) ≡ pageLength (core .screen)) × ((screenOk (core .screen) ≡ true) × ((from < length (now input)) × (core .attribute < 32))) ⌝ }
     ensures { λ r. ⌜ TextRun core (now (input .entry)) from (now (page .entry)) (r .at) (r .taken) (now (page .exit)) ⌝ }
 {
     if input[from] < 0x1b {
@@ -183,7 +201,7 @@ pub fn text(page: &mut [u16], core: Core, input: &[u8], from: usize) -> Reached
         Pending::Idle => runs(
             page,
             core.modes.protect,
-            core.modes.mark,
+            written_cell(Contents::Text(0), core.modes.mark, core.attribute),
             x.wide,
             cursor_of(x) as usize,
             segment_start(x) as usize,

@@ -18,7 +18,7 @@ plan-for-spec =
     -- enum-known-d
     (λ c. search needs)
     -- plan-move-requires
-    (λ c κs. let s = c .before .before .before .before in (s .pre .0, screen-inside _ (s .pre .1)))
+    (λ c κs. let s = c .before .before .before .before in (s .pre .0, screen-inside _ (s .pre .1 .0)))
     -- enum-known-d-2
     (λ c. search needs)
     -- plan-window-requires
@@ -26,21 +26,19 @@ plan-for-spec =
     -- enum-known-d-3
     (λ c. search needs)
     -- plan-store-requires
-    (λ c κs. let s = c .before .before .before .before in (s .pre .0, screen-inside _ (s .pre .1)))
+    (λ c κs. let s = c .before .before .before .before in (s .pre .0, (screen-inside _ (s .pre .1 .0), s .pre .1 .1)))
     -- enum-known-d-4
     (λ c. search needs)
-    -- attribute-contents-requires
-    (λ c κs. search needs)
-    -- plan-store-requires-2
-    (λ c κs. let s = c .before .before .before .before .before in (s .pre .0, screen-inside _ (s .pre .1)))
+    -- plan-attribute-requires
+    (λ c κs. let s = c .before .before .before .before in (s .pre .0, screen-inside _ (s .pre .1 .0)))
     -- enum-known-d-5
     (λ c. search needs)
     -- plan-edit-requires
-    (λ c κs. let s = c .before .before .before .before in (s .pre .0, screen-inside _ (s .pre .1)))
+    (λ c κs. let s = c .before .before .before .before in (s .pre .0, screen-inside _ (s .pre .1 .0)))
     -- enum-known-d-6
     (λ c. search needs)
     -- plan-clear-requires
-    (λ c κs. screen-inside _ (c .before .before .before .before .pre .1))
+    (λ c κs. screen-inside _ (c .before .before .before .before .pre .1 .0))
     -- enum-known-d-7
     (λ c. search needs)
     -- with-mode-requires
@@ -78,7 +76,7 @@ plan-for-spec =
     -- enum-known-d-10
     (λ c. search needs)
     -- plan-excluded-requires
-    (λ c κs. screen-inside _ (c .before .before .before .before .pre .1))
+    (λ c κs. screen-inside _ (c .before .before .before .before .pre .1 .0))
     -- returns
     (λ c. c .plain .ensures ∙ rw (c .before .enum-told .given .1))
     -- returns-2
@@ -88,7 +86,7 @@ plan-for-spec =
     -- returns-4
     (λ c. c .plan-store .ensures ∙ rw (c .before .before .d3 .given .1))
     -- returns-5
-    (λ c. c .plan-store2 .ensures ∙ rw (c .before .attribute-contents .ensures, c .before .before .before .d4 .given .1))
+    (λ c. c .plan-attribute .ensures ∙ rw (c .before .before .d4 .given .1))
     -- returns-6
     (λ c. c .plan-edit .ensures ∙ rw (c .before .before .d5 .given .1))
     -- returns-7

@@ -17,6 +17,6 @@ power-on-spec =
     -- returns
     (λ c.
     let x = c .before .before .before .before in
-    powered-on _ _ _ (x .if1 .taken) (x .before .power-on-state .ensures) (c .before .before .fill-cells .ensures))
+    powered-on _ _ _ _ (x .if1 .taken) (x .before .power-on-state .ensures) (c .before .before .fill-cells .ensures))
     -- returns-2
-    (λ c. power-on-refused _ _ (c .if1 .left) (c .before .power-on-state .ensures)))
+    (λ c. power-on-refused _ _ _ (c .if1 .left) (c .before .power-on-state .ensures)))

@@ -8,17 +8,23 @@ pub make-spec : {M : Type 1} → statement M
 make-spec =
     tie.close
     (tie.spec
+    -- mul-flags
+    (λ c. search needs)
     -- add-result
     (λ c. search needs)
     -- mul-result
     (λ c. search needs)
     -- add-result-2
     (λ c. search needs)
-    -- mul-result-2
-    (λ c. search needs)
     -- add-result-3
     (λ c. search needs)
+    -- mul-result-2
+    (λ c. search needs)
+    -- add-result-4
+    (λ c. search needs)
+    -- add-result-5
+    (λ c. search needs)
     -- returns
-    (λ c. rw (c .if1 .taken))
+    (λ c. rw (c .if1 .taken) (omega arith))
     -- returns-2
     (λ c. rw (c .if1 .left) (omega arith)))

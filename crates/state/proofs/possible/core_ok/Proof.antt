@@ -10,26 +10,33 @@ unfolding coreOk
 core-ok-spec =
     tie.close
     (tie.spec
-    -- bells-ok-requires
+    -- remembered-ok-requires
     (λ c κs. search needs)
     -- pending-ok-requires
     (λ c κs. search needs)
     -- and-requires
     (λ c κs. search needs)
-    -- screen-ok-requires
+    -- bells-ok-requires
     (λ c κs. search needs)
     -- and-requires-2
     (λ c κs. search needs)
+    -- screen-ok-requires
+    (λ c κs. search needs)
     -- and-requires-3
+    (λ c κs. search needs)
+    -- and-requires-4
     (λ c κs. search needs)
     -- returns
     (λ c.
-    let sequence = c .before .before .before .before in
-    c .and3 .ensures
+    let rest = c .before .before .before .before in
+    let sequence = rest .before .before in
+    c .and4 .ensures
     ∙ rw (
-      c .before .and2 .ensures,
+      c .before .and3 .ensures,
       c .before .before .screen-ok .ensures,
+      rest .and2 .ensures,
+      rest .before .bells-ok .ensures,
       sequence .and .ensures,
       sequence .before .pending-ok .ensures,
-      sequence .before .before .bells-ok .ensures,
+      sequence .before .before .remembered-ok .ensures,
     )))

@@ -75,7 +75,7 @@ repeat-spec =
     -- loop-holds
     (λ c. let s = c .before .before .before .before in (begin _ _ _ _ _ _ (s .pre .0), (s .pre .1, refl)))
     -- text-requires
-    (λ c κs. let g = ready (c .before .before .loop .inv .0) in (g .0, (g .1 .0, c .before .loop-test .taken)))
+    (λ c κs. let g = ready (c .before .before .loop .inv .0) in (g .0, (g .1 .0, (c .before .loop-test .taken, g .1 .1 .1))))
     -- moved-requires
     (λ c κs.
     let t = c .before .before .before in
@@ -103,7 +103,7 @@ repeat-spec =
     (λ c κs.
     let f = c .before .before .before .before .before .before .before .before in
     let g = ready (run (moved f) .running) in
-    (g .0, (g .1 .0, (g .1 .1, f .follow-text .ensures))))
+    (g .0, (g .1 .0, (g .1 .1 .0, (g .1 .1 .1, f .follow-text .ensures)))))
     -- is-no-room-requires
     (λ c κs. search needs)
     -- finished-requires

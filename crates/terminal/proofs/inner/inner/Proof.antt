@@ -31,7 +31,7 @@ inner-spec =
     -- returns
     (λ c.
     let h = above _ _ _ _ _ (c .before .if1 .taken) in
-    (quietly h refl (c .quiet .ensures), effect-beside _ h (c .before .before .before .before .before .pre .1 .1 .1)))
+    (quietly h refl (c .quiet .ensures), effect-beside _ h (c .before .before .before .before .before .pre .1 .1 .1 .1)))
     -- decode-requires
     (λ c κs. c .before .before .before .before .pre .1 .1 .0)
     -- enum-known-d
@@ -72,22 +72,22 @@ inner-spec =
     (λ c.
     let k = c .before .before .before .before .before in
     let h = came k (c .before .before .before .d .given .1) in
-    (quietly h (c .before .awaiting .ensures) (c .quiet2 .ensures), effect-beside _ h (start k .pre .1 .1 .1)))
+    (quietly h (c .before .awaiting .ensures) (c .quiet2 .ensures), effect-beside _ h (start k .pre .1 .1 .1 .1)))
     -- returns-3
     (λ c.
     let k = c .before .before .before .before .before in
     let h = came k (c .before .before .before .d2 .given .1) in
-    (quietly h (c .before .awaiting2 .ensures) (c .quiet3 .ensures), effect-beside _ h (start k .pre .1 .1 .1)))
+    (quietly h (c .before .awaiting2 .ensures) (c .quiet3 .ensures), effect-beside _ h (start k .pre .1 .1 .1 .1)))
     -- returns-4
     (λ c.
     let k = c .before .before .before .before .before in
     let h = came k (c .before .before .before .d3 .given .1) in
-    (quietly h (c .before .idle .ensures) (c .quiet4 .ensures), effect-beside _ h (start k .pre .1 .1 .1)))
+    (quietly h (c .before .idle .ensures) (c .quiet4 .ensures), effect-beside _ h (start k .pre .1 .1 .1 .1)))
     -- returns-5
     (λ c.
     let k = c .before .before .before .before .before in
     let h = came k (c .before .before .before .d4 .given .1) in
-    (quietly h (c .before .idle2 .ensures) (c .quiet5 .ensures), effect-beside _ h (start k .pre .1 .1 .1)))
+    (quietly h (c .before .idle2 .ensures) (c .quiet5 .ensures), effect-beside _ h (start k .pre .1 .1 .1 .1)))
     -- same-length
     (λ c. search needs)
     -- same-length-2

@@ -19,7 +19,7 @@ obey-spec =
     -- idle-requires
     (λ c κs. search needs)
     -- plan-for-requires
-    (λ c κs. let p = c .before .before .before .before .before .pre in rw (c .before .idle .ensures) (p .0, p .1 .0))
+    (λ c κs. let p = c .before .before .before .before .before .pre in rw (c .before .idle .ensures) (p .0, (p .1 .0, p .1 .1 .0)))
     -- carry-out-requires
     (λ c κs.
     let k = c .before .before .before in
@@ -27,7 +27,7 @@ obey-spec =
     let p = start k .pre in
     let i = cleared k .idle .ensures in
     let g = plan-good (now (x .page)) (x .core) (now (x .tabs)) (x .d) i (k .plan-for .ensures) (p .0) (p .1 .0) in
-    (g .0, (g .1, list-asked (now (x .page)) (x .core) (now (x .tabs)) (x .d) i (k .plan-for .ensures) (p .0) (p .1 .0) (p .1 .1))))
+    (g .0, (g .1, list-asked (now (x .page)) (x .core) (now (x .tabs)) (x .d) i (k .plan-for .ensures) (p .0) (p .1 .0) (p .1 .1 .1))))
     -- same-length
     (λ c. search needs)
     -- same-length-2

@@ -12,26 +12,22 @@ is-stored-spec =
     tie.close
     (tie.spec
     -- returns
-    (λ c z. absurd (false≢true z))
+    (λ c end e z. absurd (false≢true z))
     -- returns-2
-    (λ c z. absurd (false≢true z))
-    -- add-if3
-    (λ c. search needs)
-    -- returns-3
-    (λ c z. absurd (false≢true z))
+    (λ c end e z. absurd (false≢true z))
     -- is-guarded-at-requires
     (λ c κs. search needs)
-    -- returns-4
-    (λ c z. absurd (false≢true z))
+    -- returns-3
+    (λ c end e z. absurd (false≢true z))
     -- add-is-guarded-at
     (λ c. search needs)
     -- is-guarded-at-requires-2
     (λ c κs. search needs)
-    -- returns-5
-    (λ c z. record {
+    -- returns-4
+    (λ c end e z. record {
       low = omega arith;
       high = omega arith;
-      inside = omega arith;
-      here = sym (c .before .before .is-guarded-at .ensures) ∙ c .before .if4 .left;
+      inside = e;
+      here = sym (c .before .before .is-guarded-at .ensures) ∙ c .before .if3 .left;
       next = sym (c .is-guarded-at2 .ensures) ∙ not-true _ z;
     }))

@@ -7,15 +7,15 @@ use native.Mathlib.Omega.{arith}
 use denote.Ref.{now}
 use lib.ListN.{length}
 use Rattle.terminal.specs.Text.{Typed, none, placed}
-use Rattle.terminal.proofs.TextRuns.{Range, typed-then, typed-range}
+use Rattle.terminal.proofs.TextRuns.{Range, typed-then, typed-inside, typed-range}
 use Rattle.terminal.proofs.text.runs.Statement.{statement}
 use Rattle.terminal.proofs.text.runs.Tie as tie
 
 abbrev Inv-loop : tie.InvT-loop
-Inv-loop page₀ on mark wide first home end input from at₀ i₀ page at i = Typed on mark wide home end input first from page₀ at i page
+Inv-loop page₀ on base wide first home end input from at₀ i₀ page at i = Typed on base wide home end input first from page₀ at i page
 
 abbrev μ-loop : tie.MeasureT-loop
-μ-loop page₀ on mark wide first home end input from at₀ i₀ page at i = length input - i
+μ-loop page₀ on base wide first home end input from at₀ i₀ page at i = length input - i
 
 abbrev Start : Type 0
 Start = tie.Start Inv-loop μ-loop
@@ -33,10 +33,10 @@ head s = s .before .before .before
 abbrev Went : Start → ℕ → ℕ → List ℕ → Type 0
 Went x at i p =
     let a = x .args in
-    Typed (a .on) (a .mark) (a .wide) (a .home) (a .end) (now (a .input)) (a .first) (a .from) (now (a .page)) at i p
+    Typed (a .on) (a .base) (a .wide) (a .home) (a .end) (now (a .input)) (a .first) (a .from) (now (a .page)) at i p
 
 ends : (x : Start) {at i : ℕ} {p : List ℕ} → Went x at i p → Range (now (x .args .input)) (x .args .from) (now (x .args .page)) at i p
-ends x t = typed-range t (x .pre .1 .1 .1 .1) (x .pre .1 .1 .1 .0) (x .pre .1 .0)
+ends x t = typed-range t (x .pre .1 .1 .1 .1 .0) (omega (arith, x .pre .1 .1 .1 .0, x .pre .1 .0)) (x .pre .1 .0)
 
 -- after the text of a turn is stored
 went : (s : Stored) → Went (start (head s)) (s .store .result .at) (s .store .result .taken) (s .store .last .0)
@@ -57,7 +57,7 @@ runs-spec =
     let l = c .before .before in
     let r = ends (start l) (l .loop .inv) in
     let p = start l .pre in
-    (omega (arith, r .size, p .0), (omega (arith, r .size, p .1 .0), (omega (arith, r .size, r .below), r .within))))
+    (omega (arith, r .size, p .0), (omega (arith, r .size, p .1 .0), (typed-inside (l .loop .inv) (p .1 .1 .1 .0), (r .within, p .1 .1 .1 .1 .1)))))
     -- address-requires
     (λ c κs.
     let s = c .before .before .before in

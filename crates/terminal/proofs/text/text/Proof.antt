@@ -2,6 +2,7 @@
 use native.Mathlib.Omega.{arith}
 use Rattle.rules.proofs.Screens.{screen-inside}
 use Rattle.terminal.specs.Text.{still, typed}
+use Rattle.terminal.proofs.TextRuns.{base-small}
 use borrow.Author.Needs.{needs}
 use Rattle.terminal.proofs.text.text.Statement.{statement}
 use Rattle.terminal.proofs.text.text.Tie as tie
@@ -22,6 +23,8 @@ text-spec =
     (λ c. rw (c .still2 .ensures) still)
     -- enum-told
     (λ c. search needs)
+    -- written-cell-requires
+    (λ c κs. search needs)
     -- cursor-of-requires
     (λ c κs. search needs)
     -- cast-runs
@@ -36,12 +39,14 @@ text-spec =
     (λ c. search needs)
     -- runs-requires
     (λ c κs.
-    let x = c .before .before .before .before .before .before .before .before .before .before .before .before in
+    let x = c .before .before .before .before .before .before .before .before .before .before .before .before .before in
+    let base = c .before .before .before .written-cell .ensures in
+    let small = base-small (x .args .core .modes .mark) (x .args .core .attribute) (x .pre .1 .1 .1) in
     let s = screen-inside (x .args .core .screen) (x .pre .1 .0) in
     let first = c .before .before .cursor-of .ensures in
     let home = c .before .segment-start .ensures in
     let end = c .segment-end .ensures in
-    (omega (arith, x .pre .0, s .placed .most), (omega (arith, x .pre .0, end, s .placed .page), (omega (arith, home, s .placed), (omega (arith, x .pre .0, first, s .below, s .placed .page), x .pre .1 .1)))))
+    (omega (arith, x .pre .0, s .placed .most), (omega (arith, x .pre .0, end, s .placed .page), (omega (arith, home, s .placed), (omega (arith, first, end, s .below), (x .pre .1 .1 .0, omega (arith, base, small)))))))
     -- still-requires-3
     (λ c κs. search needs)
     -- same-length
@@ -51,8 +56,9 @@ text-spec =
     let end = c .before .before .before in
     let home = end .before in
     let first = home .before in
-    let idle = first .before .before in
+    let base = first .before in
+    let idle = base .before .before in
     typed (idle .enum-told .given .1) (idle .before .before .before .if2 .left)
-    (rw (first .cursor-of .ensures, home .segment-start .ensures, end .segment-end .ensures) at (c .before .before .runs .ensures)))
+    (rw (base .written-cell .ensures, first .cursor-of .ensures, home .segment-start .ensures, end .segment-end .ensures) at (c .before .before .runs .ensures)))
     -- returns-4
     (λ c. rw (c .still3 .ensures) still))
