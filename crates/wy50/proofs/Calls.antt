@@ -1,6 +1,7 @@
 -- The exported calls, from the promises of the terminal's: refused where the numbers name no state, else the terminal's, in numbers.
 --     named-bells     a bell count that is named is below 256
 --     powered-on, stepped, completed, sent     the terminal's, in numbers
+--     power-on-refused     a number that is no personality
 --     step-refused, run-refused, press-refused     a bad call
 --     step-seven, run-seven     a 7 of the terminal's gives the numbers back as they were
 -- Assumes nothing.
@@ -15,6 +16,8 @@ use lib.ListN.{length}
 use Rattle.rules.specs.declared.Core.{Core}
 use Rattle.rules.specs.declared.State.{State}
 use Rattle.rules.specs.declared.PowerOn.{PowerOn}
+use Rattle.rules.specs.declared.Personality.{Personality}
+use Rattle.rules.specs.declared.Personality.the-variants as Personality
 use Rattle.rules.specs.declared.StepResult.{StepResult}
 use Rattle.rules.specs.declared.RunResult.{RunResult}
 use Rattle.rules.specs.declared.PressResult.{PressResult}
@@ -22,22 +25,22 @@ use Rattle.rules.specs.Cell.{both}
 use Rattle.rules.specs.Room.{over}
 use Rattle.rules.specs.State.{number}
 use Rattle.rules.specs.Step.{Outcome, stepRule}
-use Rattle.rules.specs.Possible.{good}
+use Rattle.rules.specs.Possible.{powerOn, good}
 use Rattle.rules.specs.Carry.{Effect}
-use Rattle.rules.specs.Calls.{Ran, joined, repeated, runRule, pressRule}
+use Rattle.rules.specs.Calls.{Ran, joined, repeated, powerOnRule, runRule, pressRule}
 use Rattle.rules.proofs.Tests.{pick-if, among-parts}
 use Rattle.rules.proofs.Kept.{possible-parts, good-parts}
 use Rattle.rules.proofs.Left.{Ended, ends, clears, keeps, inner-ends}
 use Rattle.state.proofs.Tests.{both-left, both-right}
 use Rattle.terminal.specs.Promise as terminal
 use Rattle.wy50.specs.declared.raw.RawState.{RawState}
-use Rattle.wy50.specs.Raw.{allBelow, areFlags, isSequence, packed, unpacked, named}
-use Rattle.wy50.specs.Promise.{raw, rawGood, rawStep, rawRun, rawPress, PoweredOn, Stepped, Completed, Sent}
+use Rattle.wy50.specs.Raw.{allBelow, isPersonality, personalityAt, areFlags, isSequence, packed, unpacked, named}
+use Rattle.wy50.specs.Promise.{rawGood, rawPowerOn, rawStep, rawRun, rawPress, PoweredOn, Stepped, Completed, Sent}
 
 pub named-bells : (x : RawState) → named x ≡ true → x .bells < 256
 unfolding named
 named-bells x h =
-    let r = both (isSequence (x .sequence)) (both (allBelow 2 (x .tabs)) (ltb (x .shifted) 2)) in
+    let r = both (isSequence (x .sequence)) (both (allBelow 2 (x .tabs)) (both (ltb (x .shifted) 2) (isPersonality (x .personality)))) in
     ltb-true (x .bells) 256 (both-left (ltb (x .bells) 256) r (both-right (areFlags (x .modes)) (both (ltb (x .bells) 256) r) h))
 
 -- ---- a good page and state answer no 7
@@ -85,11 +88,19 @@ raw-good p x on g = rw (on, g)
 
 -- ---- the calls
 
+-- a number that is no personality
+pub power-on-refused : (m : ℕ) (p : List ℕ) {s : State} {y : RawState} → isPersonality m ≡ false → s ≡ powerOn Personality.Wy50 → y ≡ packed s
+    → PoweredOn (rawPowerOn m p) (record { answer = 7; state = y }) p
+unfolding rawPowerOn
+power-on-refused m p off e s = rw off (record { answer = refl; state = rw (s, e); page = refl })
+
 -- n and y are the numbers of the answer and of the state
 module _ {n : ℕ} {y : RawState} where
-  pub powered-on : {o : Outcome} {t : PowerOn} {p : List ℕ} → terminal.PoweredOn o t p → n ≡ number (t .answer) → y ≡ packed (t .state)
-      → PoweredOn (raw o) (record { answer = n; state = y }) p
-  powered-on h a s = record { answer = a ∙ h .answer; state = rw (s, h .state); page = h .page }
+  pub powered-on : (m : ℕ) (p : List ℕ) {k : Personality} {t : PowerOn} {p′ : List ℕ} → isPersonality m ≡ true → k ≡ personalityAt m
+      → terminal.PoweredOn (powerOnRule k p) t p′ → n ≡ number (t .answer) → y ≡ packed (t .state)
+      → PoweredOn (rawPowerOn m p) (record { answer = n; state = y }) p′
+  unfolding rawPowerOn
+  powered-on m p on e h a s = rw (on, ← e) (record { answer = a ∙ h .answer; state = rw (s, h .state); page = h .page })
 
   pub stepped : (p : List ℕ) (x : RawState) (b : ℕ) (w : List ℕ) {s : State} {t : StepResult} {p′ w′ : List ℕ} → named x ≡ true → s ≡ unpacked x
       → terminal.Stepped (stepRule p s b (length w)) t p′ w w′ → n ≡ number (t .answer) → (n ≡ 7 → ⊥) → y ≡ packed (t .state)

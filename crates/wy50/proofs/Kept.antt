@@ -8,6 +8,7 @@ use mathlib.Core.List.{List, []}
 use Prim.Native.Nat.{ℕ, _-_}
 use lib.ListN.{length}
 use Rattle.rules.specs.declared.State.{State}
+use Rattle.rules.specs.declared.Personality.{Personality}
 use Rattle.rules.specs.Cell.{pick}
 use Rattle.rules.specs.State.{widthOf}
 use Rattle.rules.specs.Possible.{good}
@@ -52,14 +53,14 @@ packed-good p s h =
     let u = w .setup in
     let stops = retabbed-stops (widthOf (s .core .screen)) (length (s .setup .tabs) - 52) (s .setup .tabs) (u .tabs) in
     let core : PossibleCore (s .core) (retabbed s .gathered) =
-    record { screen = w .core .screen; bells = w .core .bells; pending = zeroed-possible (s .core .pending) (s .gathered) (w .core .pending) } in
+    record { screen = w .core .screen; bells = w .core .bells; remembered = w .core .remembered; pending = zeroed-possible (s .core .pending) (s .gathered) (w .core .pending) } in
     let setup : PossibleSetup (widthOf (s .core .screen)) (retabbed s .setup) =
     record { tabs = stops; keys = u .keys; labels = u .labels; message = u .message; attributes = u .attributes; features = u .features } in
     rw (packed-named s (w .core .bells), unpacked-packed s (w .narrow))
     (good-whole p (retabbed s) (g .0) (possible-whole (retabbed s) (w .narrow) core setup))
 
-pub power-on-good : (p : List ℕ) → length p ≡ 1920 → rawGood (powerOnRule p .page) (raw (powerOnRule p) .state) ≡ true
-power-on-good p h = packed-good (powerOnRule p .page) (powerOnRule p .state) (powerOn-good p h)
+pub power-on-good : (m : Personality) (p : List ℕ) → length p ≡ 1920 → rawGood (powerOnRule m p .page) (raw (powerOnRule m p) .state) ≡ true
+power-on-good m p h = packed-good (powerOnRule m p .page) (powerOnRule m p .state) (powerOn-good m p h)
 
 module _ (p : List ℕ) (x : RawState) (fine : rawGood p x ≡ true) where
   is-good : good p (unpacked x) ≡ true

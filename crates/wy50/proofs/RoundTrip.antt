@@ -5,7 +5,7 @@
 --     packed-unpacked     numbers that name a state are that state's, but for what means nothing
 -- Assumes nothing.
 use mathlib.Core.Path.{_≡_, refl, sym, ap, ap₂, _∙_}
-use mathlib.Core.Bool.{Bool, true, false, not}
+use mathlib.Core.Bool.{Bool, true, false, not, false≢true}
 use mathlib.Core.List.{List, [], _∷_, _++_, map}
 use Prim.Native.Nat.{ℕ, zero, suc, _-_, _<_}
 use native.Mathlib.Omega.{arith}
@@ -19,14 +19,16 @@ use Rattle.rules.specs.declared.Pending.{Pending}
 use Rattle.rules.specs.declared.Pending.the-variants as Pending
 use Rattle.rules.specs.declared.Modes.{Modes}
 use Rattle.rules.specs.declared.State.{State}
-use Rattle.rules.specs.Cell.{both}
+use Rattle.rules.specs.declared.Personality.{Personality}
+use Rattle.rules.specs.declared.Personality.the-variants as Personality
+use Rattle.rules.specs.Cell.{pick, both, either}
 use Rattle.rules.specs.State.{withTabs}
 use Rattle.rules.specs.Possible.{noStops, tabsOk}
 use Rattle.state.proofs.Tests.{both-left, both-right}
 use Rattle.wy50.specs.declared.raw.RawModes.{RawModes}
 use Rattle.wy50.specs.declared.raw.RawSequence.{RawSequence}
 use Rattle.wy50.specs.declared.raw.RawState.{RawState}
-use Rattle.wy50.specs.Raw.{allBelow, flag, isOn, sequenceOf, find, pendingOf, sameSequence, isSequence, rawModes, modesOf, areFlags}
+use Rattle.wy50.specs.Raw.{allBelow, flag, isOn, personalityNumber, isPersonality, personalityAt, sequenceOf, find, pendingOf, sameSequence, isSequence, rawModes, modesOf, areFlags}
 use Rattle.wy50.specs.Raw.{rawKey, keyOf, shown, unshown, gatheredIn, zeroed, packed, unpacked, tidied, named}
 
 -- a flag
@@ -43,6 +45,25 @@ flag-isOn v h = by (isOn v) refl where
   by : (t : Bool) → isOn v ≡ t → flag t ≡ v
   by true e = omega (arith, eqb-true v 1 e)
   by false e = omega (arith, ltb-true v 2 h, eqb-false v 1 e)
+
+-- a personality
+personality-back : (m : Personality) → personalityAt (personalityNumber m) ≡ m
+personality-back Personality.Wy50 = refl
+personality-back Personality.Wy60 = refl
+
+personality-named : (m : Personality) → isPersonality (personalityNumber m) ≡ true
+personality-named Personality.Wy50 = refl
+personality-named Personality.Wy60 = refl
+
+number-back : (v : ℕ) → isPersonality v ≡ true → personalityNumber (personalityAt v) ≡ v
+number-back v h = by (eqb v 60) refl (other (eqb v 50) refl h) where
+  other : (t : Bool) → eqb v 50 ≡ t → either t (eqb v 60) ≡ true → eqb v 60 ≡ false → v ≡ 50
+  other true e h z = eqb-true v 50 e
+  other false e h z = absurd (false≢true (sym z ∙ h))
+
+  by : (t : Bool) → eqb v 60 ≡ t → (eqb v 60 ≡ false → v ≡ 50) → personalityNumber (pick t Personality.Wy60 Personality.Wy50) ≡ v
+  by true e o = sym (eqb-true v 60 e)
+  by false e o = sym (o e)
 
 -- a list of them, or of keys
 map-back : {A B : Type 0} (f : A → B) (g : B → A) → ((a : A) → g (f a) ≡ a) → (l : List A) → map g (map f l) ≡ l
@@ -157,7 +178,7 @@ raw-modes-back m h =
 pub packed-named : (s : State) → s .core .bells < 256 → named (packed s) ≡ true
 unfolding packed named
 packed-named s h =
-    rw (modes-named (s .core .modes), lt-ltb (s .core .bells) 256 h, sequence-named (s .core .pending), tabs-below (shown (s .setup .tabs)), flag-below (s .setup .shifted))
+    rw (modes-named (s .core .modes), lt-ltb (s .core .bells) 256 h, sequence-named (s .core .pending), tabs-below (shown (s .setup .tabs)), flag-below (s .setup .shifted), personality-named (s .core .personality))
 
 -- and it is that state, with no tab stop but those that C holds, and zeros where nothing is gathered
 abbrev pub retabbed : State → State
@@ -206,6 +227,8 @@ unpacked-packed s n = λ i. record {
     modes = modes-back (s .core .modes) i;
     bells = s .core .bells;
     pending = pending-back (s .core .pending) i;
+    personality = personality-back (s .core .personality) i;
+    attribute = s .core .attribute;
   };
   gathered = zeroed (gatheredIn (sequenceOf (s .core .pending))) (s .gathered);
   setup = record {
@@ -233,19 +256,24 @@ packed-unpacked x h =
     let q = isSequence (x .sequence) in
     let t = allBelow 2 (x .tabs) in
     let z = ltb (x .shifted) 2 in
-    let w = both t z in
+    let m = isPersonality (x .personality) in
+    let y = both z m in
+    let w = both t y in
     let r = both-right b (both q w) (both-right a (both b (both q w)) h) in
     let modes = raw-modes-back (x .modes) (both-left a (both b (both q w)) h) in
     let sequence = sequence-back (x .sequence) (both-left q w r) in
     let bits = both-right q w r in
-    let tabs = ap (map flag) (shown-unshown (map isOn (x .tabs))) ∙ tabs-back (x .tabs) (both-left t z bits) in
-    let shifted = flag-isOn (x .shifted) (both-right t z bits) in
+    let tabs = ap (map flag) (shown-unshown (map isOn (x .tabs))) ∙ tabs-back (x .tabs) (both-left t y bits) in
+    let shifted = flag-isOn (x .shifted) (both-left z m (both-right t y bits)) in
+    let personality = number-back (x .personality) (both-right z m (both-right t y bits)) in
     let keys = map-back keyOf rawKey (λ k. refl) (x .keys) in
     let labels = map-back keyOf rawKey (λ k. refl) (x .labels) in
     λ i. record {
       screen = x .screen;
       modes = modes i;
       bells = x .bells;
+      personality = personality i;
+      remembered = x .remembered;
       sequence = sequence i;
       gathered = zeroed (gatheredIn (sequence i)) (x .gathered);
       tabs = tabs i;

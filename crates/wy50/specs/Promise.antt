@@ -5,17 +5,18 @@ use mathlib.Core.Bool.{Bool}
 use mathlib.Core.List.{List, []}
 use Prim.Native.Nat.{ℕ, _≤_}
 use lib.ListN.{length, drop}
+use Rattle.rules.specs.declared.Personality.the-variants as Personality
 use Rattle.rules.specs.Cell.{pick, both}
-use Rattle.rules.specs.Possible.{good}
+use Rattle.rules.specs.Possible.{powerOn, good}
 use Rattle.rules.specs.Room.{over}
 use Rattle.rules.specs.Step.{Outcome, stepRule}
-use Rattle.rules.specs.Calls.{Ran, Pressed, pressed, runRule, pressRule}
+use Rattle.rules.specs.Calls.{Ran, Pressed, pressed, powerOnRule, runRule, pressRule}
 use Rattle.wy50.specs.declared.raw.RawState.{RawState}
 use Rattle.wy50.specs.declared.raw.RawPowerOn.{RawPowerOn}
 use Rattle.wy50.specs.declared.raw.RawStep.{RawStep}
 use Rattle.wy50.specs.declared.raw.RawRun.{RawRun}
 use Rattle.wy50.specs.declared.raw.RawPress.{RawPress}
-use Rattle.wy50.specs.Raw.{packed, unpacked, named}
+use Rattle.wy50.specs.Raw.{isPersonality, personalityAt, packed, unpacked, named}
 
 -- a page of the right length, and numbers that name a possible state
 unfoldable pub rawGood : List ℕ → RawState → Bool
@@ -30,6 +31,12 @@ pub record RawOutcome : Type 0 where
 
 abbrev pub raw : Outcome → RawOutcome
 raw o = record { answer = o .answer; state = packed (o .state); page = o .page; reply = o .reply }
+
+-- power-on with a personality's number. A number that is none answers 7, leaves the page and gives the state of a WY-50
+unfoldable pub rawPowerOn : ℕ → List ℕ → RawOutcome
+rawPowerOn m p =
+    pick (isPersonality m) (raw (powerOnRule (personalityAt m) p))
+    (record { answer = 7; state = packed (powerOn Personality.Wy50); page = p; reply = [] })
 
 -- 7: nothing replied, nothing changed
 abbrev pub badStep : List ℕ → RawState → RawOutcome

@@ -14,6 +14,8 @@ use Rattle.rules.specs.declared.Modes.{Modes}
 use Rattle.rules.specs.declared.Pending.{Pending}
 use Rattle.rules.specs.declared.Pending.the-variants as Pending
 use Rattle.rules.specs.declared.State.{State}
+use Rattle.rules.specs.declared.Personality.{Personality}
+use Rattle.rules.specs.declared.Personality.the-variants as Personality
 use Rattle.rules.specs.Cell.{pick, both, either}
 use Rattle.wy50.specs.declared.raw.RawKey.{RawKey}
 use Rattle.wy50.specs.declared.raw.RawMessage.{RawMessage}
@@ -31,6 +33,17 @@ flag b = pick b 1 0
 
 abbrev pub isOn : ℕ → Bool
 isOn v = eqb v 1
+
+-- a personality as a number, and back
+abbrev pub personalityNumber : Personality → ℕ
+personalityNumber Personality.Wy50 = 50
+personalityNumber Personality.Wy60 = 60
+
+abbrev pub isPersonality : ℕ → Bool
+isPersonality v = either (eqb v 50) (eqb v 60)
+
+abbrev pub personalityAt : ℕ → Personality
+personalityAt v = pick (eqb v 60) Personality.Wy60 Personality.Wy50
 
 abbrev sequence : ℕ → ℕ → ℕ → ℕ → RawSequence
 sequence k x y z = record { kind = k; first = x; second = y; third = z }
@@ -187,6 +200,8 @@ packed s = record {
   };
   modes = rawModes (s .core .modes);
   bells = s .core .bells;
+  personality = personalityNumber (s .core .personality);
+  remembered = s .core .attribute;
   sequence = sequenceOf (s .core .pending);
   gathered = zeroed (gatheredIn (sequenceOf (s .core .pending))) (s .gathered);
   tabs = map flag (shown (s .setup .tabs));
@@ -206,6 +221,8 @@ unpacked x = record {
     modes = modesOf (x .modes);
     bells = x .bells;
     pending = pendingOf (x .sequence);
+    personality = personalityAt (x .personality);
+    attribute = x .remembered;
   };
   gathered = x .gathered;
   setup = record {
@@ -225,6 +242,8 @@ tidied x = record {
   screen = x .screen;
   modes = x .modes;
   bells = x .bells;
+  personality = x .personality;
+  remembered = x .remembered;
   sequence = x .sequence;
   gathered = zeroed (gatheredIn (x .sequence)) (x .gathered);
   tabs = x .tabs;
@@ -236,6 +255,8 @@ tidied x = record {
   shifted = x .shifted;
 }
 
--- whether numbers name a state: modes, tab stops and the shifted line 0 or 1, bells below 256, a sequence's own numbers
+-- whether numbers name a state: modes, tab stops and the shifted line 0 or 1, bells below 256, a sequence's own numbers, a personality's number
 unfoldable pub named : RawState → Bool
-named x = both (areFlags (x .modes)) (both (ltb (x .bells) 256) (both (isSequence (x .sequence)) (both (allBelow 2 (x .tabs)) (ltb (x .shifted) 2))))
+named x =
+    both (areFlags (x .modes)) (both (ltb (x .bells) 256) (both (isSequence (x .sequence)) (both (allBelow 2 (x .tabs))
+    (both (ltb (x .shifted) 2) (isPersonality (x .personality))))))

@@ -6,11 +6,10 @@ mod unpack; // the state that numbers name
 
 ghost use mathlib.Core.Path.{_≡_};
 ghost use lib.ListN.{length};
-ghost use Rattle.rules.specs.Cell.{code, protected, kind, sent};
-ghost use Rattle.rules.specs.Calls.{powerOnRule};
+ghost use Rattle.rules.specs.Cell.{code, protected, kind, attribute, sent};
 ghost use Rattle.wy50.specs.Raw.{flag};
 ghost use Rattle.wy50.specs.Rows.{rawStepRows, rawRunRows, rawRowsAfter, rawRebuildAnswer, rawRebuilt};
-ghost use Rattle.wy50.specs.Promise.{raw, rawStep, rawRun, rawPress, PoweredOn, Stepped, Completed, Sent};
+ghost use Rattle.wy50.specs.Promise.{rawPowerOn, rawStep, rawRun, rawPress, PoweredOn, Stepped, Completed, Sent};
 use pack::flag;
 use pack::pack;
 use raw::RawPowerOn;
@@ -18,7 +17,10 @@ use raw::RawPress;
 use raw::RawRun;
 use raw::RawState;
 use raw::RawStep;
+use rules::Personality;
+use state::power_on_state;
 use terminal::answer_number;
+use terminal::attribute_of;
 use terminal::code_of;
 use terminal::is_protected;
 use terminal::kind_of;
@@ -31,14 +33,24 @@ use terminal::sent_code;
 use terminal::step;
 use terminal::step_rows;
 use unpack::is_named;
+use unpack::is_personality;
+use unpack::personality_at;
 use unpack::unpack;
 
-// All cells 0, and the power-on state's numbers. Ruled out: one that gives a mode or a cursor for another.
+// All cells 0, and the numbers of a personality's power-on state. Ruled out: one that gives a mode or a cursor for another, or takes a number
+// that is no personality.
 #[no_mangle]
-pub extern "C" fn wy50_power_on(page: &mut [u16]) -> RawPowerOn
-    ensures { λ r. ⌜ PoweredOn (raw (powerOnRule (now (page .entry)))) r (now (page .exit)) ⌝ }
+pub extern "C" fn wy50_power_on(page: &mut [u16], personality: u8) -> RawPowerOn
+    ensures { λ r. ⌜ PoweredOn (rawPowerOn personality (now (page .entry))) r (now (page .exit)) ⌝ }
 {
-    let t = power_on(page);
+    if !is_personality(personality) {
+        let none = power_on_state(Personality::Wy50);
+        return RawPowerOn {
+            answer: 7,
+            state: pack(none),
+        };
+    }
+    let t = power_on(page, personality_at(personality));
     let s = t.state;
     let a = t.answer;
     RawPowerOn {
@@ -233,7 +245,7 @@ pub extern "C" fn wy50_rebuild_rows(page: &[u16], rows: &mut [u16], state: RawSt
     answer_number(a)
 }
 
-// Readers of a cell's number: its code, whether it is protected (0 or 1), its kind, and what a send gives for it.
+// Readers of a cell's number: its code, whether it is protected (0 or 1), its kind, its attribute, and what a send gives for it.
 
 #[no_mangle]
 pub extern "C" fn wy50_cell_code(cell: u16) -> u8
@@ -254,6 +266,13 @@ pub extern "C" fn wy50_cell_kind(cell: u16) -> u8
     ensures { λ r. ⌜ r ≡ kind cell ⌝ }
 {
     kind_of(cell)
+}
+
+#[no_mangle]
+pub extern "C" fn wy50_cell_attribute(cell: u16) -> u8
+    ensures { λ r. ⌜ r ≡ attribute cell ⌝ }
+{
+    attribute_of(cell)
 }
 
 #[no_mangle]

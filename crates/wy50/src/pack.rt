@@ -3,7 +3,7 @@ ghost use mathlib.Core.Path.{_≡_};
 ghost use mathlib.Core.List.{map};
 ghost use Prim.Native.Nat.{_<_};
 ghost use lib.ListN.{getD};
-ghost use Rattle.wy50.specs.Raw.{flag, shown, gatheredIn, zeroed, kindOf, textSequence, spoiltSequence, sequenceOf, rawModes, rawKey, rawMessage, packed};
+ghost use Rattle.wy50.specs.Raw.{flag, personalityNumber, shown, gatheredIn, zeroed, kindOf, textSequence, spoiltSequence, sequenceOf, rawModes, rawKey, rawMessage, packed};
 use crate::raw::RawKey;
 use crate::raw::RawMessage;
 use crate::raw::RawModes;
@@ -14,6 +14,7 @@ use rules::Argument;
 use rules::LongText;
 use rules::Modes;
 use rules::Pending;
+use rules::Personality;
 use rules::ShortText;
 use rules::Slot;
 use rules::State;
@@ -97,6 +98,15 @@ fn raw_shifted(b: bool) -> u16
     ensures { λ r. ⌜ r ≡ flag b ⌝ }
 {
     if b { 1 } else { 0 }
+}
+
+fn personality_number(m: Personality) -> u8
+    ensures { λ r. ⌜ r ≡ personalityNumber m ⌝ }
+{
+    match m {
+        Personality::Wy50 => 50,
+        Personality::Wy60 => 60,
+    }
 }
 
 fn raw_modes(m: Modes) -> RawModes
@@ -219,6 +229,7 @@ pub fn pack(s: State) -> RawState
     let screen = core.screen;
     let modes = core.modes;
     let pending = core.pending;
+    let personality = core.personality;
     let gathered = s.gathered;
     let tabs = setup.tabs;
     let attributes = setup.attributes;
@@ -237,6 +248,8 @@ pub fn pack(s: State) -> RawState
         },
         modes: raw_modes(modes),
         bells: core.bells as u16,
+        personality: personality_number(personality),
+        remembered: core.attribute,
         sequence: q,
         gathered: bytes,
         tabs: raw_tabs(tabs),

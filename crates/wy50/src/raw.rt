@@ -42,12 +42,15 @@ pub struct RawSequence {
     pub third: u16,
 }
 
-// A tab stop is 0 or 1, and so is `shifted`. `gathered` are the bytes of a text under way; the sequence says how many.
+// A tab stop is 0 or 1, and so is `shifted`. The personality is 50 or 60, and `remembered` the attribute that ESC G sets in the 60. `gathered` are
+// the bytes of a text under way; the sequence says how many.
 #[repr(C)]
 pub struct RawState {
     pub screen: RawScreen,
     pub modes: RawModes,
     pub bells: u16,
+    pub personality: u8,
+    pub remembered: u8,
     pub sequence: RawSequence,
     pub gathered: [u8; 46],
     pub tabs: [u8; 80],

@@ -2,7 +2,7 @@
 ghost use mathlib.Core.Path.{_≡_};
 ghost use mathlib.Core.Bool.{true};
 ghost use mathlib.Core.List.{map};
-ghost use Rattle.wy50.specs.Raw.{allBelow, isOn, unshown, pendingOf, sameSequence, isSequence, areFlags, modesOf, keyOf, messageOf, named, unpacked};
+ghost use Rattle.wy50.specs.Raw.{allBelow, isOn, isPersonality, personalityAt, unshown, pendingOf, sameSequence, isSequence, areFlags, modesOf, keyOf, messageOf, named, unpacked};
 use crate::pack::sequence_of;
 use crate::raw::RawKey;
 use crate::raw::RawMessage;
@@ -14,12 +14,14 @@ use rules::Core;
 use rules::LongText;
 use rules::Modes;
 use rules::Pending;
+use rules::Personality;
 use rules::Screen;
 use rules::Setup;
 use rules::ShortText;
 use rules::Slot;
 use rules::State;
 use state::logic::and;
+use state::logic::or;
 use state::texts::no_text;
 
 // The sequence of a kind, with its numbers; no other kind has one.
@@ -99,9 +101,24 @@ pub fn is_named(x: RawState) -> bool
     let modes = x.modes;
     let sequence = x.sequence;
     let tabs = x.tabs;
-    let shifted = x.shifted < 2;
-    let rest = and(is_sequence(sequence), and(are_tabs(tabs), shifted));
+    let choices = and(x.shifted < 2, is_personality(x.personality));
+    let rest = and(is_sequence(sequence), and(are_tabs(tabs), choices));
     and(are_flags(modes), and(x.bells < 256, rest))
+}
+
+pub fn is_personality(v: u8) -> bool
+    ensures { λ r. ⌜ r ≡ isPersonality v ⌝ }
+{
+    or(v == 50, v == 60)
+}
+
+pub fn personality_at(v: u8) -> Personality
+    ensures { λ r. ⌜ r ≡ personalityAt v ⌝ }
+{
+    if v == 60 {
+        return Personality::Wy60;
+    }
+    Personality::Wy50
 }
 
 fn modes_of(m: RawModes) -> Modes
@@ -204,6 +221,8 @@ pub fn unpack(x: RawState) -> State
             modes: modes_of(modes),
             bells: x.bells as u8,
             pending: pending_of(sequence),
+            personality: personality_at(x.personality),
+            attribute: x.remembered,
         },
         gathered: gathered,
         setup: Setup {

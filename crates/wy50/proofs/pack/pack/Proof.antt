@@ -17,8 +17,10 @@ pack-spec =
     (λ c κs. search needs)
     -- raw-modes-requires
     (λ c κs. search needs)
-    -- cast-t18
+    -- cast-t19
     (λ c. search needs)
+    -- personality-number-requires
+    (λ c κs. search needs)
     -- raw-tabs-requires
     (λ c κs. search needs)
     -- raw-keys-requires
@@ -32,7 +34,7 @@ pack-spec =
     -- returns
     (λ c.
     let k = c .before .before .before in
-    let m = k .before .before .before in
+    let m = k .before .before .before .before in
     let g = m .before in
     rw (
       c .raw-shifted .ensures,
@@ -40,6 +42,7 @@ pack-spec =
       c .before .before .raw-labels .ensures,
       k .raw-keys .ensures,
       k .before .raw-tabs .ensures,
+      k .before .before .personality-number .ensures,
       m .raw-modes .ensures,
       g .raw-gathered .ensures,
       g .before .gathered-in .ensures,

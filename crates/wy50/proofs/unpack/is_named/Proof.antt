@@ -10,24 +10,36 @@ unfolding named
 is-named-spec =
     tie.close
     (tie.spec
+    -- is-personality-requires
+    (λ c κs. search needs)
+    -- and-requires
+    (λ c κs. search needs)
     -- is-sequence-requires
     (λ c κs. search needs)
     -- are-tabs-requires
     (λ c κs. search needs)
-    -- and-requires
-    (λ c κs. search needs)
     -- and-requires-2
-    (λ c κs. search needs)
-    -- are-flags-requires
     (λ c κs. search needs)
     -- and-requires-3
     (λ c κs. search needs)
+    -- are-flags-requires
+    (λ c κs. search needs)
     -- and-requires-4
+    (λ c κs. search needs)
+    -- and-requires-5
     (λ c κs. search needs)
     -- returns
     (λ c.
     let flags = c .before .before .before in
     let rest = flags .before in
-    c .and4 .ensures
-    ∙ rw (c .before .and3 .ensures, rest .and2 .ensures, rest .before .and .ensures, flags .are-flags .ensures)
+    let choices = rest .before .before .before .before in
+    c .and5 .ensures
+    ∙ rw (
+      c .before .and4 .ensures,
+      rest .and3 .ensures,
+      rest .before .and2 .ensures,
+      choices .and .ensures,
+      choices .before .is-personality .ensures,
+      flags .are-flags .ensures,
+    )
     (rw (rest .before .before .are-tabs .ensures, rest .before .before .before .is-sequence .ensures))))

@@ -18,6 +18,8 @@ unpack-spec =
     record { fits = named-bells (start .args .x) (start .pre) })
     -- pending-of-requires
     (λ c κs. search needs)
+    -- personality-at-requires
+    (λ c κs. search needs)
     -- tabs-of-requires
     (λ c κs. search needs)
     -- keys-of-requires
@@ -29,12 +31,13 @@ unpack-spec =
     -- returns
     (λ c.
     let k = c .before .before .before in
-    let q = k .before .before in
+    let q = k .before .before .before in
     rw (
       c .before .message-of .ensures,
       c .before .before .labels-of .ensures,
       k .keys-of .ensures,
       k .before .tabs-of .ensures,
+      k .before .before .personality-at .ensures,
       q .pending-of .ensures,
       q .before .before .modes-of .ensures,
     )))
