@@ -16,6 +16,7 @@ use crate::trace::put;
 use crate::trace::text;
 use counter::Counted;
 use rules::Answer;
+use rules::Personality;
 use rules::State;
 
 // After a call: the state, and how many bytes the output buffer holds.
@@ -81,8 +82,8 @@ fn closing(out: &mut [u8], at: usize, room: &[u8], replied: usize, s: State, pag
 
 // The calls. Each writes its line, and hands the state on.
 
-fn on(count: usize, page: &mut [u16], out: &mut [u8], at: usize) -> Called {
-    let r = terminal::power_on(page);
+fn on(count: usize, m: Personality, page: &mut [u16], out: &mut [u8], at: usize) -> Called {
+    let r = terminal::power_on(page, m);
     let a = r.answer;
     let next = r.state;
     let n = opening(out, at, count, b"on", a);
@@ -285,7 +286,7 @@ pub fn call(
     at: usize,
 ) -> Called {
     match c {
-        Call::On => on(count, page, out, at),
+        Call::On(m) => on(count, m, page, out, at),
         Call::Step(b) => step(count, s, b, page, room, out, at),
         Call::Run => run(count, s, input, page, room, out, at),
         Call::Press(k) => press(count, s, k, page, room, out, at),

@@ -1,8 +1,10 @@
 // Lines that set something: the page's cells, and the parts of a state.
 use crate::narrow::COLUMNS;
 use crate::script::Setting;
+use rules::Core;
 use rules::LongText;
 use rules::Modes;
+use rules::Personality;
 use rules::Screen;
 use rules::Setup;
 use rules::ShortText;
@@ -64,6 +66,20 @@ fn with_cursor(s: Screen, second: bool, i: u16) -> Screen {
     } else {
         t.cursor0 = i;
         t
+    }
+}
+
+fn with_personality(c: Core, m: Personality) -> Core {
+    let screen = c.screen;
+    let modes = c.modes;
+    let pending = c.pending;
+    Core {
+        screen: screen,
+        modes: modes,
+        bells: c.bells,
+        pending: pending,
+        personality: m,
+        attribute: c.attribute,
     }
 }
 
@@ -165,6 +181,8 @@ pub fn set(s: State, x: Setting) -> State {
         Setting::Feature(n, v) => setup = with_feature(setup, n, v),
         Setting::Bells(n) => core.bells = n,
         Setting::Shifted(b) => setup.shifted = b,
+        Setting::Personality(m) => core = with_personality(core, m),
+        Setting::Remembered(n) => core.attribute = n,
     }
     let gathered = s.gathered;
     State {

@@ -13,6 +13,7 @@ use crate::script::read;
 use crate::sequence;
 use crate::text;
 use libc::STDERR_FILENO;
+use rules::Personality;
 use rules::Setup;
 use rules::State;
 use std::num::wrapping_add_usize;
@@ -37,7 +38,7 @@ pub struct Progress {
 // As at power-on.
 pub fn start() -> Progress {
     let mut page = [0u16; CELLS];
-    let on = terminal::power_on(&mut page);
+    let on = terminal::power_on(&mut page, Personality::Wy50);
     let state = on.state;
     Progress {
         state: state,
@@ -230,7 +231,7 @@ fn input_length(x: Call, line: &[u8], bytes: &mut [u8]) -> usize {
 
 fn has_input(x: Call) -> bool {
     match x {
-        Call::On => false,
+        Call::On(_) => false,
         Call::Step(_) => false,
         Call::Run => true,
         Call::Press(_) => false,

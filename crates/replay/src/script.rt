@@ -7,6 +7,7 @@ use crate::text::later;
 use crate::text::number;
 use crate::text::word_count;
 use check::same;
+use rules::Personality;
 
 // Lines that change the page.
 pub enum PageLine {
@@ -33,11 +34,13 @@ pub enum Setting {
     Feature(usize, u8),
     Bells(u8),
     Shifted(bool),
+    Personality(Personality),
+    Remembered(u8),
 }
 
 // Lines that call, or show.
 pub enum Call {
-    On,
+    On(Personality),
     Step(u8),
     Run,
     Press(u8),
@@ -84,7 +87,7 @@ pub fn read(line: &[u8]) -> Command {
 
 fn one_word(line: &[u8]) -> Command {
     if same(line, b"on") {
-        return Command::Call(Call::On, 0);
+        return Command::Call(Call::On(Personality::Wy50), 0);
     }
     if same(line, b"show") {
         return Command::Call(Call::Show, 0);
@@ -134,7 +137,31 @@ fn two_words(line: &[u8]) -> Command {
     if same(word, b"shifted") {
         return given(v <= 1, Command::Set(Setting::Shifted(v == 1)));
     }
+    if same(word, b"remembered") {
+        return given(v < 32, Command::Set(Setting::Remembered(v)));
+    }
+    of_personality(word, v)
+}
+
+// A word with a personality, 50 or 60.
+fn of_personality(word: &[u8], v: u8) -> Command {
+    if v == 50 {
+        return personality_line(word, Personality::Wy50);
+    }
+    if v == 60 {
+        return personality_line(word, Personality::Wy60);
+    }
     Command::Bad
+}
+
+fn personality_line(word: &[u8], m: Personality) -> Command {
+    if same(word, b"on") {
+        return Command::Call(Call::On(m), 0);
+    }
+    given(
+        same(word, b"personality"),
+        Command::Set(Setting::Personality(m)),
+    )
 }
 
 fn three_words(line: &[u8]) -> Command {

@@ -8,6 +8,7 @@ use check::same;
 use rules::Argument;
 use rules::Core;
 use rules::Pending;
+use rules::Personality;
 use rules::Slot;
 use rules::State;
 
@@ -169,7 +170,7 @@ pub fn spelled(p: Pending, g: [u8; 46]) -> Spelling {
 fn fed(bytes: &[u8], is_over: bool) -> State {
     let mut page = [0u16; CELLS];
     let mut room = [0u8; 1];
-    let on = terminal::power_on(&mut page);
+    let on = terminal::power_on(&mut page, Personality::Wy50);
     let start = on.state;
     let r = terminal::run(&mut page, start, bytes, &mut room);
     let s = r.state;
@@ -207,6 +208,7 @@ pub fn read(s: State, word: &[u8], bytes: &mut [u8]) -> Reading {
     let core = s.core;
     let screen = core.screen;
     let modes = core.modes;
+    let personality = core.personality;
     let setup = s.setup;
     Reading {
         good: good,
@@ -216,6 +218,8 @@ pub fn read(s: State, word: &[u8], bytes: &mut [u8]) -> Reading {
                 modes: modes,
                 bells: core.bells,
                 pending: p,
+                personality: personality,
+                attribute: core.attribute,
             },
             gathered: g,
             setup: setup,

@@ -12,9 +12,11 @@ use crate::trace::hex_digit;
 use crate::trace::named;
 use crate::trace::put;
 use crate::trace::text;
+use rules::Core;
 use rules::LongText;
 use rules::Modes;
 use rules::Pending;
+use rules::Personality;
 use rules::Screen;
 use rules::Setup;
 use rules::ShortText;
@@ -25,14 +27,32 @@ pub fn state(out: &mut [u8], at: usize, s: State) -> usize {
     let setup = s.setup;
     let x = core.screen;
     let m = core.modes;
-    let p = core.pending;
     let g = s.gathered;
     let n = screen(out, at, x);
     let n1 = modes(out, n, m);
     let n2 = set_up(out, n1, setup);
-    let n3 = named(out, n2, b" bells=", core.bells as usize);
-    let n4 = pending(out, n3, p, g);
-    texts(out, n4, setup)
+    let n3 = bells_and_pending(out, n2, core, g);
+    let n4 = texts(out, n3, setup);
+    personality(out, n4, core)
+}
+
+fn bells_and_pending(out: &mut [u8], at: usize, core: Core, g: [u8; 46]) -> usize {
+    let p = core.pending;
+    let n = named(out, at, b" bells=", core.bells as usize);
+    pending(out, n, p, g)
+}
+
+fn personality(out: &mut [u8], at: usize, core: Core) -> usize {
+    let m = core.personality;
+    let n = named(out, at, b" personality=", model(m));
+    named(out, n, b" remembered=", core.attribute as usize)
+}
+
+fn model(m: Personality) -> usize {
+    match m {
+        Personality::Wy50 => 50,
+        Personality::Wy60 => 60,
+    }
 }
 
 fn screen(out: &mut [u8], at: usize, s: Screen) -> usize {
