@@ -6,6 +6,7 @@ mod book;
 mod calls;
 mod counter;
 mod moves;
+mod personalities;
 mod possible;
 mod protection;
 mod rows;
@@ -37,5 +38,6 @@ pub fn script() -> Vec<u8> {
     book.sends();
     book.counter();
     book.rows();
+    book.personalities();
     book.text
 }

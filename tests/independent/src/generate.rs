@@ -1,14 +1,16 @@
 //! Random scripts that keep the terminal doing something.
 
+mod addresses;
 mod counts;
 mod excursions;
+mod personalities;
 mod phrases;
 mod rows;
 mod scenes;
 mod texts;
 
 use crate::random::Random;
-use crate::state::Sequence;
+use crate::state::{Personality, Sequence};
 use crate::terminal::{Run, Terminal};
 use crate::transcript::{set, Bench, Line};
 pub use counts::count_line;
@@ -81,8 +83,8 @@ impl Generator {
         let mut room = [0; DRY_ROOM];
         let Bench { terminal, rows } = &mut self.bench;
         match &line {
-            Line::On => {
-                let _ = terminal.power_on();
+            Line::On(personality) => {
+                let _ = terminal.power_on(personality.unwrap_or(Personality::Wy50));
             }
             Line::Step { byte, room: size } => {
                 let _ = terminal.step(*byte, &mut room[..*size]);
@@ -123,7 +125,7 @@ impl Generator {
         if self.random.once_in(3) {
             self.stream.clear();
         }
-        self.add(Line::On);
+        self.power_on_either();
     }
 
     pub fn call(&mut self) {

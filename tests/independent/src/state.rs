@@ -4,6 +4,8 @@
 mod cell;
 #[path = "state/codes.rs"]
 mod codes;
+#[path = "state/personality.rs"]
+mod personality;
 #[path = "state/sequence.rs"]
 mod sequence;
 #[path = "state/tabs.rs"]
@@ -13,6 +15,7 @@ mod text;
 
 pub use cell::Cell;
 pub use codes::{feature_number, is_attribute, key_number, label_number};
+pub use personality::{Flags, Personality};
 pub use sequence::{Gathered, Sequence};
 use std::ops::Range;
 pub use tabs::TabStops;
@@ -58,10 +61,13 @@ pub struct State {
     pub labels: [Label; LABELS],
     /// Whether the shifted line is on.
     pub shifted: bool,
+    pub personality: Personality,
+    /// What is kept with every character and graphic stored.
+    pub remembered: Flags,
 }
 
 impl State {
-    pub fn power_on() -> State {
+    pub fn power_on(personality: Personality) -> State {
         State {
             active: 0,
             cursors: [0, 0],
@@ -83,6 +89,8 @@ impl State {
             message: Text::EMPTY,
             labels: [Text::EMPTY; LABELS],
             shifted: false,
+            personality,
+            remembered: Flags::NORMAL,
         }
     }
 
@@ -96,6 +104,7 @@ impl State {
                 .all(|label| label.is_possible(is_character))
             && self.attributes.iter().all(|&code| is_attribute(code))
             && (0..5).all(|number| feature_number(self.features[number]) == Some(number))
+            && self.remembered.can_be_remembered(self.personality)
     }
 
     fn has_possible_cursors(&self) -> bool {

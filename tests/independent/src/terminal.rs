@@ -81,13 +81,13 @@ impl Terminal {
     pub fn new() -> Terminal {
         Terminal {
             page: vec![Cell::NULL; CELLS],
-            state: State::power_on(),
+            state: State::power_on(Personality::Wy50),
         }
     }
 
     /// The state is that of power-on whatever the page's length.
-    pub fn power_on(&mut self) -> Outcome {
-        self.state = State::power_on();
+    pub fn power_on(&mut self, personality: Personality) -> Outcome {
+        self.state = State::power_on(personality);
         if self.page.len() != CELLS {
             return Err(Refusal::Impossible);
         }

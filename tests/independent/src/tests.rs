@@ -1,11 +1,12 @@
 //! The bench list and the transcript's example.
 
 mod counter;
+mod personalities;
 mod rows;
 mod sends;
 mod texts;
 
-use crate::state::{Cell, ESC};
+use crate::state::{Cell, Personality, ESC};
 use crate::terminal::{answer_number, Refusal, Terminal};
 use crate::{conformance, generate, transcript};
 
@@ -207,14 +208,15 @@ fn transcript_example() {
     let lines: Vec<&str> = trace.lines().collect();
     assert!(lines[0].starts_with("1 on answer=0 active=0 cursors=0,0 split=0 modes=000100 "));
     assert!(lines[0]
-        .ends_with(" keys=- bells=0 pending=- message=- labels=- shifted=0 page=ad1806b01441cf25"));
+        .ends_with(" keys=- bells=0 pending=- message=- labels=- shifted=0 personality=50 remembered=0 page=ad1806b01441cf25"));
     assert!(lines[1].starts_with(
         "2 run answer=0 taken=3 replied=0 refused=0 rest=- reply=- beyond=1 active=0 cursors=1,0 "
     ));
     assert!(lines[1].contains(" modes=010100 "));
     assert!(lines[1].ends_with(" page=2247f1d9654793e4"));
     assert!(lines[2].starts_with("3 step answer=0 reply=- beyond=1 "));
-    assert!(lines[2].ends_with(" pending=1b message=- labels=- shifted=0 page=2247f1d9654793e4"));
+    assert!(lines[2].contains(" pending=1b message=- labels=- shifted=0 personality=50 "));
+    assert!(lines[2].ends_with(" remembered=0 page=2247f1d9654793e4"));
 }
 
 #[test]
@@ -233,6 +235,9 @@ fn bad_lines_are_named() {
         ("shifted 2\n", 1),
         ("row 47 65535\nrow 48 0\n", 2),
         ("rows 0\nrow 0 0\n", 2),
+        ("on 60\non 50\non 55\n", 3),
+        ("remembered 31\nremembered 32\n", 2),
+        ("personality 60\npersonality 0\n", 2),
         ("rebuild\nliststep 1b\n", 2),
         ("pending 1b4600\n", 1),
         ("pending 1b4641+\n", 1),

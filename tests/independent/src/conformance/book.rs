@@ -1,6 +1,6 @@
 //! The script as it grows, and its lines.
 
-use crate::state::CELLS;
+use crate::state::{Personality, CELLS};
 use crate::transcript::Line;
 
 const WIDE: usize = 2000;
@@ -16,7 +16,14 @@ impl Book {
     pub fn case(&mut self, title: &str) {
         self.comment(title);
         self.line(Line::Length(CELLS));
-        self.line(Line::On);
+        self.line(Line::On(None));
+    }
+
+    /// The same as WY-60.
+    pub fn case_60(&mut self, title: &str) {
+        self.comment(title);
+        self.line(Line::Length(CELLS));
+        self.line(Line::On(Some(Personality::Wy60)));
     }
 
     pub fn comment(&mut self, title: &str) {

@@ -16,7 +16,7 @@ impl Book {
             self.run(b"");
             self.press(0x40);
             self.press_in(0x20, 0);
-            self.line(Line::On);
+            self.line(Line::On(None));
         }
         self.case("corner 13: a run over no bytes");
         self.run_in(b"", 0);
@@ -25,7 +25,7 @@ impl Book {
         self.case("corner 15: one room for a run");
         for room in 0..=7 {
             self.run_in(b"\x1b?\x1b?A", room);
-            self.line(Line::On);
+            self.line(Line::On(None));
         }
         self.case("corner 16: refused bytes leave 0, a stop 6");
         self.run(b"\xff\x1b^\x1bx2\x1b}");

@@ -6,7 +6,7 @@ use crate::transcript::Line;
 
 impl Book {
     pub(super) fn page_and_state_corners(&mut self) {
-        self.case("corner 1: kinds 3 to 255 are graphic and stay as they are");
+        self.case("corner 1: what is not written is read, and stays as it is");
         self.cell(0, 0x0341);
         self.cell(1, 0xFF42);
         self.cell(2, 0xFFFF);

@@ -52,7 +52,7 @@ impl Book {
         self.rebuild();
         self.list_step(b'A', 10);
         self.list_run(b"", 10);
-        self.line(Line::On);
+        self.line(Line::On(None));
         self.list_run(b"B", 10);
         for protect in [true, false] {
             self.case(&format!(

@@ -36,7 +36,7 @@ impl Book {
         self.run_in(b"ere\rX", 0);
         self.case("A1: power-on empties message and labels and turns the line off");
         self.run(b"\x1bFHi\r\x1bz0ab\r\x1bzWcd\r\x1bFunder way");
-        self.line(Line::On);
+        self.line(Line::On(None));
         self.run(b"Hi\r");
     }
 

@@ -17,7 +17,7 @@ impl Generator {
             }
         }
         if self.random.once_in(3) && self.calls < most_calls {
-            self.add(Line::On);
+            self.power_on_either();
         }
         self.return_to_possible();
     }
@@ -44,7 +44,7 @@ impl Generator {
 
     pub fn impossible(&mut self) {
         let high_byte = self.random.byte_within(0x80..=0xFF);
-        let line = match self.random.below(11) {
+        let line = match self.random.below(12) {
             0 => Line::Active(self.random.pick(&[1, 2, 3, 128, 255])),
             1 => Line::Split(self.random.pick(&[1, 25, 26, 128, 255])),
             2 => Line::Cursor {
@@ -71,6 +71,7 @@ impl Generator {
                 }
             }
             7 | 8 => self.impossible_text(),
+            11 => self.impossible_memory(),
             9 => {
                 let value = self
                     .random
@@ -119,7 +120,7 @@ impl Generator {
             self.add(Line::Length(CELLS));
         }
         if !self.bench.terminal.is_possible() {
-            self.add(Line::On);
+            self.power_on_either();
         }
         if self.random.coin() {
             self.page_scene();

@@ -14,6 +14,9 @@ impl Generator {
         if self.random.coin() {
             self.place_cursors();
         }
+        if self.random.once_in(4) {
+            self.choose_personality();
+        }
         for _ in 0..self.random.within(0..=3) {
             self.set_something();
         }
@@ -39,9 +42,9 @@ impl Generator {
 
     fn noise(&mut self) {
         let seed = self.random.number() as u32;
-        let mask = self
-            .random
-            .pick(&[0x007F, 0x007F, 0x017F, 0x037F, 0xFFFF, 0x0000, 0x005F]);
+        let mask = self.random.pick(&[
+            0x007F, 0x007F, 0x017F, 0x037F, 0x7C7F, 0xFFFF, 0x0000, 0x005F,
+        ]);
         let share = self
             .random
             .pick(&[0, 1, 4, 16, 64, 128, 192, 240, 252, 255, 256]);
@@ -49,7 +52,11 @@ impl Generator {
     }
 
     fn written_cell(&mut self) -> u16 {
-        self.random.below(0x300) as u16
+        let flags = match self.random.below(4) {
+            0 => self.random.below(0x40) as u16,
+            _ => 0,
+        };
+        self.random.below(0x300) as u16 | flags << 10
     }
 
     fn labels(&mut self) {

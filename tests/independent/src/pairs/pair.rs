@@ -133,6 +133,9 @@ fn set_scene(generator: &mut Generator) {
     if generator.random.coin() {
         generator.place_cursors();
     }
+    if generator.random.coin() {
+        generator.choose_personality();
+    }
     for _ in 0..generator.random.within(0..=4) {
         generator.set_something();
     }

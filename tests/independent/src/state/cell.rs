@@ -1,6 +1,9 @@
 //! Cells.
 
-/// One cell as its 16-bit number: code, the protected mark worth 128, kind times 256.
+use super::Flags;
+
+/// One cell as its 16-bit number: code, the protected mark worth 128, kind times
+/// 256, attribute flags times 1024.
 #[derive(Clone, Copy, PartialEq, Eq, Debug)]
 pub struct Cell(pub u16);
 
@@ -21,6 +24,10 @@ impl Cell {
         Cell(0x200 | code as u16)
     }
 
+    pub fn with_flags(self, flags: Flags) -> Cell {
+        Cell(self.0 | (flags.0 as u16) << 10)
+    }
+
     pub fn with_protection(self) -> Cell {
         Cell(self.0 | Cell::PROTECTED)
     }
@@ -32,7 +39,7 @@ impl Cell {
     /// The byte this cell goes as when text is sent.
     pub fn sent(self) -> u8 {
         let code = (self.0 & 0x7F) as u8;
-        let is_text = self.0 >> 8 == 0;
+        let is_text = self.0 >> 8 & 3 == 0;
         if is_text && (b' '..=b'~').contains(&code) {
             code
         } else {

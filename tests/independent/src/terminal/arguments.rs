@@ -8,8 +8,8 @@ impl Terminal {
             (b'=', &[row]) => self.address(self.state.active as usize, row, byte),
             (b'-', &[segment, row]) => self.address_in_segment(segment, row, byte),
             (b'A', &[field]) => self.set_field_attribute(field, byte),
-            (b'G', _) => self.store(attribute_cell(byte)?),
-            (b'H', _) => self.store(graphic_cell(byte)?),
+            (b'G', _) => self.attribute(byte),
+            (b'H', _) => self.store_with_attribute(graphic_cell(byte)?),
             (b'!', _) => self.clear_open_cells(attribute_cell(byte)?),
             (b'.', _) => self.clear_open_cells(filler_cell(byte)?),
             (b'`', _) => self.set_feature(byte),
@@ -85,6 +85,17 @@ impl Terminal {
             return Err(Refusal::BadArgument);
         }
         self.move_to(self.state.active as usize, row - 1, column - 1)
+    }
+
+    /// In WY-50 an attribute takes a cell; in WY-60 it is remembered.
+    fn attribute(&mut self, code: u8) -> Outcome {
+        match (self.state.personality, Flags::of_code(code)) {
+            (Personality::Wy60, Some(flags)) => {
+                self.state.remembered = flags;
+                DONE
+            }
+            _ => self.store(attribute_cell(code)?),
+        }
     }
 
     fn set_field_attribute(&mut self, field: u8, code: u8) -> Outcome {

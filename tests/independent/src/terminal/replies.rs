@@ -30,6 +30,13 @@ impl Terminal {
         ((offset / COLUMNS) as u8, (offset % COLUMNS) as u8)
     }
 
+    pub(super) fn reply_identity(&self, room: &mut [u8]) -> Outcome {
+        match self.state.personality {
+            Personality::Wy50 => reply(room, b"50\r"),
+            Personality::Wy60 => reply(room, b"60\r"),
+        }
+    }
+
     pub(super) fn reply_address(&self, room: &mut [u8]) -> Outcome {
         let (row, column) = self.position();
         reply(room, &[0x20 + row, 0x20 + column, CR])

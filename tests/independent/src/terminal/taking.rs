@@ -25,7 +25,7 @@ impl Terminal {
 
     fn plain(&mut self, byte: u8, room: &mut [u8]) -> Outcome {
         match byte {
-            b' '..=b'~' => self.store(Cell::text(byte)),
+            b' '..=b'~' => self.store_with_attribute(Cell::text(byte)),
             ESC => self.await_next(Sequence::Escape),
             0x05 => reply(room, &[ACK]),
             0x07 => {
@@ -52,7 +52,7 @@ impl Terminal {
             b'=' | b'-' | b'A' | b'G' | b'H' | b'!' | b'.' | b'`' | b'x' | b'a' | b'z' | b'F' => {
                 self.await_next(Sequence::Arguments(Gathered::new(byte)))
             }
-            b' ' => reply(room, b"50\r"),
+            b' ' => self.reply_identity(room),
             b'?' => self.reply_address(room),
             b'/' => self.reply_segment_and_address(room),
             b'b' => self.reply_decimal_address(room),

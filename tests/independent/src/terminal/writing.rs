@@ -12,6 +12,10 @@ impl Terminal {
         Ok(())
     }
 
+    pub(super) fn store_with_attribute(&mut self, cell: Cell) -> Outcome {
+        self.store(cell.with_flags(self.state.remembered))
+    }
+
     pub(super) fn store(&mut self, cell: Cell) -> Outcome {
         self.check_cursor_open()?;
         let cursor = self.cursor();

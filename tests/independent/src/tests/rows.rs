@@ -92,8 +92,9 @@ fn calls_with_the_list_do_as_those_without() {
                     assert_eq!(listed, plain.run(&bytes, &mut rooms[1][..room]));
                     assert!(!plain.is_possible() || *list == plain.rows_with_room());
                 }
-                Line::On => {
-                    let _ = bench.terminal.power_on();
+                Line::On(personality) => {
+                    let personality = personality.unwrap_or(Personality::Wy50);
+                    let _ = bench.terminal.power_on(personality);
                     continue;
                 }
                 _ => {

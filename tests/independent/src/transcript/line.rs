@@ -3,6 +3,8 @@
 mod parse;
 mod spell;
 
+use crate::state::Personality;
+
 /// One line of a script.
 #[derive(Clone, PartialEq, Eq, Debug)]
 pub enum Line {
@@ -63,7 +65,10 @@ pub enum Line {
         index: usize,
         value: u16,
     },
-    On,
+    Personality(Personality),
+    Remembered(u8),
+    /// WY-50 if none is named.
+    On(Option<Personality>),
     Step {
         byte: u8,
         room: usize,
@@ -99,7 +104,7 @@ impl Line {
     pub fn is_output(&self) -> bool {
         matches!(
             self,
-            Line::On
+            Line::On(_)
                 | Line::Step { .. }
                 | Line::Run { .. }
                 | Line::Press { .. }

@@ -8,6 +8,7 @@ use super::state::write_state;
 use super::write::*;
 use super::WIDEST_ROOM;
 use crate::counter::{write_count, write_entry};
+use crate::state::Personality;
 use crate::terminal::{answer_number, Outcome, Run};
 
 const ROOM_FILLER: u8 = 0xEE;
@@ -38,7 +39,7 @@ impl Replay {
         self.count += 1;
         push_number(out, self.count as usize);
         match line {
-            Line::On => self.on(out),
+            Line::On(personality) => self.on(*personality, out),
             Line::Step { byte, room } => self.step(*byte, *room, out),
             Line::Run { bytes, room } => self.run(bytes, *room, out),
             Line::Press { value, room } => self.press(*value, *room, out),
@@ -62,8 +63,9 @@ impl Replay {
         true
     }
 
-    fn on(&mut self, out: &mut Vec<u8>) {
-        let outcome = self.bench.terminal.power_on();
+    fn on(&mut self, personality: Option<Personality>, out: &mut Vec<u8>) {
+        let personality = personality.unwrap_or(Personality::Wy50);
+        let outcome = self.bench.terminal.power_on(personality);
         out.extend_from_slice(b" on answer=");
         push_number(out, answer_number(outcome) as usize);
     }

@@ -2,7 +2,7 @@
 
 use super::bench::Bench;
 use super::line::Line;
-use crate::state::{key_number, Cell, Sequence, State, Text, CELLS};
+use crate::state::{key_number, Cell, Flags, Sequence, State, Text, CELLS};
 use crate::terminal::Terminal;
 
 /// What spoils a text under way.
@@ -45,6 +45,8 @@ pub fn set(bench: &mut Bench, line: &Line) -> bool {
         Line::Message(bytes) => state.message = Text::holding(bytes),
         Line::Label { label, bytes } => state.labels[*label] = Text::holding(bytes),
         Line::Shifted(on) => state.shifted = *on,
+        Line::Personality(personality) => state.personality = *personality,
+        Line::Remembered(number) => state.remembered = Flags(*number),
         Line::Rows(count) => *rows = vec![0; *count],
         Line::Row { index, value } => match rows.get_mut(*index) {
             Some(number) => *number = *value,

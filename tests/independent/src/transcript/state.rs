@@ -34,6 +34,10 @@ pub fn write_state(state: &State, out: &mut Vec<u8>) {
     write_texts(&state.labels, out);
     out.extend_from_slice(b" shifted=");
     push_flag(out, state.shifted);
+    out.extend_from_slice(b" personality=");
+    out.extend_from_slice(state.personality.digits().as_bytes());
+    out.extend_from_slice(b" remembered=");
+    push_number(out, state.remembered.0 as usize);
 }
 
 fn write_modes(state: &State, out: &mut Vec<u8>) {

@@ -1,7 +1,7 @@
 //! The lines of a script, read.
 
 use super::Line;
-use crate::state::{COLUMNS, KEYS, LABELS};
+use crate::state::{Personality, COLUMNS, KEYS, LABELS};
 use crate::transcript::words::*;
 
 const LONGEST_PAGE: usize = 4000;
@@ -65,7 +65,12 @@ impl Line {
                 index: number(words.next()?, LONGEST_LIST)?,
                 value: number(words.next()?, 0xFFFF)? as u16,
             },
-            "on" => Line::On,
+            "personality" => Line::Personality(personality(words.next()?)?),
+            "remembered" => Line::Remembered(number(words.next()?, 31)? as u8),
+            "on" => Line::On(match words.next() {
+                Some(word) => Some(personality(word)?),
+                None => None,
+            }),
             "step" => Line::Step {
                 byte: hex_byte(words.next()?)?,
                 room: room(words.next()?)?,
@@ -98,6 +103,12 @@ impl Line {
         };
         words.next().is_none().then_some(line)
     }
+}
+
+fn personality(word: &str) -> Option<Personality> {
+    [Personality::Wy50, Personality::Wy60]
+        .into_iter()
+        .find(|personality| personality.digits() == word)
 }
 
 fn pending(word: &str) -> Option<Line> {

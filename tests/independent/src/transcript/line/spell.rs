@@ -43,7 +43,12 @@ impl Line {
             Line::Shifted(on) => word(out, &format!("shifted {}", *on as u8)),
             Line::Rows(count) => word(out, &format!("rows {count}")),
             Line::Row { index, value } => word(out, &format!("row {index} {value}")),
-            Line::On => word(out, "on"),
+            Line::Personality(personality) => {
+                word(out, &format!("personality {}", personality.digits()));
+            }
+            Line::Remembered(number) => word(out, &format!("remembered {number}")),
+            Line::On(None) => word(out, "on"),
+            Line::On(Some(personality)) => word(out, &format!("on {}", personality.digits())),
             Line::Step { byte, room } => word(out, &format!("step {byte:02x} {room}")),
             Line::Run { bytes, room } => {
                 word(out, "run ");
