@@ -11,6 +11,7 @@ use native.Mathlib.Numerals.{add-one}
 use lib.Dec.{eqb}
 use lib.ListN.{length, getD, drop, drop-of-length-le}
 use lib.Seq.{drop-cons}
+use Rattle.rules.specs.declared.Personality.{Personality}
 use Rattle.rules.specs.declared.State.{State}
 use Rattle.rules.specs.Cell.{pick}
 use Rattle.rules.specs.Row.{narrowCells}
@@ -19,12 +20,12 @@ use Rattle.rules.specs.Step.{Outcome, stepRule}
 use Rattle.rules.specs.Calls.{powerOnRule}
 use Rattle.alert.specs.Watch.{Took, goesOn, Watch, watch, watchedAs, watched, watchedAll, FedBy, Fed, Came}
 
-pub on-state : (p : List ℕ) → (powerOnRule p) .state ≡ powerOn
+pub on-state : (m : Personality) (p : List ℕ) → (powerOnRule m p) .state ≡ powerOn m
 unfolding powerOnRule
-on-state p = by-test (eqb (length p) narrowCells)
+on-state m p = by-test (eqb (length p) narrowCells)
   where
-    by-test : (t : Bool) → (pick {A = Outcome} t (record { answer = 0; state = powerOn; page = blank; reply = [] })
-        (record { answer = 7; state = powerOn; page = p; reply = [] })) .state ≡ powerOn
+    by-test : (t : Bool) → (pick {A = Outcome} t (record { answer = 0; state = powerOn m; page = blank; reply = [] })
+        (record { answer = 7; state = powerOn m; page = p; reply = [] })) .state ≡ powerOn m
     by-test true = refl
     by-test false = refl
 
@@ -72,6 +73,6 @@ fed-more {n} {m} {x} {y} e a b = record {
       ∙ sym (watched-append n x (a .bytes) (b .bytes));
 }
 
-pub came : (lent : List ℕ) {first kept page drawn : List ℕ} {n : ℕ} {s t : State} → s ≡ powerOn → first ≡ (powerOnRule lent) .page
+pub came : (m : Personality) (lent : List ℕ) {first kept page drawn : List ℕ} {n : ℕ} {s t : State} → s ≡ powerOn m → first ≡ (powerOnRule m lent) .page
     → Fed n (watch first kept s) (watch page drawn t) → Came page drawn t
-came lent {kept = kept} {n = n} es ep f = record { lent = lent; kept = kept; room = n; fed = rw ep at (rw es at f) }
+came m lent {kept = kept} {n = n} es ep f = record { personality = m; lent = lent; kept = kept; room = n; fed = rw ep at (rw es at f) }

@@ -3,6 +3,7 @@ use Prim.Native.Nat.{ℕ}
 use mathlib.Core.Path.{_≡_}
 use mathlib.Core.Bool.{Bool, not}
 use mathlib.Core.List.{List, [], _∷_}
+use Rattle.rules.specs.declared.Personality.{Personality}
 use Rattle.rules.specs.declared.State.{State}
 use Rattle.rules.specs.Cell.{pick, both}
 use Rattle.rules.specs.Possible.{powerOn}
@@ -48,9 +49,10 @@ pub record Fed (n : ℕ) (x y : Watch) : Type 0 where
   pub bytes : List ℕ
   pub is : y ≡ watchedAll n x bytes
 
--- some bytes from power-on leave this page and this state, and `drawn` is the page as it was when protect mode last went on
+-- some bytes from the power-on of a personality leave this page and this state, and `drawn` is the page as it was when protect mode last went on
 pub record Came (page drawn : List ℕ) (s : State) : Type 0 where
+  pub personality : Personality
   pub lent : List ℕ
   pub kept : List ℕ
   pub room : ℕ
-  pub fed : Fed room (watch ((powerOnRule lent) .page) kept powerOn) (watch page drawn s)
+  pub fed : Fed room (watch ((powerOnRule personality lent) .page) kept (powerOn personality)) (watch page drawn s)

@@ -1,5 +1,6 @@
 // Plays a host stream to the terminal and shows what came of it: the page, what was refused, what members are sent, and the replies. The
-// stream is standard input, or the file that is named; --first and --last choose the pieces that members are sent.
+// stream is standard input, or the file that is named; --first and --last choose the pieces that members are sent. The terminal is a WY-50, or with
+// -6 a WY-60.
 mod cells;
 mod guarded;
 mod message;
@@ -16,9 +17,11 @@ ghost use Rattle.alert.specs.Watch.{Came};
 use libc::STDERR_FILENO;
 use libc::STDIN_FILENO;
 use options::Options;
+use print::attributes;
 use print::out;
 use print::picture;
 use print::report;
+use rules::Personality;
 use rules::State;
 use stream::Played;
 
@@ -63,11 +66,20 @@ fn show(name: &[u8], page: &mut [u16], drawn: &[u16], p: Played, log: &[u8], o: 
     picture::show(page, protect, report::cursor_of(screen), setup);
     report::place(page, protect, screen);
     report::modes(modes);
+    attributes::remembered(core.attribute);
+    attributes::show(page);
     report::sequence(pending);
     show_guarded(page, drawn, state);
     report::refused(refusals, p.bytes, p.clean);
     show_message(page, state, o);
     report::replies(p, log);
+}
+
+fn personality(wy60: bool) -> Personality {
+    if wy60 {
+        return Personality::Wy60;
+    }
+    Personality::Wy50
 }
 
 fn play(fd: i32, name: &[u8], o: Options) {
@@ -76,7 +88,15 @@ fn play(fd: i32, name: &[u8], o: Options) {
     let mut drawn = [0u16; 1920];
     let mut room = [0u8; 1944];
     let mut log = io::buffer();
-    let p = stream::play(fd, &mut page, &mut before, &mut drawn, &mut room, &mut log);
+    let p = stream::play(
+        fd,
+        personality(o.wy60),
+        &mut page,
+        &mut before,
+        &mut drawn,
+        &mut room,
+        &mut log,
+    );
     if p.failed {
         unreadable(name);
         return;
@@ -105,7 +125,7 @@ fn main() {
     if o.bad {
         io::write_all(
             STDERR_FILENO,
-            b"usage: alert [--first PIECE] [--last PIECE] [FILE]\n",
+            b"usage: alert [-6] [--first PIECE] [--last PIECE] [FILE]\n",
         );
         return;
     }

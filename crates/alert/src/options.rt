@@ -1,4 +1,4 @@
-// The command line: alert [--first N] [--last N] [FILE].
+// The command line: alert [-6] [--first N] [--last N] [FILE].
 use check::same;
 
 // What the next argument is: anything, or the number of an option.
@@ -13,9 +13,10 @@ const NONE: usize = 0xffff_ffff_ffff_ffff;
 
 const LIMIT: usize = 0x1000_0000_0000_0000;
 
-// The pieces wanted: from `first` on to `last`, or all. `file` is the argument that names the file, 0 where none does. `bad` is a command line
-// of another form.
+// A WY-60 or a WY-50. The pieces wanted: from `first` on to `last`, or all. `file` is the argument that names the file, 0 where none does. `bad` is
+// a command line of another form.
 pub struct Options {
+    pub wy60: bool,
     pub first: usize,
     pub last: usize,
     pub all: bool,
@@ -93,6 +94,10 @@ fn take(o: Options, i: usize, word: &[u8]) -> Options {
         return with_number(o, number(word));
     }
     let mut t = o;
+    if same(word, b"-6") {
+        t.wy60 = true;
+        return t;
+    }
     if same(word, b"--first") {
         t.awaits = FIRST;
         return t;
@@ -126,6 +131,7 @@ fn all_of(o: Options, count: usize) -> Options {
 
 pub fn read() -> Options {
     let none = Options {
+        wy60: false,
         first: 1,
         last: 0,
         all: true,

@@ -9,6 +9,7 @@ ghost use Rattle.alert.specs.Watch.{Took, goesOn, watch, watched, FedBy,
 use crate::cells::copy;
 use crate::cells::same;
 use rules::Answer;
+use rules::Personality;
 use rules::State;
 use std::num::wrapping_add_u64;
 
@@ -36,10 +37,10 @@ pub struct Played {
 }
 
 // Power-on.
-fn start(page: &mut [u16]) -> Played
-    ensures { λ r. ⌜ (r .state ≡ powerOn) × (now (page .exit) ≡ (powerOnRule (now (page .entry))) .page) ⌝ }
+fn start(page: &mut [u16], personality: Personality) -> Played
+    ensures { λ r. ⌜ (r .state ≡ powerOn personality) × (now (page .exit) ≡ (powerOnRule personality (now (page .entry))) .page) ⌝ }
 {
-    let on = terminal::power_on(page);
+    let on = terminal::power_on(page, personality);
     let state = on.state;
     let none = Refusals {
         high: 0,
@@ -278,10 +279,11 @@ fn pieces(
     p
 }
 
-// The whole stream, from power-on. `before` is for the comparison of pages, and `drawn` comes back as the page was when protect mode last
+// The whole stream, from the power-on of a personality. `before` is for the comparison of pages, and `drawn` comes back as the page was when protect mode last
 // went on; the log comes back with the first bytes of the replies.
 pub fn play(
     fd: i32,
+    personality: Personality,
     page: &mut [u16],
     before: &mut [u16],
     drawn: &mut [u16],
@@ -291,6 +293,6 @@ pub fn play(
     requires { ⌜ (length (now page) ≡ length (now before)) × (length (now page) ≡ length (now drawn)) ⌝ }
     ensures { λ r. ⌜ Came (now (page .exit)) (now (drawn .exit)) (r .state) ⌝ }
 {
-    let p = start(page);
+    let p = start(page, personality);
     pieces(fd, page, before, drawn, p, room, log)
 }

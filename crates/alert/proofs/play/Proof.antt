@@ -9,6 +9,8 @@ play-spec =
     (tie.spec
     -- buffer-requires
     (λ c κs. search needs)
+    -- personality-requires
+    (λ c κs. search needs)
     -- slice-aggregate-play
     (λ c. search needs)
     -- slice-aggregate-play-2

@@ -47,4 +47,4 @@ play-spec =
     let x = c .before .before .before .before .before .before .before .before .before .before .before .before .before .before .before .before .before .before .before .before .before .before .before .before .before .args in
     let start′ = c .before .before .before .before .before .before .before .before .before .before .before .before .before .before .before .before .before .before .start in
     let pieces′ = c .before .before .before .before .before .before .before .before .before .before .pieces in
-    came (now (x .page)) (start′ .ensures .0) (start′ .ensures .1) (pieces′ .ensures)))
+    came (x .personality) (now (x .page)) (start′ .ensures .0) (start′ .ensures .1) (pieces′ .ensures)))

@@ -18,4 +18,4 @@ start-spec =
     (λ c.
     let x = c .before .before .before .before .before .before .args in
     let power-on′ = c .before .before .before .power-on in
-    (power-on′ .ensures .state ∙ on-state (now (x .page)), power-on′ .ensures .page)))
+    (power-on′ .ensures .state ∙ on-state (x .personality) (now (x .page)), power-on′ .ensures .page)))

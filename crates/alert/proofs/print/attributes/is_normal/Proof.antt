@@ -1,0 +1,37 @@
+-- `alert::print::attributes::is_normal` is safe and ends.
+use Prim.Native.Nat.{_-_, _≤_, _<_}
+use lib.ListN.{length}
+use borrow.Author.Needs.{needs}
+use Rattle.alert.proofs.print.attributes.is_normal.Statement.{statement}
+use Rattle.alert.proofs.print.attributes.is_normal.Tie as tie
+
+abbrev Inv-loop : tie.InvT-loop
+Inv-loop cells i₀ i = i ≤ length cells
+
+abbrev μ-loop : tie.MeasureT-loop
+μ-loop cells i₀ i = length cells - i
+
+pub is-normal-spec : {M : Type 1} → statement M
+is-normal-spec =
+    tie.close
+    (tie.spec
+    Inv-loop
+    μ-loop
+    -- loop-holds
+    (λ c. search needs)
+    -- mul-if1
+    (λ c. search needs)
+    -- shared-slice-read-if1
+    (λ c. search needs)
+    -- attribute-of-requires
+    (λ c κs. search needs)
+    -- returns
+    (λ c. search needs)
+    -- add-i
+    (λ c. search needs)
+    -- loop-less
+    (λ c. search needs)
+    -- loop-again
+    (λ c. search needs)
+    -- returns-2
+    (λ c. search needs))
