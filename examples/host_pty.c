@@ -1,11 +1,12 @@
 /* Runs a program on a 24 by 80 pseudo-terminal with TERM=wy50, feeds what it writes to the terminal, writes the replies back, and prints the
  * page at the end: when the program ends, or, with -s or -q, when it has been quiet for a while after the last keys; then it is killed.
  *
- *     host_pty [-l] [-s KEYS].. [-q MILLISECONDS] PROGRAM [ARGUMENT]..
+ *     host_pty [-6] [-l] [-s KEYS].. [-q MILLISECONDS] PROGRAM [ARGUMENT]..
  *
+ *     -6               a WY-60, with TERM=wy60; what has an attribute is listed below the page
  *     -s KEYS          once the program is quiet, send it these keys; may come more than once. \r \e \b \t \\ and \xHH are read as in C
  *     -q MILLISECONDS  how long quiet is (300)
- *     -l               follow live on this ANSI display, guarded cells dim; what is typed goes to the program, Ctrl-] ends
+ *     -l               follow live on this ANSI display, attributes as they are, guarded cells dim; what is typed goes to the program, Ctrl-] ends
  */
 #define _DEFAULT_SOURCE
 #include "wy50.h"
@@ -62,27 +63,37 @@ static unsigned cursor(void)
     return state.screen.active ? state.screen.cursor1 : state.screen.cursor0;
 }
 
+/* The flags of an attribute, their names, and the numbers that an ANSI display has for them. */
+static const struct {
+    uint8_t flag;
+    const char *name;
+    int ansi;
+} looks[] = {{WY50_DIM, "dim", 2}, {WY50_UNDERSCORE, "underscore", 4}, {WY50_REVERSE, "reverse", 7}, {WY50_BLINK, "blink", 5}, {WY50_BLANK, "blank", 8}};
+enum { LOOKS = sizeof looks / sizeof *looks };
+
 /* One cell on an ANSI display. Graphics 30h to 3Fh are line drawing. */
 static void show_cell(uint16_t v, int guarded)
 {
+    int i, look = wy50_cell_attribute(v) | (guarded ? WY50_DIM : 0);
     static const char *const lines[16] = {"┬", "└", "┌", "┐", "├", "┘", "│", "█", "┼", "┤", "─", "▒", "═", "┴", "║", "░"};
-    if (guarded)
-        fputs("\033[2m", stdout);
-    if (wy50_cell_kind(v) >= WY50_GRAPHIC)
+    for (i = 0; i < LOOKS; i++)
+        if (look & looks[i].flag)
+            printf("\033[%dm", looks[i].ansi);
+    if (wy50_cell_kind(v) == WY50_GRAPHIC)
         fputs(lines[wy50_cell_code(v) % 16], stdout);
     else
         putchar(wy50_cell_sent(v));
-    if (guarded)
+    if (look)
         fputs("\033[0m", stdout);
 }
 
-/* Draws the cells that have changed. A cell's bit 10 in `shown` says that it is guarded; no written cell has it. */
+/* Draws the cells that have changed. A cell's bit 15 in `shown` says that it is guarded; no written cell has it. */
 static void show(void)
 {
     unsigned i, at = cursor();
     for (i = 0; i < WY50_CELLS; i++) {
         int guarded = state.modes.protect && wy50_cell_protected(page[i]);
-        uint16_t now = (uint16_t)(page[i] | (guarded ? 1024 : 0));
+        uint16_t now = (uint16_t)(page[i] | (guarded ? 32768 : 0));
         if (now != shown[i]) {
             printf("\033[%u;%uH", i / WY50_COLUMNS + 1, i % WY50_COLUMNS + 1);
             show_cell(page[i], guarded);
@@ -105,6 +116,27 @@ static void print_page(void)
             putchar(wy50_cell_sent(cells[column]));
         putchar('\n');
     }
+    fflush(stdout);
+}
+
+/* A line for each run of cells of a row that have the same attribute, if it is not normal. */
+static void print_attributes(void)
+{
+    unsigned row, from, to;
+    for (row = 0; row < WY50_ROWS; row++)
+        for (from = 0; from < WY50_COLUMNS; from = to) {
+            const uint16_t *cells = page + row * WY50_COLUMNS;
+            int i, look = wy50_cell_attribute(cells[from]), told = 0;
+            for (to = from + 1; to < WY50_COLUMNS && wy50_cell_attribute(cells[to]) == look; to++)
+                ;
+            if (look == 0)
+                continue;
+            printf("row %u, columns %u to %u:", row + 1, from + 1, to);
+            for (i = 0; i < LOOKS; i++)
+                if (look & looks[i].flag)
+                    printf("%s %s", told++ ? "," : "", looks[i].name);
+            putchar('\n');
+        }
     fflush(stdout);
 }
 
@@ -133,7 +165,7 @@ static size_t keys(char *s)
 
 static void usage(void)
 {
-    fputs("usage: host_pty [-l] [-s KEYS].. [-q MILLISECONDS] PROGRAM [ARGUMENT]..\n", stderr);
+    fputs("usage: host_pty [-6] [-l] [-s KEYS].. [-q MILLISECONDS] PROGRAM [ARGUMENT]..\n", stderr);
     exit(2);
 }
 
@@ -179,11 +211,13 @@ int main(int argc, char **argv)
     struct winsize size = {WY50_ROWS, WY50_COLUMNS, 0, 0};
     struct termios before;
     char *scripts[64];
-    int option, program, live = 0, count = 0, quiet = -1, raw = 0;
+    int option, program, personality = WY50_PERSONALITY_50, live = 0, count = 0, quiet = -1, raw = 0;
     pid_t child;
 
-    while ((option = getopt(argc, argv, "+ls:q:")) != -1) {
-        if (option == 'l')
+    while ((option = getopt(argc, argv, "+6ls:q:")) != -1) {
+        if (option == '6')
+            personality = WY50_PERSONALITY_60;
+        else if (option == 'l')
             live = 1;
         else if (option == 's' && count < 64)
             scripts[count++] = optarg;
@@ -197,14 +231,14 @@ int main(int argc, char **argv)
     if (count > 0 && quiet < 0)
         quiet = 300;
 
-    state = wy50_power_on(page, WY50_CELLS).state;
+    state = wy50_power_on(page, WY50_CELLS, (uint8_t)personality).state;
     child = forkpty(&program, NULL, NULL, &size);
     if (child < 0) {
         perror("host_pty: no pseudo-terminal");
         return 1;
     }
     if (child == 0) {
-        setenv("TERM", "wy50", 1);
+        setenv("TERM", personality == WY50_PERSONALITY_60 ? "wy60" : "wy50", 1);
         unsetenv("LINES");
         unsetenv("COLUMNS");
         execvp(argv[optind], argv + optind);
@@ -226,6 +260,7 @@ int main(int argc, char **argv)
     if (live)
         fputs("\033[?25h\033[2J\033[H", stdout);
     print_page();
+    print_attributes();
     fprintf(stderr, "host_pty: %zu bytes, %zu refused, cursor at row %u column %u\n", fed, refused, cursor() / WY50_COLUMNS + 1, cursor() % WY50_COLUMNS + 1);
     kill(-child, SIGKILL);
     waitpid(child, NULL, 0);

@@ -1,4 +1,4 @@
-/* wy50.h: the WY-50 alert terminal for C99 and C++. Link with libwy50.a.
+/* wy50.h: the alert terminal, a WY-50 or a WY-60, for C99 and C++. Link with libwy50.a.
  *
  * The caller lends the page (1,920 cells) and the reply room at each call and keeps the state: it goes in by value and comes back by value.
  * The library keeps nothing between calls, allocates nothing and calls nothing but memcpy, memmove and memset, so different terminals may run in
@@ -43,11 +43,26 @@ enum {
     WY50_LOCKED = 8        /* a key is pressed while the keyboard is locked; nothing changed */
 };
 
-/* The kind of a cell. Any number from 2 on is a graphic. */
+/* Whose rules the terminal follows: chosen at power-on, changed by no byte. */
+enum {
+    WY50_PERSONALITY_50 = 50, /* an attribute of ESC G takes a cell */
+    WY50_PERSONALITY_60 = 60  /* it takes none: it is remembered, and kept with each cell stored later */
+};
+
+/* The kind of a cell. */
 enum {
     WY50_TEXT = 0,
     WY50_ATTRIBUTE = 1,
     WY50_GRAPHIC = 2
+};
+
+/* The flags of a cell's attribute. None is set in a cell that a WY-50 wrote. */
+enum {
+    WY50_BLANK = 1,
+    WY50_BLINK = 2,
+    WY50_REVERSE = 4,
+    WY50_UNDERSCORE = 8,
+    WY50_DIM = 16
 };
 
 /* A function key: the first len of bytes, each below 7Fh. len is at most 8; 0 is a key that is not programmed. A key label likewise: its bytes
@@ -127,17 +142,19 @@ enum {
     WY50_SCROLLING = 4       /* '<' '=' '>' '?' smooth at 1, 2, 4, 8 rows a second, '@' jump */
 };
 
-/* The state: numbers alone, without padding, so that memcmp compares two states and a state can be saved as its 636 bytes.
+/* The state: numbers alone, without padding, so that memcmp compares two states and a state can be saved as its 638 bytes.
  *
  * A program may read it and may fill it in. Numbers that are no possible state do no harm: a call that is handed them answers 7, replies
- * nothing and gives them back as they came. A mode, a tab stop or a shifted line that is neither 0 nor 1, a sequence of no kind above, and a
- * number other than 0 that its kind does not have are such numbers too. The bytes of a key, a label or the message beyond its len are not looked
+ * nothing and gives them back as they came. A mode, a tab stop or a shifted line that is neither 0 nor 1, a personality that is neither 50 nor 60,
+ * a sequence of no kind above, and a number other than 0 that its kind does not have are such numbers too. The bytes of a key, a label or the message beyond its len are not looked
  * at, and no more are the bytes gathered beyond those that the sequence counts: they mean nothing, and a call that is not refused with 7 gives zeros there.
  */
 typedef struct wy50_state {
     wy50_screen screen;
     wy50_modes modes;
-    uint16_t bells; /* 07h counted modulo 256: below 256 */
+    uint16_t bells;      /* 07h counted modulo 256: below 256 */
+    uint8_t personality; /* 50 or 60 */
+    uint8_t remembered;  /* the attribute that ESC G sets in a WY-60, by its flags: 0 to 30; 0 in a WY-50 */
     wy50_sequence sequence;
     uint8_t gathered[WY50_MESSAGE_BYTES]; /* the bytes of a text under way; the sequence counts them */
     uint8_t tabs[WY50_COLUMNS];           /* by column: 1 a tab stop, 0 none */
@@ -173,8 +190,9 @@ typedef struct wy50_press_result {
     size_t replied; /* reply bytes */
 } wy50_press_result;
 
-/* Power-on: every cell 0, and the power-on state. A page of another length than 1,920 answers 7 and is left as it was; the state is given. */
-wy50_power_on_result wy50_power_on(uint16_t *page, size_t page_len);
+/* Power-on: every cell 0, and the power-on state of that personality. A page of another length than 1,920 answers 7 and is left as it was; the
+ * state is given. So does a number that is no personality; the state is that of a WY-50. */
+wy50_power_on_result wy50_power_on(uint16_t *page, size_t page_len, uint8_t personality);
 
 /* One byte from the host. The reply is put at the front of the room; what lies beyond it is not touched. */
 wy50_step_result wy50_step(uint16_t *page, size_t page_len, wy50_state state, uint8_t byte, uint8_t *reply, size_t reply_len);
@@ -206,11 +224,12 @@ wy50_run_result wy50_run_rows(uint16_t *page, size_t page_len, uint16_t *rows, s
  * state that is not possible; then the list is left as it was. The page is only read. */
 uint8_t wy50_rebuild_rows(const uint16_t *page, size_t page_len, uint16_t *rows, size_t rows_len, wy50_state state);
 
-/* What a cell's number says: its code, 0 to 127; whether it is protected, 0 or 1; its kind; and the byte that a send gives for it, which
- * is the code of a text cell from 20h to 7Eh and 20h for any other cell. */
+/* What a cell's number says: its code, 0 to 127; whether it is protected, 0 or 1; its kind; its attribute, by its flags, 0 to 31; and the byte that
+ * a send gives for it, which is the code of a text cell from 20h to 7Eh and 20h for any other cell. */
 uint8_t wy50_cell_code(uint16_t cell);
 uint8_t wy50_cell_protected(uint16_t cell);
 uint8_t wy50_cell_kind(uint16_t cell);
+uint8_t wy50_cell_attribute(uint16_t cell);
 uint8_t wy50_cell_sent(uint16_t cell);
 
 #ifdef __cplusplus

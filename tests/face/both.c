@@ -12,7 +12,7 @@ int main(void)
     static const char sent[] = "\x1c" "dark~ \x1c" "24 \r";
     uint16_t page[WY50_CELLS];
     uint8_t reply[WY50_LONGEST_REPLY];
-    wy50_power_on_result on = wy50_power_on(page, WY50_CELLS);
+    wy50_power_on_result on = wy50_power_on(page, WY50_CELLS, WY50_PERSONALITY_50);
     wy50_run_result r = wy50_run(page, WY50_CELLS, on.state, (const uint8_t *)host, sizeof host - 1, reply, sizeof reply);
     wy50_count all = wy50_count_reply(reply, r.replied, 1, 3), field = wy50_count_reply(reply, r.replied, 2, 2);
     int ok = r.answer == WY50_DONE && r.replied == sizeof sent - 1 && memcmp(reply, sent, sizeof sent - 1) == 0;

@@ -28,11 +28,16 @@ static void part(const char *name)
     part_failures = 0;
 }
 
-static void power_on(void)
+static void power_on_as(uint8_t personality)
 {
-    wy50_power_on_result r = wy50_power_on(page, WY50_CELLS);
+    wy50_power_on_result r = wy50_power_on(page, WY50_CELLS, personality);
     CHECK(r.answer == WY50_DONE);
     state = r.state;
+}
+
+static void power_on(void)
+{
+    power_on_as(WY50_PERSONALITY_50);
 }
 
 /* Host bytes, one at a time; the answer of the last, and the reply of the last. */
@@ -70,19 +75,21 @@ static void layout(void)
     CHECK(sizeof(wy50_screen) == 6);
     CHECK(sizeof(wy50_modes) == 6);
     CHECK(sizeof(wy50_sequence) == 6);
-    CHECK(sizeof(wy50_state) == 636);
+    CHECK(sizeof(wy50_state) == 638);
     CHECK(offsetof(wy50_state, modes) == 6);
     CHECK(offsetof(wy50_state, bells) == 12);
-    CHECK(offsetof(wy50_state, sequence) == 14);
-    CHECK(offsetof(wy50_state, gathered) == 20);
-    CHECK(offsetof(wy50_state, tabs) == 66);
-    CHECK(offsetof(wy50_state, attributes) == 146);
-    CHECK(offsetof(wy50_state, features) == 150);
-    CHECK(offsetof(wy50_state, keys) == 155);
-    CHECK(offsetof(wy50_state, labels) == 443);
-    CHECK(offsetof(wy50_state, message) == 587);
-    CHECK(offsetof(wy50_state, shifted) == 634);
-    CHECK(sizeof(wy50_power_on_result) == 638);
+    CHECK(offsetof(wy50_state, personality) == 14);
+    CHECK(offsetof(wy50_state, remembered) == 15);
+    CHECK(offsetof(wy50_state, sequence) == 16);
+    CHECK(offsetof(wy50_state, gathered) == 22);
+    CHECK(offsetof(wy50_state, tabs) == 68);
+    CHECK(offsetof(wy50_state, attributes) == 148);
+    CHECK(offsetof(wy50_state, features) == 152);
+    CHECK(offsetof(wy50_state, keys) == 157);
+    CHECK(offsetof(wy50_state, labels) == 445);
+    CHECK(offsetof(wy50_state, message) == 589);
+    CHECK(offsetof(wy50_state, shifted) == 636);
+    CHECK(sizeof(wy50_power_on_result) == 640);
     CHECK(sizeof(wy50_step_result) == 656);
     CHECK(sizeof(wy50_run_result) == 672);
     CHECK(sizeof(wy50_press_result) == 16);
@@ -325,8 +332,9 @@ static void bench(void)
 
     for (i = 0; i < 65536; i++) {
         uint16_t v = (uint16_t)i;
-        int text = v / 256 == 0 && v % 128 >= 0x20 && v % 128 <= 0x7e;
-        if (wy50_cell_code(v) != v % 128 || wy50_cell_protected(v) != v / 128 % 2 || wy50_cell_kind(v) != v / 256
+        int kind = v / 256 % 4, text = kind == 0 && v % 128 >= 0x20 && v % 128 <= 0x7e;
+        if (wy50_cell_code(v) != v % 128 || wy50_cell_protected(v) != v / 128 % 2 || wy50_cell_kind(v) != (kind == 3 ? 2 : kind)
+            || wy50_cell_attribute(v) != v / 1024 % 32
             || wy50_cell_sent(v) != (text ? v % 128 : 0x20)) {
             snprintf(number, sizeof number, "%u", (unsigned)v);
             check(0, number, __LINE__);
@@ -581,6 +589,10 @@ static void impossible(void)
     REFUSED((state.sequence.kind = WY50_MESSAGE_SPOILT, state.sequence.second = 1));
     REFUSED(state.shifted = 2);
     REFUSED(state.shifted = 256);
+    REFUSED(state.personality = 0);
+    REFUSED(state.personality = 1);
+    REFUSED(state.personality = 51);
+    REFUSED(state.personality = 255);
     part("numbers that name no state: 7, and given back as they came");
 
     REFUSED(state.screen.active = 1);
@@ -589,6 +601,9 @@ static void impossible(void)
     REFUSED(state.screen.cursor0 = 1920);
     REFUSED(state.screen.cursor1 = 0xffff);
     REFUSED((state.screen.split = 2, state.screen.cursor1 = 79));
+    REFUSED(state.remembered = 1);
+    REFUSED((state.personality = WY50_PERSONALITY_60, state.remembered = 31));
+    REFUSED((state.personality = WY50_PERSONALITY_60, state.remembered = 32));
     REFUSED(state.attributes[3] = 0x2f);
     REFUSED(state.features[0] = '2');
     REFUSED(state.keys[31].len = 9);
@@ -624,6 +639,43 @@ static void impossible(void)
     part("bytes beyond a text are not looked at, and those gathered come back as zeros");
 }
 
+/* The WY-60 beside the WY-50. */
+static void personalities(void)
+{
+    wy50_power_on_result r;
+    size_t i;
+
+    power_on();
+    CHECK(state.personality == WY50_PERSONALITY_50 && state.remembered == 0);
+    CHECK(FEED("\033G4A") == 0 && page[0] == 0x134 && page[1] == 'A' && state.screen.cursor0 == 2 && state.remembered == 0);
+    CHECK(FEED("\033 ") == 0 && REPLIES("50\r"));
+    part("a WY-50: ESC G takes a cell");
+
+    power_on_as(WY50_PERSONALITY_60);
+    CHECK(state.personality == WY50_PERSONALITY_60 && state.remembered == 0);
+    CHECK(FEED("\033G4") == 0 && page[0] == 0 && state.screen.cursor0 == 0 && state.remembered == WY50_REVERSE);
+    CHECK(FEED("A") == 0 && page[0] == 'A' + 4096 && wy50_cell_attribute(page[0]) == WY50_REVERSE && wy50_cell_sent(page[0]) == 'A');
+    CHECK(FEED("\033G~B") == 0 && wy50_cell_attribute(page[1]) == (WY50_DIM | WY50_UNDERSCORE | WY50_REVERSE | WY50_BLINK));
+    CHECK(FEED("\033G C") == 0 && page[2] == ' ' && wy50_cell_attribute(page[3]) == (WY50_DIM | WY50_UNDERSCORE | WY50_REVERSE | WY50_BLINK));
+    CHECK(FEED("\033G1\033H2") == 0 && wy50_cell_kind(page[4]) == WY50_GRAPHIC && wy50_cell_attribute(page[4]) == WY50_BLANK);
+    CHECK(FEED("\033G\177") == WY50_BAD_ARGUMENT && state.remembered == WY50_BLANK);
+    CHECK(FEED("\032") == 0 && page[0] == ' ' && state.remembered == WY50_BLANK);
+    CHECK(FEED("\033 ") == 0 && REPLIES("60\r"));
+    CHECK(FEED("\033,\033&\033G0") == 0 && state.remembered == 0 && FEED("\033G ") == WY50_BARRED);
+    part("a WY-60: ESC G takes none, and is kept with what is stored");
+
+    for (i = 0; i < 256; i++) {
+        if (i == WY50_PERSONALITY_50 || i == WY50_PERSONALITY_60)
+            continue;
+        page[7] = 7;
+        r = wy50_power_on(page, WY50_CELLS, (uint8_t)i);
+        CHECK(r.answer == WY50_BAD_CALL && r.state.personality == WY50_PERSONALITY_50 && page[7] == 7);
+    }
+    r = wy50_power_on(page, WY50_CELLS - 1, WY50_PERSONALITY_60);
+    CHECK(r.answer == WY50_BAD_CALL && r.state.personality == WY50_PERSONALITY_60 && page[7] == 7);
+    part("numbers that are no personality: 7");
+}
+
 int main(void)
 {
     layout();
@@ -631,6 +683,7 @@ int main(void)
     round_trip();
     bench();
     row_lists();
+    personalities();
     impossible();
     if (failures)
         printf("%d parts FAILED\n", failures);

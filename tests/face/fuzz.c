@@ -130,6 +130,11 @@ static wy50_state any_state(wy50_state last)
     return last;
 }
 
+static wy50_state powered_on(uint16_t *page)
+{
+    return wy50_power_on(page, WY50_CELLS, below(2) ? WY50_PERSONALITY_50 : WY50_PERSONALITY_60).state;
+}
+
 static buffer page_buffer, reply_buffer, input_buffer;
 static uint16_t page_before[MOST_PAGE], page_stepped[MOST_PAGE];
 static uint8_t room_before[MOST_ROOM], joined[MOST_ROOM];
@@ -310,6 +315,7 @@ static wy50_state turn(wy50_state last, uint16_t *kept)
         expect(r.answer <= 7, "a step answers 0 to 7");
         expect(r.answer == 0 || (r.replied == 0 && memcmp(page, page_before, cells * sizeof *page) == 0), "a refusal replies and writes nothing");
         expect(r.answer != 7 || same(&r.state, &x), "7 leaves the state, bytes that mean nothing too");
+        expect(r.state.personality == x.personality, "a step leaves the personality");
         listed_step(cells, x, b, room, r, page, reply);
         x = tidied(x);
         expect((r.answer != 1 && r.answer != 6) || same(&r.state, &x), "1 and 6 leave the state");
@@ -345,6 +351,7 @@ static wy50_state turn(wy50_state last, uint16_t *kept)
         expect(r.answer != 6 || r.taken < n, "a run that answers 6 left some");
         expect(r.answer != 6 || room - r.replied < WY50_LONGEST_REPLY, "1,944 bytes of room are enough");
         expect(r.answer != 7 || (r.taken == 0 && r.replied == 0 && r.refused == 0 && same(&r.state, &x)), "7 gives zeros and the state as it came");
+        expect(r.state.personality == x.personality, "a run leaves the personality");
         expect(memcmp(input, text, n) == 0, "the input is not written");
         untouched(&input_buffer);
         repeated(cells, x, input, n, room, &r, page, reply);
@@ -378,10 +385,10 @@ int main(int argc, char **argv)
     lent_page_buffer = make(MOST_PAGE * sizeof *kept);
     lent_reply_buffer = make(MOST_ROOM);
     rows_buffer = make(MOST_ROWS * sizeof *kept);
-    last = wy50_power_on(kept, WY50_CELLS).state;
+    last = powered_on(kept);
     do {
         if (turns % 5000 == 0)
-            last = wy50_power_on(kept, WY50_CELLS).state;
+            last = powered_on(kept);
         last = turn(last, kept);
         turns++;
         clock_gettime(CLOCK_MONOTONIC, &to);
