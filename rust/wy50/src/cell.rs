@@ -11,6 +11,36 @@ pub enum Kind {
     Graphic,
 }
 
+/// A cell's attribute: its flags. A WY-50 sets none of them.
+#[derive(Clone, Copy, Debug, PartialEq, Eq, Hash)]
+pub struct Attributes(pub u8);
+
+impl Attributes {
+    pub fn is_normal(self) -> bool {
+        self.0 == 0
+    }
+
+    pub fn dim(self) -> bool {
+        self.0 & 16 != 0
+    }
+
+    pub fn underscore(self) -> bool {
+        self.0 & 8 != 0
+    }
+
+    pub fn reverse(self) -> bool {
+        self.0 & 4 != 0
+    }
+
+    pub fn blink(self) -> bool {
+        self.0 & 2 != 0
+    }
+
+    pub fn blank(self) -> bool {
+        self.0 & 1 != 0
+    }
+}
+
 /// One cell's number.
 #[derive(Clone, Copy, Debug, PartialEq, Eq, Hash)]
 pub struct Cell(pub u16);
@@ -31,6 +61,11 @@ impl Cell {
             1 => Kind::Attribute,
             _ => Kind::Graphic,
         }
+    }
+
+    /// How it looks in a WY-60.
+    pub fn attributes(self) -> Attributes {
+        Attributes(sys::cell_attribute(self.0))
     }
 
     /// The byte that a send gives for it: the code of a text cell from 20h to 7Eh, 20h for any other cell.

@@ -1,4 +1,4 @@
-//! A WY-50 terminal. Feed it the host's bytes, send its replies back, read its page.
+//! A WY-50 terminal, or a WY-60. Feed it the host's bytes, send its replies back, read its page.
 //!
 //! ```
 //! use wy50::{Answer, Terminal, LONGEST_REPLY};
@@ -18,11 +18,13 @@
 
 mod answer;
 mod cell;
+mod personality;
 mod sys;
 
 pub use answer::Answer;
-pub use cell::{Cell, Field, Kind, Row};
+pub use cell::{Attributes, Cell, Field, Kind, Row};
 use core::fmt;
+pub use personality::Personality;
 pub use sys::{Key, Message, Modes, Screen, Sequence, State};
 
 pub const ROWS: usize = 24;
@@ -70,10 +72,15 @@ pub struct Terminal {
 }
 
 impl Terminal {
-    /// A terminal just powered on.
+    /// A WY-50 just powered on.
     pub fn new() -> Self {
+        Terminal::with_personality(Personality::Wy50)
+    }
+
+    /// A terminal of this personality just powered on.
+    pub fn with_personality(personality: Personality) -> Self {
         let mut page = [0; CELLS];
-        let state = sys::power_on(&mut page).state;
+        let state = sys::power_on(&mut page, personality.number()).state;
         Terminal { page, state, row_list: None }
     }
 
@@ -136,6 +143,16 @@ impl Terminal {
 
     pub fn state(&self) -> &State {
         &self.state
+    }
+
+    /// The personality that it was powered on with. A state that is filled in may have none.
+    pub fn personality(&self) -> Option<Personality> {
+        Personality::at(self.state.personality)
+    }
+
+    /// The attribute that ESC G set last in a WY-60: what is stored next has it.
+    pub fn remembered(&self) -> Attributes {
+        Attributes(self.state.remembered)
     }
 
     /// The row list, if it is kept: for each row the number of its open cells, then the column of the first one, from 1, or 0.

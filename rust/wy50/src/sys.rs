@@ -59,6 +59,10 @@ pub struct State {
     pub screen: Screen,
     pub modes: Modes,
     pub bells: u16,
+    /// 50 or 60, as [`Personality`](crate::Personality) has them.
+    pub personality: u8,
+    /// The attribute that ESC G sets in a WY-60, as [`Attributes`](crate::Attributes) has it.
+    pub remembered: u8,
     pub sequence: Sequence,
     /// The bytes of a text under way, zeros behind them.
     pub gathered: [u8; MESSAGE_BYTES],
@@ -104,7 +108,7 @@ mod linked {
 
     // SAFETY: these are the calls of include/wy50.h, with its types. Those marked safe take and give numbers alone.
     unsafe extern "C" {
-        pub fn wy50_power_on(page: *mut u16, page_len: usize) -> RawPowerOn;
+        pub fn wy50_power_on(page: *mut u16, page_len: usize, personality: u8) -> RawPowerOn;
         pub fn wy50_step(page: *mut u16, page_len: usize, state: State, byte: u8, reply: *mut u8, reply_len: usize) -> RawStep;
         pub fn wy50_run(
             page: *mut u16,
@@ -141,17 +145,19 @@ mod linked {
         pub safe fn wy50_cell_code(cell: u16) -> u8;
         pub safe fn wy50_cell_protected(cell: u16) -> u8;
         pub safe fn wy50_cell_kind(cell: u16) -> u8;
+        pub safe fn wy50_cell_attribute(cell: u16) -> u8;
         pub safe fn wy50_cell_sent(cell: u16) -> u8;
     }
 }
 
 pub use linked::{
-    wy50_cell_code as cell_code, wy50_cell_kind as cell_kind, wy50_cell_protected as cell_protected, wy50_cell_sent as cell_sent,
+    wy50_cell_attribute as cell_attribute, wy50_cell_code as cell_code, wy50_cell_kind as cell_kind, wy50_cell_protected as cell_protected,
+    wy50_cell_sent as cell_sent,
 };
 
-pub fn power_on(page: &mut [u16; CELLS]) -> RawPowerOn {
+pub fn power_on(page: &mut [u16; CELLS], personality: u8) -> RawPowerOn {
     // SAFETY: the pointer and the count are those of one slice that nothing else reads or writes meanwhile.
-    unsafe { linked::wy50_power_on(page.as_mut_ptr(), page.len()) }
+    unsafe { linked::wy50_power_on(page.as_mut_ptr(), page.len(), personality) }
 }
 
 pub fn step(page: &mut [u16; CELLS], state: State, byte: u8, reply: &mut [u8]) -> RawStep {

@@ -1,5 +1,5 @@
-//! The wrapper against the rules: the bench list where it is short, the tail handed back, rows, cells, fields, answers and row lists.
-use wy50::{Answer, Cell, Kind, Replied, Row, State, Terminal, CELLS, COLUMNS, LONGEST_REPLY, ROWS, ROW_NUMBERS};
+//! The wrapper against the rules: the bench list where it is short, the tail handed back, rows, cells, fields, answers, row lists, personalities.
+use wy50::{Answer, Attributes, Cell, Kind, Personality, Replied, Row, State, Terminal, CELLS, COLUMNS, LONGEST_REPLY, ROWS, ROW_NUMBERS};
 
 /// Feeds all of it; the reply of all of it.
 fn fed(terminal: &mut Terminal, bytes: &[u8]) -> Vec<u8> {
@@ -11,7 +11,7 @@ fn fed(terminal: &mut Terminal, bytes: &[u8]) -> Vec<u8> {
 
 #[test]
 fn sizes() {
-    assert_eq!(std::mem::size_of::<State>(), 636);
+    assert_eq!(std::mem::size_of::<State>(), 638);
     assert_eq!(CELLS, ROWS * COLUMNS);
 }
 
@@ -59,7 +59,10 @@ fn bench_8() {
 #[test]
 fn message_labels_and_shifted_line() {
     let mut t = Terminal::new();
-    assert_eq!((t.message(), t.label(0x30), t.label(0x57), t.label(0x40), t.shifted_line()), (&b""[..], Some(&b""[..]), Some(&b""[..]), None, false));
+    assert_eq!(
+        (t.message(), t.label(0x30), t.label(0x57), t.label(0x40), t.shifted_line()),
+        (&b""[..], Some(&b""[..]), Some(&b""[..]), None, false)
+    );
     fed(&mut t, b"\x1bFRoast 6 is late\r\x1bz7Help\r");
     assert_eq!((t.message(), t.label(0x37), t.shifted_line()), (&b"Roast 6 is late"[..], Some(&b"Help"[..]), false));
     fed(&mut t, b"\x1bzPSend\r");
@@ -129,6 +132,30 @@ fn rows_and_cells() {
     let second: Vec<_> = t.rows().nth(1).unwrap().cells().take(6).map(|c| (c.kind(), c.code(), c.is_protected())).collect();
     assert_eq!(second[3..], [(Kind::Text, b'e', false), (Kind::Attribute, b'4', false), (Kind::Graphic, b'2', false)]);
     assert_eq!(t.to_string().lines().count(), ROWS);
+}
+
+/// ESC G takes a cell in a WY-50; in a WY-60 the next letter carries it.
+#[test]
+fn personalities() {
+    let mut t = Terminal::new();
+    assert_eq!(t.personality(), Some(Personality::Wy50));
+    fed(&mut t, b"\x1bG4A");
+    assert_eq!(t.page()[..3], [0x134, 0x41, 0]);
+    assert!(t.cells().all(|c| c.attributes().is_normal()));
+    assert_eq!(fed(&mut t, b"\x1b "), b"50\r");
+
+    let mut t = Terminal::with_personality(Personality::Wy60);
+    assert_eq!(t.personality(), Some(Personality::Wy60));
+    fed(&mut t, b"\x1bG4");
+    assert_eq!((t.cursor(), t.remembered().reverse(), t.page()[0]), (0, true, 0));
+    fed(&mut t, b"A\x1bGyB\x1bG0C");
+    assert_eq!(t.page()[..4], [0x41 + 4096, 0x42 + 16384 + 8192 + 1024, 0x43, 0]);
+    let looks: Vec<_> = t.cells().take(3).map(|c| c.attributes()).collect();
+    assert_eq!(looks, [Attributes(4), Attributes(25), Attributes(0)]);
+    let second = looks[1];
+    assert!(second.dim() && second.underscore() && !second.reverse() && !second.blink() && second.blank());
+    assert_eq!(t.rows().next().unwrap().to_string().trim_end(), "ABC");
+    assert_eq!(fed(&mut t, b"\x1b "), b"60\r");
 }
 
 /// A form with open fields; a row's end parts two of them.
