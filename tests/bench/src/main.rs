@@ -12,8 +12,8 @@ mod terminal;
 mod workloads;
 
 use peers::{
-    after, feed, floor_parts, play, proved_parts, Counter, Floor, Independent, Libvterm, Listed, Page, Peer, Proved, SendFloor, Sender,
-    ShiftFloor, READ,
+    after, feed, floor_parts, play, proved_parts, Counter, Floor, Independent, Independent60, Libvterm, Listed, Page, Peer, Proved,
+    Proved60, SendFloor, Sender, ShiftFloor, READ,
 };
 use std::{
     fmt::Write,
@@ -152,14 +152,24 @@ fn lists_report() -> Result<String, String> {
     Ok(out)
 }
 
+/// The proved terminal and the independent implementation, of the workload's personality.
+fn players(workload: &Workload) -> (fn(&[u8]) -> Page, fn(&[u8]) -> Page) {
+    if workload.wy60 {
+        (play::<Proved60>, play::<Independent60>)
+    } else {
+        (play::<Proved>, play::<Independent>)
+    }
+}
+
 /// One workload on every terminal that has it, the terminals taking turns.
 fn row(workload: &Workload) -> Result<Row, String> {
     let stream = workload.stream(SIZE);
     let name = workload.name;
-    if let Some(difference) = peers::difference(&stream.wy50) {
+    if let Some(difference) = peers::difference(&stream.wy50, workload.wy60) {
         return Err(format!("{name}: {difference}"));
     }
-    let page = play::<Independent>(&stream.wy50);
+    let (ours, theirs) = players(workload);
+    let page = theirs(&stream.wy50);
     if workload.plain && play::<Floor>(&stream.wy50) != page {
         return Err(format!("{name}: the floor's page differs"));
     }
@@ -168,8 +178,8 @@ fn row(workload: &Workload) -> Result<Row, String> {
     }
     let (mut proved, mut independent, mut libvterm, mut floor) = (f64::MAX, f64::MAX, f64::MAX, f64::MAX);
     for _ in 0..ROUNDS {
-        best(&mut proved, &stream.wy50, play::<Proved>, &page)?;
-        best(&mut independent, &stream.wy50, play::<Independent>, &page)?;
+        best(&mut proved, &stream.wy50, ours, &page)?;
+        best(&mut independent, &stream.wy50, theirs, &page)?;
         if workload.translated {
             libvterm = libvterm.min(timed(&stream.ansi, play::<Libvterm>).0);
         }
@@ -185,7 +195,7 @@ fn shift_row(shifts: &Shifts) -> Result<Row, String> {
     let (drawn, stream) = (shifts.drawn(), shifts.shifts(SHIFT_COUNT));
     let name = shifts.name;
     let whole = [&drawn.wy50[..], &stream.wy50].concat();
-    if let Some(difference) = peers::difference(&whole) {
+    if let Some(difference) = peers::difference(&whole, false) {
         return Err(format!("{name}: {difference}"));
     }
     let start = play::<Independent>(&drawn.wy50);
@@ -219,7 +229,7 @@ fn best_shifts(least: &mut f64, mut peer: impl Peer, stream: &[u8]) -> Page {
 /// Sends on every terminal that has them, the terminals taking turns.
 fn send_row() -> Result<Row, String> {
     let drawn = SENDS.drawn();
-    if let Some(difference) = peers::difference(&[&drawn[..], &SENDS.asked.repeat(SEND_TURNS)].concat()) {
+    if let Some(difference) = peers::difference(&[&drawn[..], &SENDS.asked.repeat(SEND_TURNS)].concat(), false) {
         return Err(format!("{}: {difference}", SENDS.name));
     }
     let (mut ours, mut theirs) = (after::<Proved>(&drawn), after::<Independent>(&drawn));
@@ -280,7 +290,7 @@ fn timed_counts(texts: &[Vec<u8>], parts: Counter) -> f64 {
 fn list_row(workload: &Workload) -> Result<ListRow, String> {
     let stream = workload.stream(LIST_SIZE).wy50;
     let name = workload.name;
-    if let Some(difference) = peers::difference(&stream).or_else(|| peers::list_difference(&stream)) {
+    if let Some(difference) = peers::difference(&stream, false).or_else(|| peers::list_difference(&stream)) {
         return Err(format!("{name}: {difference}"));
     }
     let page = play::<Independent>(&stream);
@@ -311,9 +321,10 @@ fn best(least: &mut f64, stream: &[u8], play: fn(&[u8]) -> Page, expected: &Page
 /// The proved terminal alone, on a workload of each size.
 fn grown(workload: &Workload) -> [f64; 3] {
     let stream = workload.stream(GROWTH[2]).wy50;
+    let (ours, _) = players(workload);
     GROWTH.map(|size| {
         let turns = ROUNDS * (GROWTH[1] / size).max(1); // a short one is easily disturbed
-        (0..turns).fold(f64::MAX, |least, _| least.min(timed(&stream[..size], play::<Proved>).0))
+        (0..turns).fold(f64::MAX, |least, _| least.min(timed(&stream[..size], ours).0))
     })
 }
 

@@ -1,11 +1,11 @@
 //! The terminals that are timed, each fed as a gateway feeds it: by the read, with room for replies.
 
-use crate::terminal;
+use crate::{state, terminal};
 use std::{
     ffi::{c_char, c_int, c_void},
     ops::Range,
 };
-use wy50::{Terminal, CELLS, COLUMNS, LONGEST_REPLY, ROWS};
+use wy50::{Personality, Terminal, CELLS, COLUMNS, LONGEST_REPLY, ROWS};
 
 /// Bytes of a read, and of the reply room.
 pub const READ: usize = 4096;
@@ -66,6 +66,25 @@ impl Peer for Proved {
     }
 }
 
+/// The proved terminal as a WY-60.
+pub struct Proved60(Proved);
+
+impl Default for Proved60 {
+    fn default() -> Self {
+        Proved60(Proved { terminal: Terminal::with_personality(Personality::Wy60), ..Proved::default() })
+    }
+}
+
+impl Peer for Proved60 {
+    fn read(&mut self, bytes: &[u8]) {
+        self.0.read(bytes);
+    }
+
+    fn page(&self) -> Page {
+        self.0.page()
+    }
+}
+
 /// The proved terminal with a row list.
 pub struct Listed(Proved);
 
@@ -117,6 +136,33 @@ impl Peer for Independent {
     }
 }
 
+/// The independent implementation as a WY-60.
+pub struct Independent60(Independent);
+
+impl Default for Independent60 {
+    fn default() -> Self {
+        Independent60(Independent { terminal: independent(true), ..Independent::default() })
+    }
+}
+
+impl Peer for Independent60 {
+    fn read(&mut self, bytes: &[u8]) {
+        self.0.read(bytes);
+    }
+
+    fn page(&self) -> Page {
+        self.0.page()
+    }
+}
+
+fn independent(wy60: bool) -> terminal::Terminal {
+    let mut terminal = terminal::Terminal::new();
+    if wy60 {
+        terminal.power_on(state::Personality::Wy60).expect("its page has its length");
+    }
+    terminal
+}
+
 impl Sender for Independent {
     fn reply_to(&mut self, bytes: &[u8]) -> &[u8] {
         let run = self.terminal.run(bytes, &mut self.reply);
@@ -126,9 +172,9 @@ impl Sender for Independent {
 }
 
 /// Both side by side: every count and reply, and the page after each read. What differs first, if anything does.
-pub fn difference(stream: &[u8]) -> Option<String> {
-    let mut ours = Terminal::new();
-    let mut theirs = terminal::Terminal::new();
+pub fn difference(stream: &[u8], wy60: bool) -> Option<String> {
+    let mut ours = Terminal::with_personality(if wy60 { Personality::Wy60 } else { Personality::Wy50 });
+    let mut theirs = independent(wy60);
     let (mut our_reply, mut their_reply) = ([0; READ], [0; READ]);
     let mut at = 0;
     for mut read in stream.chunks(READ) {

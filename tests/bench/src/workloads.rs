@@ -17,18 +17,21 @@ pub struct Workload {
     pub translated: bool,
     /// It is plain text, which the floor has.
     pub plain: bool,
+    /// It is for a WY-60.
+    pub wy60: bool,
     start: fn(&mut Writer),
     round: fn(&mut Writer),
 }
 
-pub const WORKLOADS: [Workload; 4] = [
-    Workload { name: "text", what: "lines of 20 to 79 characters, which scroll", translated: true, plain: true, start: nothing, round: line },
-    Workload { name: "addressed", what: "ESC = and 4 to 40 characters", translated: true, plain: false, start: nothing, round: addressed },
+pub const WORKLOADS: [Workload; 5] = [
+    Workload { name: "text", what: "lines of 20 to 79 characters, which scroll", translated: true, plain: true, wy60: false, start: nothing, round: line },
+    Workload { name: "addressed", what: "ESC = and 4 to 40 characters", translated: true, plain: false, wy60: false, start: nothing, round: addressed },
     Workload {
         name: "form",
         what: "a protected form with 16 fields of 24 cells: each filled with 4 to 22 characters and left by 09h, all asked with ESC 5",
         translated: false,
         plain: false,
+        wy60: false,
         start: draw_form,
         round: fill_form,
     },
@@ -37,8 +40,18 @@ pub const WORKLOADS: [Workload; 4] = [
         what: "ESC =, then an edit (ESC Q W E R), a clear (ESC T Y t y ; :), a split (ESC x) or the other segment (ESC J), and 4 to 20 characters",
         translated: false,
         plain: false,
+        wy60: false,
         start: nothing,
         round: edit,
+    },
+    Workload {
+        name: "attributes",
+        what: "on a WY-60: lines of four words of 3 to 18 characters, which scroll, ESC G and an attribute before each word",
+        translated: false,
+        plain: false,
+        wy60: true,
+        start: nothing,
+        round: attributed,
     },
 ];
 
@@ -49,6 +62,7 @@ pub const LISTED: [Workload; 2] = [
         what: "1Eh on a protected page that is open only in its last cell",
         translated: false,
         plain: false,
+        wy60: false,
         start: draw_closed,
         round: home,
     },
@@ -57,6 +71,7 @@ pub const LISTED: [Workload; 2] = [
         what: "a protected form of nine tenths labels, with a field of 24 cells in every third row: all filled to their ends, one after the other",
         translated: false,
         plain: false,
+        wy60: false,
         start: draw_busy_form,
         round: fill_busy_form,
     },
@@ -223,6 +238,15 @@ fn nothing(_: &mut Writer) {}
 fn line(w: &mut Writer) {
     w.text(20, 79);
     w.both(b"\r\n");
+}
+
+fn attributed(w: &mut Writer) {
+    for _ in 0..4 {
+        let flags = w.random.from_to(0, 30) as u8;
+        w.only(&[0x1b, b'G', if flags < 16 { 0x30 + flags } else { 0x60 + flags }]);
+        w.text(3, 18);
+    }
+    w.only(b"\r\n");
 }
 
 fn addressed(w: &mut Writer) {
