@@ -4,25 +4,25 @@ use Rattle.rules.specs.Cell.{same}
 use Rattle.rules.specs.Row.{columns, rowEnd}
 use Rattle.rules.specs.Search.{marksBy, others, startsFrom, firstIn, lastIn, around, aroundBack}
 use Rattle.rules.specs.Change.{within, filled, shiftLeft, shiftRight, editShifted, rowsShifted, columnFilled}
-use Rattle.rules.specs.State.{segmentTop, segmentBottom, cursorOf, withCursor, withMode, changed, stored, gatheredAfter, setupAfter}
-use Rattle.rules.specs.Possible.{powerOn, blank, unsplitOk, splitOk, screenOk, attributesOk, featuresOk, pendingOk, rememberedOk, noStops, coreOk, setupOk, possible, good}
+use Rattle.rules.specs.State.{segmentTop, segmentBottom, cursorOf, withCursor, withMode, changed, stored, sendingAfter, gatheredAfter, setupAfter}
+use Rattle.rules.specs.Possible.{powerOn, blank, unsplitOk, splitOk, screenOk, attributesOk, featuresOk, pendingOk, rememberedOk, placeOk, sendingOk, noStops, coreOk, setupOk, possible, good}
 use Rattle.rules.specs.Arguments.{isAttribute, attributeContents, attributeOf, featurePlace, isKey, isLabel}
 use Rattle.rules.specs.Slot.{slotOk, slotEnd, slotMost, slotLow, isText, allText, textOk, textsOk}
 use Rattle.rules.specs.Decode.{lookup, idleRule, escapeRule, judged, featureRule, fieldRule, splitRule, digitRule, decimalRowRule, decimalColumnRule, slotRule, textRule, spoiltRule, argumentRule, decodeRule}
 use Rattle.rules.specs.Plan.{unlessGuarded, scrolls, nextCell, atTop, upCell, reversePlan, downPlan, tabCell, backTabCell, addressPlan, movePlan, activate, isSegment, windowPlan, storing, advancing, storePlan, takesCell, attributePlan, rowEditPlan, editPlan, clearPlan, settingPlan, sendPlan, excludedPlan, planRule}
-use Rattle.rules.specs.Send.{model, openCell, cellPlace, textPlaces, places, bytesOf, replied}
-use Rattle.rules.specs.Carry.{applied, landed, done, carried}
-use Rattle.rules.specs.Step.{obeyed, innerRule, stepRule}
-use Rattle.rules.specs.Calls.{joined, repeated, runRule, keySends, pressRule, ofStep, ofRun, ofPress, callRule, after, play}
-use Rattle.rules.specs.Bench.{replies, answers, holds, allHold, casesHold, host, label, table, BenchList}
+use Rattle.rules.specs.Send.{model, openCell, shortReply, each, cellPlace, textPlaces, followsLeftOut, textAt, places, bytesOf, beyond, standing, sentFrom, leftFrom}
+use Rattle.rules.specs.Carry.{applied, landed, done, begun, carried}
+use Rattle.rules.specs.Step.{obeyed, innerRule, goesOn, stepInside, stepRule}
+use Rattle.rules.specs.Calls.{joined, repeated, behind, runInside, runRule, keySends, pressRule, ofStep, ofRun, ofPress, callRule, after, play}
+use Rattle.rules.specs.Bench.{replies, answers, holds, allHold, casesHold, host, label, rowsOfSpaces, wholePage, table, BenchList}
 
 pub bench : BenchList
-unfolding same replies answers holds allHold casesHold host label table columns rowEnd marksBy others startsFrom firstIn lastIn around aroundBack
-    within filled shiftLeft shiftRight editShifted rowsShifted columnFilled segmentTop segmentBottom cursorOf withCursor withMode changed stored gatheredAfter setupAfter
-    powerOn blank unsplitOk splitOk screenOk isLabel slotOk slotEnd slotMost slotLow isText allText textOk textsOk isAttribute attributesOk featurePlace featuresOk isKey pendingOk rememberedOk
+unfolding same replies answers holds allHold casesHold host label rowsOfSpaces wholePage table columns rowEnd marksBy others startsFrom firstIn lastIn around aroundBack
+    within filled shiftLeft shiftRight editShifted rowsShifted columnFilled segmentTop segmentBottom cursorOf withCursor withMode changed stored sendingAfter gatheredAfter setupAfter
+    powerOn blank unsplitOk splitOk screenOk isLabel slotOk slotEnd slotMost slotLow isText allText textOk textsOk isAttribute attributesOk featurePlace featuresOk isKey pendingOk rememberedOk placeOk sendingOk
     noStops coreOk setupOk possible good lookup idleRule escapeRule judged attributeContents attributeOf featureRule fieldRule splitRule digitRule decimalRowRule
     decimalColumnRule slotRule textRule spoiltRule argumentRule decodeRule unlessGuarded scrolls nextCell atTop upCell reversePlan downPlan
     tabCell backTabCell addressPlan movePlan activate isSegment windowPlan storing advancing storePlan takesCell attributePlan rowEditPlan editPlan clearPlan
-    settingPlan sendPlan excludedPlan planRule applied model openCell cellPlace textPlaces places bytesOf replied landed done carried obeyed
-    innerRule stepRule joined repeated runRule keySends pressRule ofStep ofRun ofPress callRule after play
+    settingPlan sendPlan excludedPlan planRule applied model openCell shortReply each cellPlace textPlaces followsLeftOut textAt places bytesOf beyond standing sentFrom leftFrom landed done begun carried obeyed
+    innerRule goesOn stepInside stepRule joined repeated behind runInside runRule keySends pressRule ofStep ofRun ofPress callRule after play
 bench = refl

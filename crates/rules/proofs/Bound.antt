@@ -1,37 +1,40 @@
--- No reply exceeds a byte for each cell and one for each row, 1,944 or 3,192 by the width, and no reply of a key press 8. So with that room
--- a run takes at least one byte.
---     inner-bounded     the inner step on a good page and core: its reply fits the room and the bound, and with that room it never answers 6
+-- No reply exceeds a byte for each cell and one for each row, 1,944 or 3,192 by the width, and no reply of a key press 8.
+--     inner-bounded     the inner step on a good page and core: its reply fits the room and the bound, with any room it does not answer 6, and a
+--                       reply that does not end uses the room up
+--     goes-bounded      the same of a send that goes on, which sends a byte at least
 --     reply-bound, reply-fits, press-bound     of any page and state: a bad one replies nothing
---     step-taken, run-takes     on a good page and state, with that room: a step is taken, and a run of some bytes takes at least one
+--     step-taken, step-full     on a good page and state, outside a send
 -- Assumes nothing.
-use mathlib.Core.Path.{_≡_, refl, ap}
-use mathlib.Core.Bool.{Bool, true, false}
+use mathlib.Core.Path.{_≡_, refl, sym, ap, subst, _∙_}
+use mathlib.Core.Bool.{Bool, true, false, false≢true}
 use mathlib.Core.List.{List, [], _∷_}
 use Prim.Native.Nat.{ℕ, _+_, _*_, _≤_, _<_}
 use native.Mathlib.Omega.{arith}
 use lib.Dec.{ltb, leb, eqb}
 use lib.ListN.{length, length-take}
-use borrow.Author.Tests.{ltb-true, leb-true, leb-false, ne-eqb}
+use borrow.Author.Tests.{ltb-true, eqb-true, eqb-false, ne-eqb}
 use Rattle.rules.specs.declared.Core.{Core}
 use Rattle.rules.specs.declared.Screen.{Screen}
 use Rattle.rules.specs.declared.ShortText.{ShortText}
 use Rattle.rules.specs.declared.Setup.{Setup}
 use Rattle.rules.specs.declared.State.{State}
+use Rattle.rules.specs.declared.Sending.{Sending}
+use Rattle.rules.specs.declared.Sending.the-variants as Sending
 use Rattle.rules.specs.declared.Plan.{Plan}
 use Rattle.rules.specs.declared.Decoded.{Decoded}
 use Rattle.rules.specs.declared.Decoded.the-variants as Decoded
 use Rattle.rules.specs.Row.{columns}
-use Rattle.rules.specs.State.{number, widthOf, pageLength, keyPlace, idle}
+use Rattle.rules.specs.State.{number, widthOf, pageLength, keyPlace, idle, sends, sendingAfter}
 use Rattle.rules.specs.Arguments.{isKey}
 use Rattle.rules.specs.Slot.{allText, textOk}
 use Rattle.rules.specs.Possible.{good}
 use Rattle.rules.specs.Decode.{decodeRule}
-use Rattle.rules.specs.Carry.{replyOf, Effect, done, carried}
-use Rattle.rules.specs.Step.{obeyed, innerRule, Outcome, stepRule}
-use Rattle.rules.specs.Calls.{joined, repeated, runRule, keySends, keyAt, Pressed, pressRule}
+use Rattle.rules.specs.Carry.{Effect, done, begun, carried}
+use Rattle.rules.specs.Step.{obeyed, innerRule, Outcome, goesOn, stepInside, stepRule}
+use Rattle.rules.specs.Calls.{keySends, keyAt, Pressed, pressRule}
 use Rattle.rules.proofs.Tests.{pick-if, among-parts}
-use Rattle.rules.proofs.Rows.{columns-width}
-use Rattle.rules.proofs.Sends.{replied-bound}
+use Rattle.rules.proofs.Screens.{screen-inside}
+use Rattle.rules.proofs.Sends.{ok-good, not-sending, sent-fits, sent-bound, sent-some, sent-full}
 use Rattle.rules.proofs.Good.{PlanKept}
 use Rattle.rules.proofs.Texts.{text-parts, texts-at}
 use Rattle.rules.proofs.Decoding.{decodedOk, decoded-ok}
@@ -47,67 +50,123 @@ mostReply x = 24 * (widthOf x + 1)
 pub record Bounded (x : Screen) (room : ℕ) (e : Effect) : Type 0 where
   pub fits : length (e .reply) ≤ room
   pub bound : length (e .reply) ≤ mostReply x
-  pub taken : mostReply x ≤ room → eqb (e .answer) 6 ≡ false
+  pub taken : 0 < room → eqb (e .answer) 6 ≡ false
+  -- a reply that begins and does not end uses the room up
+  pub full : sends (sendingAfter (e .change) Sending.Nothing) ≡ true → length (e .reply) ≡ room
 
-silent : {x : Screen} {room : ℕ} {e : Effect} → length (e .reply) ≡ 0 → eqb (e .answer) 6 ≡ false → Bounded x room e
-silent z a = record { fits = omega arith; bound = omega arith; taken = λ r. a }
+silent : {x : Screen} {room : ℕ} {e : Effect} → length (e .reply) ≡ 0 → eqb (e .answer) 6 ≡ false → sends (sendingAfter (e .change) Sending.Nothing) ≡ false
+    → Bounded x room e
+silent z a s = record { fits = omega arith; bound = omega arith; taken = λ r. a; full = λ t. absurd (false≢true (sym s ∙ t)) }
 
 module _ (p : List ℕ) (c : Core) (n : length p ≡ pageLength (c .screen)) (g : List ℕ) (h : PossibleCore c g) where
+  begun-bounded : {t : Bool} (x : Plan) (room : ℕ) → PlanKept t (idle c) x → 0 < room → Bounded (c .screen) room (begun p x room)
+  unfolding begun sendingAfter
+  begun-bounded x room k r =
+      let i = screen-inside (x .next .screen) (k .good .screen) in
+      record {
+        fits = sent-fits p (x .next) (x .reply) room;
+        bound = omega (arith, sent-bound p (x .next) i (x .reply) (k .good .reply) room, ap columns (k .wide));
+        taken = λ r. k .answer;
+        full = sent-full p (x .next) (n ∙ ap (λ (b : Bool). 24 * columns b) (sym (k .wide))) i (x .reply) (k .good .reply) room r;
+      }
+
   carried-bounded : {t : Bool} (x : Plan) (room : ℕ) → PlanKept t (idle c) x → Bounded (c .screen) room (carried p c x room)
-  unfolding carried done
+  unfolding carried done sendingAfter
   carried-bounded x room k =
-      let most : length (replyOf (c .modes .protect) p x) ≤ mostReply (c .screen) =
-      omega (arith, replied-bound (columns-width (x .next .screen .wide)) (c .modes .protect) p (x .reply) (k .good .text), ap columns (k .wide)) in
-      pick-if (Bounded (c .screen) room) (leb (length (replyOf (c .modes .protect) p x)) room)
-      (λ e. record { fits = leb-true (length (replyOf (c .modes .protect) p x)) room e; bound = most; taken = λ r. k .answer })
+      pick-if (Bounded (c .screen) room) (sends (x .reply))
+      (λ d. pick-if (Bounded (c .screen) room) (eqb room 0)
       (λ e. record {
         fits = omega arith;
         bound = omega arith;
-        taken = λ r. absurd
-            (omega (arith, leb-false (length (replyOf (c .modes .protect) p x)) room e));
+        taken = λ r. absurd (omega (arith, eqb-true room 0 e));
+        full = λ t. absurd (false≢true t);
       })
+      (λ e. begun-bounded x room k (omega (arith, eqb-false room 0 e))))
+      (λ d. silent refl (k .answer) refl)
 
   obeyed-bounded : (tabs : List Bool) (d : Decoded) (room : ℕ) → decodedOk g d ≡ true → Bounded (c .screen) room (obeyed p c tabs d room)
-  unfolding obeyed decodedOk
-  obeyed-bounded tabs (Decoded.Wait q) room e = silent refl refl
-  obeyed-bounded tabs (Decoded.Gather x i b) room e = silent refl refl
-  obeyed-bounded tabs (Decoded.Take x i) room e = silent refl refl
-  obeyed-bounded tabs (Decoded.Reject a) room e = silent refl (ne-eqb (number a) 6 (omega (arith, among-parts 2 3 (number a) e)))
+  unfolding obeyed decodedOk sendingAfter
+  obeyed-bounded tabs (Decoded.Wait q) room e = silent refl refl refl
+  obeyed-bounded tabs (Decoded.Gather x i b) room e = silent refl refl refl
+  obeyed-bounded tabs (Decoded.Take x i) room e = silent refl refl refl
+  obeyed-bounded tabs (Decoded.Reject a) room e = silent refl (ne-eqb (number a) 6 (omega (arith, among-parts 2 3 (number a) e))) refl
   obeyed-bounded tabs (Decoded.Do d) room e = carried-bounded _ room (planned-kept p c n g h tabs d)
 
   pub inner-bounded : (tabs : List Bool) (b room : ℕ) → Bounded (c .screen) room (innerRule p c tabs b room)
-  unfolding innerRule
+  unfolding innerRule sendingAfter
   inner-bounded tabs b room =
       pick-if (Bounded (c .screen) room) (ltb b 128)
       (λ e. obeyed-bounded tabs (decodeRule (c .pending) b) room
       (decoded-ok (c .pending) g b (ltb-true b 128 e) (h .pending)))
-      (λ e. silent refl refl)
+      (λ e. silent refl refl refl)
 
 -- ---- the calls
 
-step-bounded : (p : List ℕ) (s : State) (b room : ℕ) → good p s ≡ true → Bounded (s .core .screen) room (innerRule p (s .core) (s .setup .tabs) b room)
-step-bounded p s b room g =
-    let r = good-parts p s g in
-    inner-bounded p (s .core) (r .0) (s .gathered) (possible-parts s (r .1) .core) (s .setup .tabs) b room
+-- what holds of the reply of a send that goes on
+pub record Resumed (p : List ℕ) (s : State) (room : ℕ) : Type 0 where
+  pub fits : length (goesOn p s room .reply) ≤ room
+  pub bound : length (goesOn p s room .reply) ≤ mostReply (s .core .screen)
+  pub some : 0 < length (goesOn p s room .reply)
+  pub full : sends (goesOn p s room .state .sending) ≡ true → length (goesOn p s room .reply) ≡ room
+
+module _ (p : List ℕ) (s : State) (g : good p s ≡ true) where
+  step-bounded : (b room : ℕ) → Bounded (s .core .screen) room (innerRule p (s .core) (s .setup .tabs) b room)
+  step-bounded b room =
+      let r = good-parts p s g in
+      inner-bounded p (s .core) (r .0) (s .gathered) (possible-parts s (r .1) .core) (s .setup .tabs) b room
+
+  pub goes-bounded : (room : ℕ) → sends (s .sending) ≡ true → 0 < room → Resumed p s room
+  unfolding goesOn
+  goes-bounded room u h =
+      let r = good-parts p s g in
+      let w = possible-parts s (r .1) in
+      let x = s .core .screen in
+      let k = ok-good x (s .core .pending) (s .sending) (w .sending) in
+      let i = screen-inside x (w .core .screen) in
+      record {
+        fits = sent-fits p (s .core) (s .sending) room;
+        bound = sent-bound p (s .core) i (s .sending) k room;
+        some = sent-some p (s .core) (s .core .pending) (s .sending) room (w .sending) u h;
+        full = sent-full p (s .core) (r .0) i (s .sending) k room h;
+      }
 
 module _ (p : List ℕ) (s : State) (b room : ℕ) where
+  -- of any page and state: a property of replies that a byte's effect has, a send that goes on, and none at all
+  by-call : (P : List ℕ → Type 0) → P [] → (good p s ≡ true → P (innerRule p (s .core) (s .setup .tabs) b room .reply))
+      → (good p s ≡ true → sends (s .sending) ≡ true → 0 < room → P (goesOn p s room .reply)) → P (stepRule p s b room .reply)
+  unfolding stepRule stepInside
+  by-call P none byte send =
+      pick-if Q (good p s)
+      (λ g. pick-if Q (sends (s .sending))
+      (λ u. pick-if Q (eqb room 0) (λ e. none) (λ e. send g u (omega (arith, eqb-false room 0 e)))) (λ u. byte g))
+      (λ g. none)
+    where
+      Q : Outcome → Type 0
+      Q o = P (o .reply)
+
   pub reply-bound : length (stepRule p s b room .reply) ≤ mostReply (s .core .screen)
-  unfolding stepRule
-  reply-bound = pick-if (λ (o : Outcome). length (o .reply) ≤ mostReply (s .core .screen)) (good p s) (λ g. step-bounded p s b room g .bound) (λ g. omega arith)
+  reply-bound =
+      by-call (λ (l : List ℕ). length l ≤ mostReply (s .core .screen)) (omega arith) (λ g. step-bounded p s g b room .bound)
+      (λ g u h. goes-bounded p s g room u h .bound)
 
   pub reply-fits : length (stepRule p s b room .reply) ≤ room
-  unfolding stepRule
-  reply-fits = pick-if (λ (o : Outcome). length (o .reply) ≤ room) (good p s) (λ g. step-bounded p s b room g .fits) (λ g. omega arith)
+  reply-fits =
+      by-call (λ (l : List ℕ). length l ≤ room) (omega arith) (λ g. step-bounded p s g b room .fits) (λ g u h. goes-bounded p s g room u h .fits)
 
-  pub step-taken : good p s ≡ true → mostReply (s .core .screen) ≤ room → eqb (stepRule p s b room .answer) 6 ≡ false
+  -- outside a send
+  pub step-taken : good p s ≡ true → sends (s .sending) ≡ false → 0 < room → eqb (stepRule p s b room .answer) 6 ≡ false
   unfolding stepRule
-  step-taken g h = rw g (step-bounded p s b room g .taken h)
+  step-taken g u h = rw (g, u) (step-bounded p s g b room .taken h)
 
-pub run-takes : (p : List ℕ) (s : State) (bytes : List ℕ) (room : ℕ) → good p s ≡ true → mostReply (s .core .screen) ≤ room → 0 < length bytes
-    → 0 < runRule p s bytes room .taken
-unfolding runRule repeated joined
-run-takes p s [] room g h n = absurd (omega arith)
-run-takes p s (b ∷ bytes) room g h n = rw (g, step-taken p s b room g h) (omega arith)
+  -- where a byte leaves a send under way, it has used the room up
+  pub step-full : good p s ≡ true → sends (s .sending) ≡ false → sends (stepRule p s b room .state .sending) ≡ true
+      → length (stepRule p s b room .reply) ≡ room
+  unfolding stepRule
+  step-full g u h = rw (g, u) (step-bounded p s g b room .full (begins (not-sending (s .sending) u) (rw (g, u) at h)))
+    where
+      begins : s .sending ≡ Sending.Nothing → sends (sendingAfter (innerRule p (s .core) (s .setup .tabs) b room .change) (s .sending)) ≡ true
+          → sends (sendingAfter (innerRule p (s .core) (s .setup .tabs) b room .change) Sending.Nothing) ≡ true
+      begins e t = subst (λ (y : Sending). sends (sendingAfter (innerRule p (s .core) (s .setup .tabs) b room .change) y) ≡ true) e t
 
 key-bound : (k : ShortText) (v : ℕ) → textOk 0 8 (k .len) (k .bytes) ≡ true → length (keySends k v) ≤ 8
 unfolding keySends
@@ -120,7 +179,8 @@ press-bound p s v room =
     pick-if P (good p s)
     (λ g. pick-if P (s .core .modes .locked) (λ e. omega arith)
     (λ e. pick-if P (isKey v)
-    (λ k. pick-if P (leb (length (keySends (keyAt s v) v)) room) (λ f. key-bound (keyAt s v) v (key-at-ok g)) (λ f. omega arith))
+    (λ k. pick-if P (sends (s .sending)) (λ u. omega arith)
+    (λ u. pick-if P (leb (length (keySends (keyAt s v) v)) room) (λ f. key-bound (keyAt s v) v (key-at-ok g)) (λ f. omega arith)))
     (λ k. omega arith)))
     (λ g. omega arith)
   where

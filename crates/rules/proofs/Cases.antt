@@ -4,20 +4,20 @@ use Rattle.rules.specs.Cell.{same}
 use Rattle.rules.specs.Row.{columns, rowEnd}
 use Rattle.rules.specs.Search.{marksBy, others, startsFrom, firstIn, lastIn, around, aroundBack}
 use Rattle.rules.specs.Change.{within, filled, shiftLeft, shiftRight, editShifted, rowsShifted, columnFilled}
-use Rattle.rules.specs.State.{segmentTop, segmentBottom, cursorOf, withCursor, withMode, changed, stored, gatheredAfter, setupAfter}
-use Rattle.rules.specs.Possible.{powerOn, blank, unsplitOk, splitOk, screenOk, attributesOk, featuresOk, pendingOk, rememberedOk, noStops, coreOk, setupOk, possible, good}
+use Rattle.rules.specs.State.{segmentTop, segmentBottom, cursorOf, withCursor, withMode, changed, stored, sendingAfter, gatheredAfter, setupAfter}
+use Rattle.rules.specs.Possible.{powerOn, blank, unsplitOk, splitOk, screenOk, attributesOk, featuresOk, pendingOk, rememberedOk, placeOk, sendingOk, noStops, coreOk, setupOk, possible, good}
 use Rattle.rules.specs.Arguments.{isAttribute, attributeContents, attributeOf, featurePlace, isKey, isLabel}
 use Rattle.rules.specs.Slot.{slotOk, slotEnd, slotMost, slotLow, isText, allText, textOk, textsOk}
 use Rattle.rules.specs.Decode.{lookup, idleRule, escapeRule, judged, featureRule, fieldRule, splitRule, digitRule, decimalRowRule, decimalColumnRule, slotRule, textRule, spoiltRule, argumentRule, decodeRule}
 use Rattle.rules.specs.Plan.{unlessGuarded, scrolls, nextCell, atTop, upCell, reversePlan, downPlan, tabCell, backTabCell, addressPlan, movePlan, activate, isSegment, windowPlan, storing, advancing, storePlan, takesCell, attributePlan, rowEditPlan, editPlan, clearPlan, settingPlan, sendPlan, excludedPlan, planRule}
-use Rattle.rules.specs.Send.{model, openCell, cellPlace, textPlaces, places, bytesOf, replied}
-use Rattle.rules.specs.Carry.{applied, landed, done, carried}
-use Rattle.rules.specs.Step.{obeyed, innerRule, stepRule}
-use Rattle.rules.specs.Calls.{powerOnRule, joined, repeated, runRule, keySends, pressRule, ofStep, ofRun, ofPress, callRule, after, play}
+use Rattle.rules.specs.Send.{model, openCell, shortReply, each, cellPlace, textPlaces, followsLeftOut, textAt, places, bytesOf, beyond, standing, sentFrom, leftFrom}
+use Rattle.rules.specs.Carry.{applied, landed, done, begun, carried}
+use Rattle.rules.specs.Step.{obeyed, innerRule, goesOn, stepInside, stepRule}
+use Rattle.rules.specs.Calls.{powerOnRule, joined, repeated, behind, runInside, runRule, keySends, pressRule, ofStep, ofRun, ofPress, callRule, after, play}
 use Rattle.rules.specs.Room.{over}
-use Rattle.rules.specs.Noninterference.{completes, runCompletes, callCompletes, anyCompleted}
+use Rattle.rules.specs.Noninterference.{completes, runCompletes, insideCompletes, callCompletes, anyCompleted}
 use Rattle.rules.specs.Completed.{completesFrom, stepCompletes}
-use Rattle.rules.specs.Bench.{replies, answers, countsOf, restsOf, segmentsOf, modesOf, stopsFrom, holds, allHold, casesHold, host}
+use Rattle.rules.specs.Bench.{replies, answers, countsOf, restsOf, segmentsOf, modesOf, stopsFrom, sendNumbers, holds, allHold, casesHold, host}
 use Rattle.rules.specs.Inputs.{esc, goTo, labelled, halves, lower, threeLetters, lettersBelow, pageOf, cursorAt, protectAt, upperAt, lowerAt, belled, fullKeys, typed, obeys, refuses, obeysFrom, refusesFrom}
 use Rattle.rules.specs.MovingCases.{movingCases}
 use Rattle.rules.specs.WritingCases.{writingCases}
@@ -25,6 +25,7 @@ use Rattle.rules.specs.ReplyCases.{replyCases}
 use Rattle.rules.specs.CallCases.{callCases}
 use Rattle.rules.specs.LabelCases.{message, labelling, labelCases}
 use Rattle.rules.specs.SendCases.{twoFields, twoLabelRows, labelOverRowEnd, sendCases}
+use Rattle.rules.specs.NarrowCases.{form, twoRows, narrowCases}
 use Rattle.rules.specs.RowList.{firstColumn, rowNumbers}
 use Rattle.rules.specs.RowCalls.{stepRowsRule, runRowsRule, rowsAfter, canRebuild, rowCallRule, rowAfter, rowPlay}
 use Rattle.rules.specs.RowCases.{rowsWith, openRows, rowHolds, rowCasesHold, fromPowerOn, rowCases}
@@ -34,18 +35,17 @@ use Rattle.rules.specs.PossibleCases.{placed, keyed, labelledAt, message
 use Rattle.rules.specs.Cases.{CaseList}
 
 pub cases : CaseList
-unfolding completes runCompletes callCompletes anyCompleted completesFrom stepCompletes same replies answers holds allHold casesHold host
+unfolding completes runCompletes insideCompletes callCompletes anyCompleted completesFrom stepCompletes same replies answers holds allHold casesHold host
     esc goTo labelled halves lower threeLetters lettersBelow pageOf cursorAt protectAt upperAt lowerAt belled fullKeys typed obeys refuses
-    obeysFrom refusesFrom countsOf restsOf segmentsOf modesOf stopsFrom movingCases writingCases replyCases callCases twoFields twoLabelRows labelOverRowEnd sendCases as60 obeys60 refuses60 attr graphic flaggedCells personalityCases span lastAnswer
+    obeysFrom refusesFrom countsOf restsOf segmentsOf modesOf stopsFrom sendNumbers movingCases writingCases replyCases callCases twoFields twoLabelRows labelOverRowEnd sendCases form twoRows narrowCases as60 obeys60 refuses60 attr graphic flaggedCells personalityCases span lastAnswer
     triedHold bytesHold low high digitBytes attributeBytes escapeBytes firstBytes argumentBytes addressBytes decimalBytes placed keyed
     labelledAt messaged shiftedOn remembering gathering message labelling labelCases attributed featured stopped possibleStates impossibleStates allPossible nonePossible over powerOnRule columns rowEnd marksBy others
     startsFrom firstIn lastIn around aroundBack within filled shiftLeft shiftRight editShifted rowsShifted columnFilled segmentTop
-    segmentBottom cursorOf withCursor withMode changed stored gatheredAfter setupAfter powerOn blank unsplitOk splitOk screenOk isLabel slotOk slotEnd slotMost slotLow isText allText textOk textsOk isAttribute
-    attributesOk featurePlace featuresOk isKey pendingOk rememberedOk noStops coreOk setupOk possible good lookup idleRule escapeRule judged attributeContents attributeOf
+    segmentBottom cursorOf withCursor withMode changed stored sendingAfter gatheredAfter setupAfter powerOn blank unsplitOk splitOk screenOk isLabel slotOk slotEnd slotMost slotLow isText allText textOk textsOk isAttribute
+    attributesOk featurePlace featuresOk isKey pendingOk rememberedOk placeOk sendingOk noStops coreOk setupOk possible good lookup idleRule escapeRule judged attributeContents attributeOf
     featureRule fieldRule splitRule digitRule decimalRowRule decimalColumnRule slotRule textRule spoiltRule argumentRule decodeRule unlessGuarded
     scrolls nextCell atTop upCell reversePlan downPlan tabCell backTabCell addressPlan movePlan activate isSegment windowPlan storing
-    advancing storePlan takesCell attributePlan rowEditPlan editPlan clearPlan settingPlan sendPlan excludedPlan planRule applied model openCell cellPlace textPlaces places bytesOf
-    replied landed done carried obeyed innerRule stepRule joined repeated runRule keySends pressRule ofStep ofRun
+    advancing storePlan takesCell attributePlan rowEditPlan editPlan clearPlan settingPlan sendPlan excludedPlan planRule applied model openCell shortReply each cellPlace textPlaces followsLeftOut textAt places bytesOf beyond standing sentFrom leftFrom landed done begun carried obeyed innerRule goesOn stepInside stepRule joined repeated behind runInside runRule keySends pressRule ofStep ofRun
     ofPress callRule after play firstColumn rowNumbers stepRowsRule runRowsRule rowsAfter canRebuild rowCallRule rowAfter rowPlay rowsWith openRows
     rowHolds rowCasesHold fromPowerOn rowCases
 cases = record {
@@ -55,6 +55,7 @@ cases = record {
   calling = refl;
   labels = refl;
   sending = refl;
+  narrow = refl;
   rows = refl;
   wide-rows = refl;
   personalities = refl;
@@ -70,5 +71,5 @@ cases = record {
   power-on-60 = refl;
   short-page-60 = refl;
   room = refl;
-  completed = record { in-run = refl; in-steps = refl; behind = refl; as-text = refl; no-room = refl; as-argument = refl; others = refl };
+  completed = record { in-run = refl; in-steps = refl; behind = refl; as-text = refl; begun = refl; behind-a-send = refl; in-a-send = refl; no-room = refl; as-argument = refl; others = refl };
 }

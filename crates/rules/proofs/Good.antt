@@ -39,7 +39,7 @@ use Rattle.rules.specs.declared.Command.the-variants as Command
 use Rattle.rules.specs.declared.Write.{Write}
 use Rattle.rules.specs.declared.SetupChange.{SetupChange}
 use Rattle.rules.specs.declared.SetupChange.the-variants as SetupChange
-use Rattle.rules.specs.declared.Reply.{Reply}
+use Rattle.rules.specs.declared.Sending.{Sending}
 use Rattle.rules.specs.declared.Land.{Land}
 use Rattle.rules.specs.Cell.{pick, both, either, among, null, space, protectedSpace}
 use Rattle.rules.specs.Row.{columnOf, rowStart}
@@ -47,7 +47,7 @@ use Rattle.rules.specs.State.{number, widthOf, pageLength, segmentTop, s
 use Rattle.rules.specs.Possible.{screenOk, rememberedOk}
 use Rattle.rules.specs.Arguments.{isAttribute, attributeOf, featurePlace}
 use Rattle.rules.specs.Plan.{refusing, plain, writingTwo, settling, replying, changing, unlessGuarded, scrolls, atTop, reversePlan, downPlan, tabCell, backTabCell, addressPlan, movePlan, unsplitScreen, splitScreen, activate, isSegment, windowPlan, storing, advancing, storePlan, takesCell, attributePlan, rowEditPlan, editPlan, clearPlan, settingPlan, sendPlan, clearAll, excludedPlan, planRule}
-use Rattle.rules.specs.Good.{GoodWrite, GoodReply, GoodLand, GoodPlan}
+use Rattle.rules.specs.Good.{GoodWrite, GoodSend, GoodLand, GoodPlan}
 use Rattle.rules.proofs.Tests.{pick-if, both-parts, both-true, among-parts}
 use Rattle.rules.proofs.Rows.{columns-width, column-below, rows-le, cell-inside}
 use Rattle.rules.proofs.Places.{In, segment-there, in-next, in-up, in-next-tab, in-previous-tab, in-back, in-next-field, in-previous-field}
@@ -123,7 +123,7 @@ module _ {t : Bool} {c n : Core} (h : Next t c n) where
   unfolding changeOk
   kept-refusing a e =
       record {
-        good = record { one = tt; two = tt; text = tt; screen = h .screen; place = tt };
+        good = record { one = tt; two = tt; reply = tt; screen = h .screen; place = tt };
         wide = h .wide;
         pending = h .pending;
         bells = h .bells;
@@ -137,7 +137,7 @@ module _ {t : Bool} {c n : Core} (h : Next t c n) where
   unfolding changeOk
   kept-writing a b d =
       record {
-        good = record { one = a; two = b; text = tt; screen = h .screen; place = d };
+        good = record { one = a; two = b; reply = tt; screen = h .screen; place = d };
         wide = h .wide;
         pending = h .pending;
         bells = h .bells;
@@ -147,11 +147,11 @@ module _ {t : Bool} {c n : Core} (h : Next t c n) where
         answer = refl;
       }
 
-  kept-replying : {r : Reply} → GoodReply (widthOf (n .screen)) r → PlanKept t c (replying n r)
+  kept-replying : {r : Sending} → GoodSend (n .screen) r → PlanKept t c (replying n r)
   unfolding changeOk
   kept-replying a =
       record {
-        good = record { one = tt; two = tt; text = a; screen = h .screen; place = tt };
+        good = record { one = tt; two = tt; reply = a; screen = h .screen; place = tt };
         wide = h .wide;
         pending = h .pending;
         bells = h .bells;
@@ -164,7 +164,7 @@ module _ {t : Bool} {c n : Core} (h : Next t c n) where
   kept-changing : {x : SetupChange} → (t ≡ true → changeOk (widthOf (c .screen)) x ≡ true) → PlanKept t c (changing n x)
   kept-changing f =
       record {
-        good = record { one = tt; two = tt; text = tt; screen = h .screen; place = tt };
+        good = record { one = tt; two = tt; reply = tt; screen = h .screen; place = tt };
         wide = h .wide;
         pending = h .pending;
         bells = h .bells;
@@ -345,11 +345,11 @@ module _ (c : Core) (ok : screenOk (c .screen) ≡ true) (i : Inside (c .screen)
 
     kept-send : (g : List Bool) (x : Send) → PlanKept t c (sendPlan g c x)
     unfolding sendPlan
-    kept-send g Send.Acknowledge = kept-replying here tt
-    kept-send g Send.Identity = kept-replying here tt
-    kept-send g Send.Cursor = kept-replying here tt
-    kept-send g Send.SegmentCursor = kept-replying here tt
-    kept-send g Send.DecimalCursor = kept-replying here tt
+    kept-send g Send.Acknowledge = kept-replying here (omega arith)
+    kept-send g Send.Identity = kept-replying here (omega arith)
+    kept-send g Send.Cursor = kept-replying here (omega arith)
+    kept-send g Send.SegmentCursor = kept-replying here (omega arith)
+    kept-send g Send.DecimalCursor = kept-replying here (omega arith)
     kept-send g Send.Cell = kept-unless g (kept-replying here (omega arith))
     kept-send g Send.OpenRow = kept-replying here (omega arith)
     kept-send g Send.OpenSegment = kept-replying here (omega arith)

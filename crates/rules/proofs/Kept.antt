@@ -11,10 +11,10 @@ use mathlib.Core.Bool.{Bool, true, false, not}
 use mathlib.Core.List.{List, [], _∷_}
 use Prim.Native.Nat.{ℕ, zero, suc, _+_, _-_, _*_, _<_}
 use native.Mathlib.Omega.{arith}
-use lib.Dec.{ltb, leb, eqb}
+use lib.Dec.{ltb, eqb}
 use lib.ListN.{length, take, set, replicate}
 use lib.Seq.{drop-set-lt}
-use borrow.Author.Tests.{ltb-true, lt-ltb, eqb-true, eq-eqb}
+use borrow.Author.Tests.{ltb-true, lt-ltb, eqb-true, eqb-false, eq-eqb}
 use Rattle.rules.specs.declared.Core.{Core}
 use Rattle.rules.specs.declared.Slot.{Slot}
 use Rattle.rules.specs.declared.Slot.the-variants as Slot
@@ -23,6 +23,8 @@ use Rattle.rules.specs.declared.Change.{Change}
 use Rattle.rules.specs.declared.Change.the-variants as Change
 use Rattle.rules.specs.declared.Setup.{Setup}
 use Rattle.rules.specs.declared.State.{State}
+use Rattle.rules.specs.declared.Sending.{Sending}
+use Rattle.rules.specs.declared.Sending.the-variants as Sending
 use Rattle.rules.specs.declared.Personality.{Personality}
 use Rattle.rules.specs.declared.Personality.the-variants as Personality
 use Rattle.rules.specs.declared.Plan.{Plan}
@@ -35,22 +37,24 @@ use Rattle.rules.specs.declared.Land.{Land}
 use Rattle.rules.specs.declared.Land.the-variants as Land
 use Rattle.rules.specs.Row.{columns}
 use Rattle.rules.specs.Search.{guardedAt}
-use Rattle.rules.specs.State.{widthOf, pageLength, withCursor, keyPlace, labelPlace, shortText, idle, changed, stored, gatheredAfter, setupAfter}
-use Rattle.rules.specs.Possible.{powerOn, blank, unsplitOk, screenOk, attributesOk, featuresOk, pendingOk, rememberedOk, noStops, tabsOk, narrow, coreOk, setupOk, possible, good}
+use Rattle.rules.specs.State.{widthOf, pageLength, withCursor, keyPlace, labelPlace, shortText, idle, isIdle, sends, changed, stored, sendingAfter, gatheredAfter, setupAfter}
+use Rattle.rules.specs.Possible.{powerOn, blank, unsplitOk, screenOk, attributesOk, featuresOk, pendingOk, rememberedOk, sendingOk, noStops, tabsOk, narrow, coreOk, setupOk, possible, good}
 use Rattle.rules.specs.Arguments.{isAttribute, featurePlace}
 use Rattle.rules.specs.Slot.{slotOk, slotLow, slotMost, allText, textOk, textsOk}
 use Rattle.rules.specs.Decode.{decodeRule}
 use Rattle.rules.specs.Plan.{planRule}
 use Rattle.rules.specs.Good.{GoodLand}
-use Rattle.rules.specs.Carry.{replyOf, landed, Effect, pageAfter, done, carried}
-use Rattle.rules.specs.Step.{obeyed, innerRule, Outcome, stepRule}
-use Rattle.rules.specs.Calls.{powerOnRule, Ran, joined, repeated, runRule, Call, Step, Run, Press, ofStep, ofRun, ofPress, callRule, after, play}
+use Rattle.rules.specs.Send.{leftFrom}
+use Rattle.rules.specs.Carry.{landed, Effect, pageAfter, done, begun, carried}
+use Rattle.rules.specs.Step.{obeyed, innerRule, Outcome, outcomeOf, goesOn, stepInside, stepRule}
+use Rattle.rules.specs.Calls.{powerOnRule, Ran, joined, repeated, behind, runInside, runRule, Call, Step, Run, Press, ofStep, ofRun, ofPress, callRule, after, play}
 use Rattle.rules.proofs.Tests.{pick-if, both-parts, both-true}
 use Rattle.rules.proofs.Marks.{length-guards}
 use Rattle.rules.proofs.Places.{in-settled}
 use Rattle.rules.proofs.Screens.{screen-inside, cursor-kept}
 use Rattle.rules.proofs.Good.{changeOk, commandOk, PlanKept, plan-kept}
 use Rattle.rules.proofs.Lengths.{length-after}
+use Rattle.rules.proofs.Sends.{ok-good, sending-idle, idle-ok, not-sending, left-ok}
 use Rattle.rules.proofs.Texts.{text-taken, texts-set}
 use Rattle.rules.proofs.Decoding.{decodedOk, decoded-ok}
 
@@ -75,6 +79,7 @@ pub record PossibleSetup (w : ℕ) (u : Setup) : Type 0 where
 pub record PossibleState (s : State) : Type 0 where
   pub narrow : s .core .screen .wide ≡ false
   pub core : PossibleCore (s .core) (s .gathered)
+  pub sending : sendingOk (s .core .screen) (s .core .pending) (s .sending) ≡ true
   pub setup : PossibleSetup (widthOf (s .core .screen)) (s .setup)
 
 not-wide : (b : Bool) → not b ≡ true → b ≡ false
@@ -100,6 +105,7 @@ pub possible-parts : (s : State) → possible s ≡ true → PossibleState s
 unfolding possible coreOk
 possible-parts s h =
     let r = both-parts (coreOk (s .core) (s .gathered)) _ h in
+    let r0 = both-parts (sendingOk (s .core .screen) (s .core .pending) (s .sending)) _ (r .1) in
     let r1 = both-parts (narrow (s .core .screen)) _ (r .0) in
     let r2 = both-parts (screenOk (s .core .screen)) _ (r1 .1) in
     let r3 = both-parts (ltb (s .core .bells) 256) _ (r2 .1) in
@@ -107,14 +113,17 @@ possible-parts s h =
     record {
       narrow = not-wide (s .core .screen .wide) (r1 .0);
       core = record { screen = r2 .0; bells = ltb-true (s .core .bells) 256 (r3 .0); remembered = r4 .0; pending = r4 .1 };
-      setup = setup-parts (widthOf (s .core .screen)) (s .setup) (r .1);
+      sending = r0 .0;
+      setup = setup-parts (widthOf (s .core .screen)) (s .setup) (r0 .1);
     }
 
-pub possible-whole : (s : State) → s .core .screen .wide ≡ false → PossibleCore (s .core) (s .gathered) → PossibleSetup (widthOf (s .core .screen)) (s .setup) → possible s ≡ true
+pub possible-whole : (s : State) → PossibleState s → possible s ≡ true
 unfolding possible coreOk
-possible-whole s n c u =
-    both-true (both-true (ap not n) (both-true (c .screen) (both-true (lt-ltb (s .core .bells) 256 (c .bells)) (both-true (c .remembered) (c .pending)))))
-    (setup-whole (widthOf (s .core .screen)) (s .setup) u)
+possible-whole s h =
+    let c = h .core in
+    both-true
+    (both-true (ap not (h .narrow)) (both-true (c .screen) (both-true (lt-ltb (s .core .bells) 256 (c .bells)) (both-true (c .remembered) (c .pending)))))
+    (both-true (h .sending) (setup-whole (widthOf (s .core .screen)) (s .setup) (h .setup)))
 
 -- ---- the set-up after a change that fits it
 
@@ -210,6 +219,7 @@ unfoldable pub effectOk : ℕ → List ℕ → Change → Bool
 effectOk w g (Change.Gather n b) = true
 effectOk w g (Change.Take x n) = pendingOk (Pending.Text x n) g
 effectOk w g (Change.Set x) = changeOk w x
+effectOk w g (Change.Send x) = true
 
 pub setup-kept : (wide : Bool) (x : Change) (g : List ℕ) (u : Setup) → effectOk (columns wide) g x ≡ true → PossibleSetup (columns wide) u
     → PossibleSetup (columns wide) (setupAfter x g u)
@@ -217,6 +227,7 @@ unfolding setupAfter effectOk
 setup-kept w (Change.Gather n b) g u e h = h
 setup-kept w (Change.Take x n) g u e h = stored-kept (columns w) x n g u e h
 setup-kept w (Change.Set x) g u e h = changed-kept w x u e h
+setup-kept w (Change.Send x) g u e h = h
 
 -- ---- the inner step
 
@@ -245,6 +256,8 @@ pub record EffectKept (c : Core) (g : List ℕ) (e : Effect) : Type 0 where
   pub personality : e .core .personality ≡ c .personality
   pub core : PossibleCore (e .core) (gatheredAfter (e .change) g)
   pub change : effectOk (widthOf (c .screen)) g (e .change) ≡ true
+  -- with no send under way before it
+  pub sending : sendingOk (e .core .screen) (e .core .pending) (sendingAfter (e .change) Sending.Nothing) ≡ true
 
 idle-kept : (c : Core) (g : List ℕ) → PossibleCore c g → PossibleCore (idle c) g
 unfolding pendingOk
@@ -259,11 +272,28 @@ module _ (p : List ℕ) (c : Core) (n : length p ≡ pageLength (c .screen)) (g 
   unfolding pendingOk
   next-kept {t} {x} k e = record { screen = k .good .screen; bells = k .bells (h .bells); remembered = k .remembered e (h .remembered); pending = rw (k .pending) }
 
+  -- a reply that is due begins, on the page of the next core
+  begun-left : {t : Bool} (x : Plan) (room : ℕ) → PlanKept t (idle c) x → 0 < room
+      → sendingOk (x .next .screen) (x .next .pending) (leftFrom p (x .next) (x .reply) room) ≡ true
+  begun-left x room k h =
+      idle-ok (x .next .screen) (x .next .pending) (leftFrom p (x .next) (x .reply) room) (ap isIdle (k .pending))
+      (left-ok p (x .next) (n ∙ ap (λ (b : Bool). 24 * columns b) (sym (k .wide))) (screen-inside (x .next .screen) (k .good .screen)) (x .reply)
+      (k .good .reply) room h)
+
   pub carried-kept : {t : Bool} (x : Plan) (room : ℕ) → PlanKept t (idle c) x → t ≡ true → EffectKept c g (carried p c x room)
-  unfolding carried done changeOk effectOk gatheredAfter
+  unfolding carried begun done changeOk effectOk gatheredAfter sendingAfter sendingOk
   carried-kept x room k good =
-      pick-if (EffectKept c g) (leb (length (replyOf (c .modes .protect) p x)) room)
-      (λ e. let on = c .modes .protect in let q = pageAfter on x p in
+      pick-if (EffectKept c g) (sends (x .reply))
+      (λ d. pick-if (EffectKept c g) (eqb room 0) (λ e. record { size = n; wide = refl; personality = refl; core = h; change = refl; sending = refl })
+      (λ e. record {
+        size = n;
+        wide = k .wide;
+        personality = k .personality;
+        core = next-kept k good;
+        change = refl;
+        sending = begun-left x room k (omega (arith, eqb-false room 0 e));
+      }))
+      (λ d. let on = c .modes .protect in let q = pageAfter on x p in
       record {
         size = length-after on x p ∙ n;
         wide = landed-wide (guardedAt (x .next .modes .protect) q) (x .land) (x .next) ∙ k .wide;
@@ -272,24 +302,24 @@ module _ (p : List ℕ) (c : Core) (n : length p ≡ pageLength (c .screen)) (g 
             (length-guards (x .next .modes .protect) q ∙ (length-after on x p ∙ (n ∙ ap (λ (b : Bool). 24 * columns b) (sym (k .wide)))))
             (next-kept k good) (k .good .place);
         change = k .change good;
+        sending = refl;
       })
-      (λ e. record { size = n; wide = refl; personality = refl; core = h; change = refl })
 
   obeyed-kept : (tabs : List Bool) (d : Decoded) (room : ℕ) → decodedOk g d ≡ true → EffectKept c g (obeyed p c tabs d room)
-  unfolding obeyed decodedOk changeOk effectOk gatheredAfter
-  obeyed-kept tabs (Decoded.Wait q) room e = record { size = n; wide = refl; personality = refl; core = record { screen = h .screen; bells = h .bells; remembered = h .remembered; pending = e }; change = refl }
-  obeyed-kept tabs (Decoded.Gather x i b) room e = record { size = n; wide = refl; personality = refl; core = record { screen = h .screen; bells = h .bells; remembered = h .remembered; pending = e }; change = refl }
-  obeyed-kept tabs (Decoded.Take x i) room e = record { size = n; wide = refl; personality = refl; core = idle-kept c g h; change = e }
-  obeyed-kept tabs (Decoded.Reject a) room e = record { size = n; wide = refl; personality = refl; core = idle-kept c g h; change = refl }
+  unfolding obeyed decodedOk changeOk effectOk gatheredAfter sendingAfter sendingOk
+  obeyed-kept tabs (Decoded.Wait q) room e = record { size = n; wide = refl; personality = refl; core = record { screen = h .screen; bells = h .bells; remembered = h .remembered; pending = e }; change = refl; sending = refl }
+  obeyed-kept tabs (Decoded.Gather x i b) room e = record { size = n; wide = refl; personality = refl; core = record { screen = h .screen; bells = h .bells; remembered = h .remembered; pending = e }; change = refl; sending = refl }
+  obeyed-kept tabs (Decoded.Take x i) room e = record { size = n; wide = refl; personality = refl; core = idle-kept c g h; change = e; sending = refl }
+  obeyed-kept tabs (Decoded.Reject a) room e = record { size = n; wide = refl; personality = refl; core = idle-kept c g h; change = refl; sending = refl }
   obeyed-kept tabs (Decoded.Do d) room e = carried-kept _ room (planned-kept tabs d) e
 
   pub inner-kept : (tabs : List Bool) (b room : ℕ) → EffectKept c g (innerRule p c tabs b room)
-  unfolding innerRule changeOk effectOk gatheredAfter
+  unfolding innerRule changeOk effectOk gatheredAfter sendingAfter sendingOk
   inner-kept tabs b room =
       pick-if (EffectKept c g) (ltb b 128)
       (λ e. obeyed-kept tabs (decodeRule (c .pending) b) room
       (decoded-ok (c .pending) g b (ltb-true b 128 e) (h .pending)))
-      (λ e. record { size = n; wide = refl; personality = refl; core = h; change = refl })
+      (λ e. record { size = n; wide = refl; personality = refl; core = h; change = refl; sending = refl })
 
   pub inner-setup : (u : Setup) (b room : ℕ) → PossibleSetup (widthOf (c .screen)) u
       → PossibleSetup (widthOf (innerRule p c (u .tabs) b room .core .screen)) (setupAfter (innerRule p c (u .tabs) b room .change) g u)
@@ -329,34 +359,89 @@ keeps-good {p} {q} {s} {t} k h =
     let r = good-parts p s h in
     good-whole q t (k .size ∙ (r .0 ∙ ap (λ (b : Bool). 24 * columns b) (sym (k .wide)))) (k .state (r .1))
 
-pub step-keeps : (p : List ℕ) (s : State) (b room : ℕ) → Keeps p s (stepRule p s b room .page) (stepRule p s b room .state)
-unfolding stepRule
-step-keeps p s b room =
-    pick-if (λ (o : Outcome). Keeps p s (o .page) (o .state)) (good p s)
-    (λ g.
+-- a send that goes on, with room
+pub goes-keeps : (p : List ℕ) (s : State) (room : ℕ) → good p s ≡ true → sends (s .sending) ≡ true → 0 < room
+    → Keeps p s (goesOn p s room .page) (goesOn p s room .state)
+unfolding goesOn
+goes-keeps p s room g u h =
     let r = good-parts p s g in
     let w = possible-parts s (r .1) in
+    let x = s .core .screen in
+    record {
+      size = refl;
+      wide = refl;
+      personality = refl;
+      state = λ e. possible-whole _ record {
+        narrow = w .narrow;
+        core = w .core;
+        sending = idle-ok x (s .core .pending) _ (sending-idle x (s .core .pending) (s .sending) (w .sending) u)
+            (left-ok p (s .core) (r .0) (screen-inside x (w .core .screen)) (s .sending) (ok-good x (s .core .pending) (s .sending) (w .sending)) room h);
+        setup = w .setup;
+      };
+    }
+
+inside-keeps : (p : List ℕ) (s : State) (room : ℕ) → good p s ≡ true → sends (s .sending) ≡ true
+    → Keeps p s (stepInside p s room .page) (stepInside p s room .state)
+unfolding stepInside
+inside-keeps p s room g u =
+    pick-if (λ (o : Outcome). Keeps p s (o .page) (o .state)) (eqb room 0) (λ e. keeps-same)
+    (λ e. goes-keeps p s room g u (omega (arith, eqb-false room 0 e)))
+
+-- a byte outside a send
+outside-keeps : (p : List ℕ) (s : State) (b room : ℕ) → good p s ≡ true → s .sending ≡ Sending.Nothing
+    → Keeps p s (innerRule p (s .core) (s .setup .tabs) b room .page) (outcomeOf s (innerRule p (s .core) (s .setup .tabs) b room) .state)
+outside-keeps p s b room g u =
+    let r = good-parts p s g in
+    let w = possible-parts s (r .1) in
+    let e = innerRule p (s .core) (s .setup .tabs) b room in
     let k = inner-kept p (s .core) (r .0) (s .gathered) (w .core) (s .setup .tabs) b room in
     record {
       size = k .size ∙ sym (r .0);
       wide = k .wide;
       personality = k .personality;
-      state = λ h. possible-whole _ (k .wide ∙ w .narrow) (k .core)
-          (inner-setup p (s .core) (r .0) (s .gathered) (w .core) (s .setup) b room (w .setup));
-    })
+      state = λ h. possible-whole _ record {
+        narrow = k .wide ∙ w .narrow;
+        core = k .core;
+        sending = subst (λ (y : Sending). sendingOk (e .core .screen) (e .core .pending) (sendingAfter (e .change) y) ≡ true) (sym u) (k .sending);
+        setup = inner-setup p (s .core) (r .0) (s .gathered) (w .core) (s .setup) b room (w .setup);
+      };
+    }
+
+pub step-keeps : (p : List ℕ) (s : State) (b room : ℕ) → Keeps p s (stepRule p s b room .page) (stepRule p s b room .state)
+unfolding stepRule
+step-keeps p s b room =
+    pick-if P (good p s) (λ g. pick-if P (sends (s .sending)) (λ u. inside-keeps p s room g u) (λ u. outside-keeps p s b room g (not-sending (s .sending) u)))
     (λ g. keeps-same)
+  where
+    P : Outcome → Type 0
+    P o = Keeps p s (o .page) (o .state)
 
 repeated-keeps : (bytes p : List ℕ) (s : State) (room : ℕ) → Keeps p s (repeated bytes p s room .page) (repeated bytes p s room .state)
 unfolding repeated joined
 repeated-keeps [] p s room = keeps-same
 repeated-keeps (b ∷ bytes) p s room =
-    pick-if (λ (r : Ran). Keeps p s (r .page) (r .state)) (eqb (stepRule p s b room .answer) 6) (λ e. keeps-same)
+    pick-if P (sends (s .sending)) (λ u. keeps-same)
+    (λ u. pick-if P (eqb (stepRule p s b room .answer) 6) (λ e. keeps-same)
     (λ e. keeps-then (step-keeps p s b room) (repeated-keeps bytes (stepRule p s b room .page) (stepRule p s b room .state)
-    (room - length (stepRule p s b room .reply))))
+    (room - length (stepRule p s b room .reply)))))
+  where
+    P : Ran → Type 0
+    P r = Keeps p s (r .page) (r .state)
+
+run-inside-keeps : (p : List ℕ) (s : State) (bytes : List ℕ) (room : ℕ) → good p s ≡ true → sends (s .sending) ≡ true
+    → Keeps p s (runInside p s bytes room .page) (runInside p s bytes room .state)
+unfolding runInside behind
+run-inside-keeps p s bytes room g u =
+    pick-if (λ (r : Ran). Keeps p s (r .page) (r .state)) (eqb room 0) (λ e. keeps-same)
+    (λ e. keeps-then (goes-keeps p s room g u (omega (arith, eqb-false room 0 e))) (unfold goesOn in repeated-keeps bytes p _ _))
 
 pub run-keeps : (p : List ℕ) (s : State) (bytes : List ℕ) (room : ℕ) → Keeps p s (runRule p s bytes room .page) (runRule p s bytes room .state)
 unfolding runRule
-run-keeps p s bytes room = pick-if (λ (r : Ran). Keeps p s (r .page) (r .state)) (good p s) (λ e. repeated-keeps bytes p s room) (λ e. keeps-same)
+run-keeps p s bytes room =
+    pick-if P (good p s) (λ g. pick-if P (sends (s .sending)) (λ u. run-inside-keeps p s bytes room g u) (λ u. repeated-keeps bytes p s room)) (λ g. keeps-same)
+  where
+    P : Ran → Type 0
+    P r = Keeps p s (r .page) (r .state)
 
 pub call-keeps : (p : List ℕ) (s : State) (c : Call) → Keeps p s (callRule p s c .page) (callRule p s c .given .state)
 unfolding callRule ofStep ofRun ofPress
@@ -392,7 +477,7 @@ play-good calls p s h = keeps-good (play-keeps calls p s) h
 
 pub powerOn-possible : (m : Personality) → possible (powerOn m) ≡ true
 unfolding possible coreOk setupOk powerOn columns noStops screenOk unsplitOk textsOk textOk allText attributesOk isAttribute featuresOk featurePlace
-    rememberedOk pendingOk
+    rememberedOk pendingOk sendingOk
 powerOn-possible Personality.Wy50 = refl
 powerOn-possible Personality.Wy60 = refl
 

@@ -1,16 +1,16 @@
 -- What each answer of a step leaves.
---     step-left, step-most, step-unused     an answer other than 0 leaves what the table says; none is above 7, and none is 5
+--     step-left, step-most, step-good-most, step-unused     an answer other than 0 leaves what the table says; none is above 7, and none is 5
 --     page-changed     nothing but answer 0 changes a page
 --     step-high     a byte of 80h or above changes nothing, whatever is under way
 --     inner-ends     the ways in which a byte ends, on a good page and core
 -- Assumes nothing.
 use mathlib.Core.Path.{_≡_, refl, ap}
 use mathlib.Core.Bool.{Bool, true, false}
+use mathlib.Core.Logic.{_⊎_, inl, inr, ⊎-elim}
 use mathlib.Core.List.{List, []}
 use Prim.Native.Nat.{ℕ, _≤_}
 use native.Mathlib.Omega.{arith}
-use lib.Dec.{leb, ltb, eqb, leb·zero}
-use lib.ListN.{length}
+use lib.Dec.{ltb, eqb}
 use borrow.Author.Tests.{le-ltb, ltb-true, eqb-true, eqb-false}
 use Rattle.rules.specs.declared.State.{State}
 use Rattle.rules.specs.declared.Core.{Core}
@@ -19,17 +19,16 @@ use Rattle.rules.specs.declared.Decoded.{Decoded}
 use Rattle.rules.specs.declared.Decoded.the-variants as Decoded
 use Rattle.rules.specs.Cell.{pick, among}
 use Rattle.rules.specs.Search.{guardedAt}
-use Rattle.rules.specs.State.{number, idle, changed, gatheredAfter, setupAfter}
+use Rattle.rules.specs.State.{number, idle, sends, changed, sendingAfter, gatheredAfter, setupAfter}
 use Rattle.rules.specs.Possible.{pendingOk, good}
 use Rattle.rules.specs.Decode.{decodeRule}
-use Rattle.rules.specs.Send.{places, bytesOf, replied}
-use Rattle.rules.specs.Carry.{Effect, quiet, applied, replyOf, landed, done, carried}
-use Rattle.rules.specs.Step.{Outcome, outcomeOf, obeyed, innerRule, stepRule}
+use Rattle.rules.specs.Carry.{Effect, quiet, applied, landed, done, begun, carried}
+use Rattle.rules.specs.Step.{Outcome, unheard, outcomeOf, obeyed, innerRule, goesOn, stepInside, stepRule}
 use Rattle.rules.specs.Left.{Left, Unchanged}
 use Rattle.rules.proofs.Tests.{pick-if, among-parts}
 use Rattle.rules.proofs.Decoding.{decodedOk, decoded-ok}
 use Rattle.rules.proofs.Kept.{good-parts, possible-parts}
-use Rattle.rules.proofs.Planned.{Planned, obeys, refuses, planned}
+use Rattle.rules.proofs.Planned.{Planned, obeys, replies, refuses, planned}
 
 -- how a byte ends: 0; 2 to 4 and the sequence cleared; 1 or 6 and nothing changed
 pub data Ended (p : List ℕ) (c : Core) : Effect → Type 0 where
@@ -39,10 +38,11 @@ pub data Ended (p : List ℕ) (c : Core) : Effect → Type 0 where
 
 module _ (p : List ℕ) (c : Core) where
   carried-ends : (x : Plan) (room : ℕ) → Planned (idle c) x → Ended p c (carried p c x room)
-  unfolding carried done applied places bytesOf replied landed
-  carried-ends x room (obeys e) =
-      pick-if (Ended p c) (leb (length (replyOf (c .modes .protect) p x)) room) (λ t. ends (ap number e)) (λ t. keeps 6 refl (omega arith, λ e. omega (arith, e)))
-  carried-ends x room (refuses a e) = rw (leb·zero room) (clears (number a) e)
+  unfolding carried begun done applied landed
+  carried-ends x room (obeys e r) = rw (ap sends r) (ends (ap number e))
+  carried-ends x room (replies y s) =
+      rw s (pick-if (Ended p c) (eqb room 0) (λ t. keeps 6 refl (omega arith, λ e. omega (arith, e))) (λ t. ends refl))
+  carried-ends x room (refuses a e) = clears (number a) e
 
   module _ (tabs : List Bool) (g : List ℕ) (room : ℕ) where
     obeyed-ends : (d : Decoded) → decodedOk g d ≡ true → Ended p c (obeyed p c tabs d room)
@@ -64,12 +64,12 @@ module _ (p : List ℕ) (c : Core) where
 
 module _ (p : List ℕ) (s : State) where
   ended-left : {e : Effect} → Ended p (s .core) e → (e .answer ≡ 0 → ⊥) → Left p s (outcomeOf s e)
-  unfolding gatheredAfter setupAfter changed
+  unfolding sendingAfter gatheredAfter setupAfter changed
   ended-left (ends a) n = absurd (n a)
   ended-left (clears m a) n = record { page = refl; state = rw a; reply = refl }
   ended-left (keeps m a l) n = record { page = refl; state = rw a; reply = refl }
 
-  ended-most : {e : Effect} → Ended p (s .core) e → e .answer ≤ 7
+  ended-most : {e : Effect} → Ended p (s .core) e → e .answer ≤ 6
   ended-most (ends a) = omega (arith, a)
   ended-most (clears m a) = omega (arith, among-parts 2 3 m a)
   ended-most (keeps m a l) = omega (arith, l .0)
@@ -83,22 +83,43 @@ module _ (p : List ℕ) (s : State) where
     good-ends : good p s ≡ true → Ended p (s .core) (innerRule p (s .core) (s .setup .tabs) b room)
     good-ends g = inner-ends p (s .core) (s .setup .tabs) (s .gathered) room b (possible-parts s (good-parts p s g .1) .core .pending)
 
+    -- what a byte has outside a send, and an answer that leaves all as it is, and answer 0 inside a send: so a step
+    by-step : (P : Outcome → Type 0) → ((n : ℕ) → (n ≡ 6) ⊎ (n ≡ 7) → P (unheard n p s)) → P (goesOn p s room)
+        → (good p s ≡ true → P (outcomeOf s (innerRule p (s .core) (s .setup .tabs) b room))) → P (stepRule p s b room)
+    unfolding stepRule stepInside
+    by-step P none send byte =
+        pick-if P (good p s)
+        (λ g. pick-if P (sends (s .sending)) (λ u. pick-if P (eqb room 0) (λ e. none 6 (inl refl)) (λ e. send)) (λ u. byte g))
+        (λ g. none 7 (inr refl))
+
     -- an answer other than 0 leaves the page, replies nothing, and leaves of the state what the table says
     pub step-left : (stepRule p s b room .answer ≡ 0 → ⊥) → Left p s (stepRule p s b room)
-    unfolding stepRule
+    unfolding goesOn
     step-left =
-        pick-if (λ (o : Outcome). (o .answer ≡ 0 → ⊥) → Left p s o) (good p s) (λ g. ended-left (good-ends g))
-        (λ g n. record { page = refl; state = refl; reply = refl })
+        by-step (λ (o : Outcome). (o .answer ≡ 0 → ⊥) → Left p s o) (λ n h z. unheard-left n h) (λ z. absurd (z refl)) (λ g. ended-left (good-ends g))
+      where
+        unheard-left : (n : ℕ) → (n ≡ 6) ⊎ (n ≡ 7) → Left p s (unheard n p s)
+        unheard-left n (inl e) = rw e record { page = refl; state = refl; reply = refl }
+        unheard-left n (inr e) = rw e record { page = refl; state = refl; reply = refl }
 
     -- no answer is above 7
     pub step-most : stepRule p s b room .answer ≤ 7
+    unfolding goesOn
+    step-most =
+        by-step (λ (o : Outcome). o .answer ≤ 7) (λ n h. ⊎-elim (λ e. omega (arith, e)) (λ e. omega (arith, e)) h) (omega arith)
+        (λ g. omega (arith, ended-most (good-ends g)))
+
+    -- nor above 6 on a good page and state
+    pub step-good-most : good p s ≡ true → sends (s .sending) ≡ false → stepRule p s b room .answer ≤ 6
     unfolding stepRule
-    step-most = pick-if (λ (o : Outcome). o .answer ≤ 7) (good p s) (λ g. ended-most (good-ends g)) (λ g. omega arith)
+    step-good-most g u = rw (g, u) (ended-most (good-ends g))
 
     -- none is 5
     pub step-unused : stepRule p s b room .answer ≡ 5 → ⊥
-    unfolding stepRule
-    step-unused = pick-if (λ (o : Outcome). o .answer ≡ 5 → ⊥) (good p s) (λ g. ended-five (good-ends g)) (λ g e. omega (arith, e))
+    unfolding goesOn
+    step-unused =
+        by-step (λ (o : Outcome). o .answer ≡ 5 → ⊥) (λ n h z. ⊎-elim (λ e. omega (arith, e, z)) (λ e. omega (arith, e, z)) h) (λ z. omega (arith, z))
+        (λ g. ended-five (good-ends g))
 
     -- nothing but answer 0 changes a page
     pub page-changed : (stepRule p s b room .page ≡ p → ⊥) → stepRule p s b room .answer ≡ 0
@@ -108,12 +129,11 @@ module _ (p : List ℕ) (s : State) where
         by true e = eqb-true _ _ e
         by false e = absurd (h (step-left (eqb-false _ _ e) .page))
 
-    -- a byte of 80h or above changes nothing, whatever is under way
-    pub step-high : 128 ≤ b → Unchanged (pick (good p s) 1 7) p s (stepRule p s b room)
-    unfolding stepRule innerRule gatheredAfter setupAfter changed
-    step-high h = rw (le-ltb b 128 h) (by (good p s))
+    -- a byte of 80h or above changes nothing, whatever sequence is under way; inside a send it waits
+    pub step-high : 128 ≤ b → sends (s .sending) ≡ false → Unchanged (pick (good p s) 1 7) p s (stepRule p s b room)
+    unfolding stepRule innerRule sendingAfter gatheredAfter setupAfter changed
+    step-high h u = rw (le-ltb b 128 h, u) (by (good p s))
       where
-        by : (t : Bool) → Unchanged (pick t 1 7) p s (pick t (outcomeOf s (quiet 1 (s .core) p))
-            (record { answer = 7; state = s; page = p; reply = [] }))
+        by : (t : Bool) → Unchanged (pick t 1 7) p s (pick t (outcomeOf s (quiet 1 (s .core) p)) (unheard 7 p s))
         by true = record { answer = refl; page = refl; state = refl; reply = refl }
         by false = record { answer = refl; page = refl; state = refl; reply = refl }

@@ -19,11 +19,13 @@ pub mod Decoding
 pub mod Kept
 pub mod Bound
 pub mod Run
+pub mod Narrow
 pub mod Planned
 pub mod Left
 pub mod Press
 pub mod Remembered
 pub mod Reach
+pub mod SendReach
 pub mod Completed
 pub mod RowSteps
 pub mod RowNoninterference

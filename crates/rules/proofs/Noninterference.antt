@@ -10,11 +10,12 @@ use mathlib.Core.Bool.{Bool, true, false, false≢true}
 use mathlib.Core.List.{List, [], _∷_}
 use Prim.Native.Nat.{ℕ, _-_}
 use borrow.Author.Tests.{ltb-true, eqb-true}
-use lib.Dec.{leb, ltb, eqb}
-use lib.ListN.{length}
+use lib.Dec.{ltb, eqb}
+use lib.ListN.{length, take}
 use Rattle.rules.specs.declared.Core.{Core}
 use Rattle.rules.specs.declared.State.{State}
 use Rattle.rules.specs.declared.Plan.{Plan}
+use Rattle.rules.specs.declared.Sending.{Sending}
 use Rattle.rules.specs.declared.Land.{Land}
 use Rattle.rules.specs.declared.Land.the-variants as Land
 use Rattle.rules.specs.declared.Change.{Change}
@@ -22,15 +23,16 @@ use Rattle.rules.specs.declared.Decoded.{Decoded}
 use Rattle.rules.specs.declared.Decoded.the-variants as Decoded
 use Rattle.rules.specs.Cell.{pick, both, either}
 use Rattle.rules.specs.Search.{guardedAt}
-use Rattle.rules.specs.State.{number, idle}
+use Rattle.rules.specs.State.{number, idle, sends, sendingAfter}
 use Rattle.rules.specs.Possible.{good}
 use Rattle.rules.specs.Decode.{decodeRule}
 use Rattle.rules.specs.Plan.{planRule}
-use Rattle.rules.specs.Carry.{Effect, effect, planWidth, replyOf, landed, pageAfter, done, carried}
-use Rattle.rules.specs.Step.{obeyed, innerRule, Outcome, outcomeOf, stepRule}
-use Rattle.rules.specs.Calls.{Ran, ended, joined, repeated, runRule, pressRule, Call, Step, Run, Press, Called, ofStep, ofRun, ofPress, callRule, Played, after, play}
-use Rattle.rules.specs.Noninterference.{afterEscape, anyOf, excludedBytes, completes, runCompletes, callCompletes, anyCompleted, AlikePages, KeptPages, Demand3}
-use Rattle.rules.proofs.Related.{Related, related-alike, related-cell, related-length, related-guards, related-write, related-reply, related-reply-length}
+use Rattle.rules.specs.Send.{Spot, bytesOf, beyond, standing, sentFrom, leftFrom}
+use Rattle.rules.specs.Carry.{Effect, effect, quiet, planWidth, landed, pageAfter, done, begun, carried}
+use Rattle.rules.specs.Step.{obeyed, innerRule, Outcome, unheard, outcomeOf, goesOn, stepInside, stepRule}
+use Rattle.rules.specs.Calls.{Ran, ended, joined, repeated, behind, runInside, runRule, pressRule, Call, Step, Run, Press, Called, ofStep, ofRun, ofPress, callRule, Played, after, play}
+use Rattle.rules.specs.Noninterference.{afterEscape, anyOf, excludedBytes, completes, runCompletes, insideCompletes, callCompletes, anyCompleted, revealing, AlikePages, KeptPages, Demand3}
+use Rattle.rules.proofs.Related.{Related, related-alike, related-cell, related-length, related-guards, related-write, related-places, left-conceals}
 use Rattle.rules.proofs.Unrevealing.{both-false, isExcluded, Unrevealing, unrevealing}
 use Rattle.rules.proofs.ExcludedBytes.{givesExcluded, excluded-bytes}
 
@@ -47,14 +49,19 @@ pick-agrees R false h k = k refl
 
 -- an outcome with another page
 abbrev withPage : Outcome → List ℕ → Outcome
-withPage o page = record { answer = o .answer; state = o .state; page = page; reply = o .reply }
+withPage o page = record { answer = o .answer; taken = o .taken; state = o .state; page = page; reply = o .reply }
 
--- b is a but for the page, the pages are related to those at the start, p and q, and protect mode is on
+-- what is known of a state: protect mode is on, and no ESC 6 or ESC 7 send is under way
+pub record Closed (s : State) : Type 0 where
+  pub on : protects s ≡ true
+  pub conceals : revealing (s .sending) ≡ false
+
+-- b is a but for the page, the pages are related to those at the start, p and q, and the state is closed
 record Agree (p q : List ℕ) (a b : Outcome) : Type 0 where
   page : List ℕ
   but-page : b ≡ withPage a page
   related : Related p q (a .page) page
-  on : protects (a .state) ≡ true
+  closed : Closed (a .state)
 
 abbrev AgreeFrom : State → List ℕ → List ℕ → Effect → Effect → Type 0
 AgreeFrom s p q a b = Agree p q (outcomeOf s a) (outcomeOf s b)
@@ -69,75 +76,116 @@ module _ (on : Bool) (e : on ≡ true) {p q x y : List ℕ} (h : Related p q x y
   pub guards-agree : guardedAt on x ≡ guardedAt on y
   guards-agree = rw e (related-guards h)
 
-  length-agrees : (k : Plan) → length (replyOf on x k) ≡ length (replyOf on y k)
-  length-agrees k = rw e (related-reply-length (planWidth k) (k .reply) h)
-
-  reply-agrees : (k : Plan) → Unrevealing k → replyOf on x k ≡ replyOf on y k
-  reply-agrees k f = rw e (related-reply (planWidth k) (k .reply) (f .reply) h)
-
   pages-related : (k : Plan) → Unrevealing k → Related p q (pageAfter on k x) (pageAfter on k y)
   pages-related k f = rw e (related-write (planWidth k) (k .second) (f .second) (related-write (planWidth k) (k .first) (f .first) h))
 
-module _ {p q x y : List ℕ} (h : Related p q x y) (s : State) (on : protects s ≡ true) where
+module _ {p q x y : List ℕ} (h : Related p q x y) (c : Core) (z : Sending) (on : c .modes .protect ≡ true) (e : revealing z ≡ false) (room : ℕ) where
+  sent-agrees : sentFrom x c z room ≡ sentFrom y c z room
+  unfolding sentFrom
+  sent-agrees = ap (λ (l : List Spot). take room (bytesOf l)) (related-places c z on e h)
+
+  left-agrees : leftFrom x c z room ≡ leftFrom y c z room
+  unfolding leftFrom
+  left-agrees = ap (λ (l : List Spot). standing (beyond room l)) (related-places c z on e h)
+
+module _ {p q x y : List ℕ} (h : Related p q x y) (s : State) (closed : Closed s) where
   pub good-agrees : good x s ≡ good y s
   unfolding good
   good-agrees = rw (related-length h)
 
   -- an effect that leaves the page
-  untouched : (n : ℕ) (c : Core) (k : Change) → c .modes .protect ≡ true → AgreeFrom s p q (effect n c k x []) (effect n c k y [])
-  untouched n c k e = record { page = y; but-page = refl; related = h; on = e }
+  untouched : (n : ℕ) (c : Core) (k : Change) → c .modes .protect ≡ true → revealing (sendingAfter k (s .sending)) ≡ false
+      → AgreeFrom s p q (effect n c k x []) (effect n c k y [])
+  untouched n c k e f = record { page = y; but-page = refl; related = h; closed = record { on = e; conceals = f } }
 
   done-agrees : (k : Plan) → Unrevealing k → AgreeFrom s p q (done (protects s) x k) (done (protects s) y k)
-  unfolding done
+  unfolding done sendingAfter
   done-agrees k f =
-      let next = pages-related (protects s) on h k f in
+      let next = pages-related (protects s) (closed .on) h k f in
       record {
         page = pageAfter (protects s) k y;
-        but-page = rw (reply-agrees (protects s) on h k f, guards-agree (k .next .modes .protect) (f .on) next);
+        but-page = rw (guards-agree (k .next .modes .protect) (f .on) next);
         related = next;
-        on = landed-on (guardedAt (k .next .modes .protect) (pageAfter (protects s) k x)) (k .land) (k .next) (f .on);
+        closed = record {
+          on = landed-on (guardedAt (k .next .modes .protect) (pageAfter (protects s) k x)) (k .land) (k .next) (f .on);
+          conceals = closed .conceals;
+        };
       }
 
-  -- a plan is carried out in both or, for want of room, in neither
-  carried-agrees : (k : Plan) (room : ℕ) → (leb (length (replyOf (protects s) x k)) room ≡ true → Unrevealing k)
-      → AgreeFrom s p q (carried x (s .core) k room) (carried y (s .core) k room)
-  unfolding carried
-  carried-agrees k room f =
-      rw (← (length-agrees (protects s) on h k))
-      (pick-agrees (AgreeFrom s p q) _ (λ t. done-agrees k (f t)) (λ t. untouched _ _ _ on))
+  begun-agrees : (k : Plan) (room : ℕ) → Unrevealing k → AgreeFrom s p q (begun x k room) (begun y k room)
+  unfolding begun sendingAfter
+  begun-agrees k room f =
+      rw (sent-agrees h (k .next) (k .reply) (f .on) (f .reply) room, left-agrees h (k .next) (k .reply) (f .on) (f .reply) room)
+      record { page = y; but-page = refl; related = h; closed = record { on = f .on; conceals = left-conceals y (k .next) (k .reply) room (f .reply) } }
 
-  carried-answer : (k : Plan) (room : ℕ) → leb (length (replyOf (protects s) x k)) room ≡ true
-      → (carried x (s .core) k room) .answer ≡ number (k .answer)
-  unfolding carried done
-  carried-answer k room e = rw e
+  -- a plan is carried out in both or, for want of room, in neither
+  carried-agrees : (k : Plan) (room : ℕ) → (both (sends (k .reply)) (eqb room 0) ≡ false → Unrevealing k)
+      → AgreeFrom s p q (carried x (s .core) k room) (carried y (s .core) k room)
+  unfolding carried sendingAfter
+  carried-agrees k room f =
+      pick-agrees (AgreeFrom s p q) (sends (k .reply))
+      (λ d. pick-agrees (AgreeFrom s p q) (eqb room 0) (λ t. untouched _ _ _ (closed .on) (closed .conceals))
+      (λ t. begun-agrees k room (f (ap (λ (u : Bool). both u (eqb room 0)) d ∙ t))))
+      (λ d. done-agrees k (f (ap (λ (u : Bool). both u (eqb room 0)) d)))
+
+  carried-answer : (k : Plan) (room : ℕ) → both (sends (k .reply)) (eqb room 0) ≡ false → (carried x (s .core) k room) .answer ≡ number (k .answer)
+  unfolding carried done begun
+  carried-answer k room = by (sends (k .reply)) (eqb room 0)
+    where
+      by : (d t : Bool) → both d t ≡ false
+          → pick d (pick t (quiet 6 (s .core) x) (begun x k room)) (done (protects s) x k) .answer ≡ number (k .answer)
+      by true true e = absurd (false≢true (sym e))
+      by true false e = refl
+      by false t e = refl
 
   obeyed-agrees : (d : Decoded) (room : ℕ) → both (givesExcluded d) (eqb ((obeyed x (s .core) (s .setup .tabs) d room) .answer) 0) ≡ false
       → AgreeFrom s p q (obeyed x (s .core) (s .setup .tabs) d room) (obeyed y (s .core) (s .setup .tabs) d room)
-  unfolding obeyed
-  obeyed-agrees (Decoded.Wait r) room e = untouched _ _ _ on
-  obeyed-agrees (Decoded.Gather v n b) room e = untouched _ _ _ on
-  obeyed-agrees (Decoded.Take v n) room e = untouched _ _ _ on
-  obeyed-agrees (Decoded.Reject a) room e = untouched _ _ _ on
+  unfolding obeyed sendingAfter
+  obeyed-agrees (Decoded.Wait r) room e = untouched _ _ _ (closed .on) (closed .conceals)
+  obeyed-agrees (Decoded.Gather v n b) room e = untouched _ _ _ (closed .on) (closed .conceals)
+  obeyed-agrees (Decoded.Take v n) room e = untouched _ _ _ (closed .on) (closed .conceals)
+  obeyed-agrees (Decoded.Reject a) room e = untouched _ _ _ (closed .on) (closed .conceals)
   obeyed-agrees (Decoded.Do d) room e =
       let k = planRule (guardedAt (protects s) x) (s .setup .tabs) (idle (s .core)) d in
-      rw (← (guards-agree (protects s) on h))
-      (carried-agrees k room (λ fits. unrevealing (guardedAt (protects s) x) (s .setup .tabs) (idle (s .core)) on d
+      rw (← (guards-agree (protects s) (closed .on) h))
+      (carried-agrees k room (λ fits. unrevealing (guardedAt (protects s) x) (s .setup .tabs) (idle (s .core)) (closed .on) d
       (ap (λ (n : ℕ). both (isExcluded d) (eqb n 0)) (sym (carried-answer k room fits)) ∙ e)))
 
   inner-agrees : (b room : ℕ) → completes s b ((innerRule x (s .core) (s .setup .tabs) b room) .answer) ≡ false
       → AgreeFrom s p q (innerRule x (s .core) (s .setup .tabs) b room) (innerRule y (s .core) (s .setup .tabs) b room)
-  unfolding innerRule completes
+  unfolding innerRule completes sendingAfter
   inner-agrees b room e =
       pick-agrees (AgreeFrom s p q) (ltb b 128)
       (λ t. obeyed-agrees (decodeRule (s .core .pending) b) room
       (rw (← (excluded-bytes (s .core .pending) b (ltb-true b 128 t)), t) at e))
-      (λ t. untouched _ _ _ on)
+      (λ t. untouched _ _ _ (closed .on) (closed .conceals))
+
+  -- a send goes on in both
+  goes-agrees : (room : ℕ) → Agree p q (goesOn x s room) (goesOn y s room)
+  unfolding goesOn
+  goes-agrees room =
+      rw (sent-agrees h (s .core) (s .sending) (closed .on) (closed .conceals) room, left-agrees h (s .core) (s .sending) (closed .on) (closed .conceals) room)
+      record {
+        page = y;
+        but-page = refl;
+        related = h;
+        closed = record { on = closed .on; conceals = left-conceals y (s .core) (s .sending) room (closed .conceals) };
+      }
+
+  unheard-agrees : (n : ℕ) → Agree p q (unheard n x s) (unheard n y s)
+  unheard-agrees n = record { page = y; but-page = refl; related = h; closed = closed }
+
+  inside-agrees : (room : ℕ) → Agree p q (stepInside x s room) (stepInside y s room)
+  unfolding stepInside
+  inside-agrees room = pick-agrees (Agree p q) (eqb room 0) (λ t. unheard-agrees 6) (λ t. goes-agrees room)
 
   step-agrees : (b room : ℕ) → completes s b ((stepRule x s b room) .answer) ≡ false → Agree p q (stepRule x s b room) (stepRule y s b room)
   unfolding stepRule
   step-agrees b room e =
       rw (← good-agrees)
-      (pick-agrees (Agree p q) (good x s) (λ t. inner-agrees b room (rw t at e)) (λ t. record { page = y; but-page = refl; related = h; on = on }))
+      (pick-agrees (Agree p q) (good x s)
+      (λ t. pick-agrees (Agree p q) (sends (s .sending)) (λ u. inside-agrees room) (λ u. inner-agrees b room (rw (t, u) at e)))
+      (λ t. unheard-agrees 7))
 
 -- ---- the run
 
@@ -156,7 +204,7 @@ record AgreeRun (p q : List ℕ) (a b : Ran) : Type 0 where
   page : List ℕ
   but-page : b ≡ runWithPage a page
   related : Related p q (a .page) page
-  on : protects (a .state) ≡ true
+  closed : Closed (a .state)
 
 pub either-left : (a b : Bool) → either a b ≡ false → a ≡ false
 either-left true b e = e
@@ -168,7 +216,11 @@ either-right false b e = e
 
 joined-agrees : {p q : List ℕ} (o : Outcome) (page : List ℕ) (a b : Ran) → AgreeRun p q a b → AgreeRun p q (joined o a) (joined (withPage o page) b)
 unfolding joined
-joined-agrees o page a b r = rw (r .but-page) record { page = r .page; but-page = refl; related = r .related; on = r .on }
+joined-agrees o page a b r = rw (r .but-page) record { page = r .page; but-page = refl; related = r .related; closed = r .closed }
+
+behind-agrees : {p q : List ℕ} (l : List ℕ) (a b : Ran) → AgreeRun p q a b → AgreeRun p q (behind l a) (behind l b)
+unfolding behind
+behind-agrees l a b r = rw (r .but-page) record { page = r .page; but-page = refl; related = r .related; closed = r .closed }
 
 -- a byte that answers 6 completes nothing
 refused : (s : State) (b : ℕ) → completes s b 6 ≡ false
@@ -182,54 +234,70 @@ byte-completes s b n r = by (eqb n 6) refl
     by true u e = rw (eqb-true n 6 u) (refused s b)
     by false u e = either-left (completes s b n) r e
 
-module _ {p q x y : List ℕ} (h : Related p q x y) (s : State) (on : protects s ≡ true) where
+module _ {p q x y : List ℕ} (h : Related p q x y) (s : State) (closed : Closed s) where
   ended-agrees : (n : ℕ) (rest : List ℕ) → AgreeRun p q (ended x s n rest) (ended y s n rest)
-  ended-agrees n rest = record { page = y; but-page = refl; related = h; on = on }
+  ended-agrees n rest = record { page = y; but-page = refl; related = h; closed = closed }
 
   -- one byte of a run, over what is known of the bytes after it
   byte-agrees : (b : ℕ) (bs : List ℕ) (room : ℕ) → runCompletes (b ∷ bs) x s room ≡ false
-      → ((y′ : List ℕ) (k : State) (left : ℕ) → Related p q ((stepRule x s b room) .page) y′ → protects k ≡ true
+      → ((y′ : List ℕ) (k : State) (left : ℕ) → Related p q ((stepRule x s b room) .page) y′ → Closed k
       → runCompletes bs ((stepRule x s b room) .page) k left ≡ false
       → AgreeRun p q (repeated bs ((stepRule x s b room) .page) k left) (repeated bs y′ k left))
       → AgreeRun p q (repeated (b ∷ bs) x s room) (repeated (b ∷ bs) y s room)
   unfolding repeated runCompletes
   byte-agrees b bs room c ih =
+      pick-agrees (AgreeRun p q) (sends (s .sending)) (λ u. ended-agrees 0 (b ∷ bs))
+      (λ u.
+      let d = rw u at c in
       let o = stepRule x s b room in
-      let a = step-agrees h s on b room (byte-completes s b (o .answer) _ c) in
+      let a = step-agrees h s closed b room (byte-completes s b (o .answer) _ d) in
       rw (a .but-page)
       (pick-agrees (AgreeRun p q) (eqb (o .answer) 6) (λ t. ended-agrees 6 (b ∷ bs))
       (λ t. joined-agrees o (a .page) _ _
-      (ih (a .page) (o .state) (room - length (o .reply)) (a .related) (a .on) (either-right (completes s b (o .answer)) _ (rw t at c)))))
+      (ih (a .page) (o .state) (room - length (o .reply)) (a .related) (a .closed) (either-right (completes s b (o .answer)) _ (rw t at d))))))
 
-repeated-agrees : (bs : List ℕ) {p q x y : List ℕ} → Related p q x y → (s : State) → protects s ≡ true → (room : ℕ) → runCompletes bs x s room ≡ false
+repeated-agrees : (bs : List ℕ) {p q x y : List ℕ} → Related p q x y → (s : State) → Closed s → (room : ℕ) → runCompletes bs x s room ≡ false
     → AgreeRun p q (repeated bs x s room) (repeated bs y s room)
 unfolding repeated
-repeated-agrees [] h s on room c = ended-agrees h s on 0 []
-repeated-agrees (b ∷ bs) h s on room c = byte-agrees h s on b bs room c (λ y k left g w d. repeated-agrees bs g k w left d)
+repeated-agrees [] h s closed room c = ended-agrees h s closed 0 []
+repeated-agrees (b ∷ bs) h s closed room c = byte-agrees h s closed b bs room c (λ y k left g w d. repeated-agrees bs g k w left d)
 
 -- ---- calls
 
 pub record AgreeCall (p q : List ℕ) (a b : Called) : Type 0 where
   pub given : b .given ≡ a .given
   pub related : Related p q (a .page) (b .page)
-  pub on : protects (a .given .state) ≡ true
+  pub closed : Closed (a .given .state)
 
-module _ {p q x y : List ℕ} (h : Related p q x y) (s : State) (on : protects s ≡ true) where
+module _ {p q x y : List ℕ} (h : Related p q x y) (s : State) (closed : Closed s) where
+  -- inside a send
+  run-inside-agrees : (bs : List ℕ) (room : ℕ) → insideCompletes x s bs room ≡ false → AgreeRun p q (runInside x s bs room) (runInside y s bs room)
+  unfolding runInside insideCompletes
+  run-inside-agrees bs room c =
+      let a = goes-agrees h s closed room in
+      rw (a .but-page)
+      (pick-agrees (AgreeRun p q) (eqb room 0) (λ t. ended-agrees h s closed _ bs)
+      (λ t. behind-agrees (goesOn x s room .reply) _ _
+      (repeated-agrees bs h (goesOn x s room .state) (a .closed) (room - length (goesOn x s room .reply)) (rw t at c))))
+
   run-agrees : (bs : List ℕ) (room : ℕ) → callCompletes x s (Run bs room) ≡ false → AgreeRun p q (runRule x s bs room) (runRule y s bs room)
   unfolding runRule callCompletes
   run-agrees bs room c =
-      rw (← (good-agrees h s on))
-      (pick-agrees (AgreeRun p q) (good x s) (λ t. repeated-agrees bs h s on room (rw t at c)) (λ t. ended-agrees h s on 7 bs))
+      rw (← (good-agrees h s closed))
+      (pick-agrees (AgreeRun p q) (good x s)
+      (λ t. pick-agrees (AgreeRun p q) (sends (s .sending)) (λ u. run-inside-agrees bs room (rw (t, u) at c))
+      (λ u. repeated-agrees bs h s closed room (rw (t, u) at c)))
+      (λ t. ended-agrees h s closed 7 bs))
 
   pub call-agrees : (c : Call) → callCompletes x s c ≡ false → AgreeCall p q (callRule x s c) (callRule y s c)
   unfolding callRule callCompletes ofStep ofRun ofPress pressRule
   call-agrees (Step b room) c =
-      let a = step-agrees h s on b room c in
-      rw (a .but-page) record { given = refl; related = a .related; on = a .on }
+      let a = step-agrees h s closed b room c in
+      rw (a .but-page) record { given = refl; related = a .related; closed = a .closed }
   call-agrees (Run bs room) c =
       let a = run-agrees bs room c in
-      rw (a .but-page) record { given = refl; related = a .related; on = a .on }
-  call-agrees (Press v room) c = rw (good-agrees h s on) record { given = refl; related = h; on = on }
+      rw (a .but-page) record { given = refl; related = a .related; closed = a .closed }
+  call-agrees (Press v room) c = rw (good-agrees h s closed) record { given = refl; related = h; closed = closed }
 
 -- ---- lists of calls
 
@@ -238,14 +306,14 @@ record AgreePlay (p q : List ℕ) (a b : Played) : Type 0 where
   state : a .state ≡ b .state
   related : Related p q (a .page) (b .page)
 
-play-agrees : (cs : List Call) {p q x y : List ℕ} → Related p q x y → (s : State) → protects s ≡ true → anyCompleted cs x s ≡ false
+play-agrees : (cs : List Call) {p q x y : List ℕ} → Related p q x y → (s : State) → Closed s → anyCompleted cs x s ≡ false
     → AgreePlay p q (play cs x s) (play cs y s)
 unfolding play anyCompleted after
-play-agrees [] h s on e = record { given = refl; state = refl; related = h }
-play-agrees (c ∷ cs) {x = x} h s on e =
+play-agrees [] h s closed e = record { given = refl; state = refl; related = h }
+play-agrees (c ∷ cs) {x = x} h s closed e =
     let r = callRule x s c in
-    let a = call-agrees h s on c (either-left (callCompletes x s c) _ e) in
-    let b = play-agrees cs (a .related) (r .given .state) (a .on) (either-right (callCompletes x s c) _ e) in
+    let a = call-agrees h s closed c (either-left (callCompletes x s c) _ e) in
+    let b = play-agrees cs (a .related) (r .given .state) (a .closed) (either-right (callCompletes x s c) _ e) in
     rw (a .given) record { given = rw (b .given); state = b .state; related = b .related }
 
 -- pages alike are related to themselves, and related pages are kept as the statement says
@@ -261,6 +329,6 @@ related-kept h = record {
 }
 
 pub noninterference : Demand3
-noninterference p q s t calls on alike e =
-    let a = play-agrees calls (start-related p q (alike .pages)) s on e in
+noninterference p q s t calls on conceals alike e =
+    let a = play-agrees calls (start-related p q (alike .pages)) s record { on = on; conceals = conceals } e in
     rw (← (alike .state)) record { given = a .given; state = a .state; pages = related-kept (a .related) }

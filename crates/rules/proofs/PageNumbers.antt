@@ -6,7 +6,7 @@ use mathlib.Core.Path.{_≡_, refl, sym, subst}
 use mathlib.Core.Bool.{Bool, true, false}
 use mathlib.Core.List.{List, [], _∷_, _++_}
 use Prim.Native.Nat.{ℕ, zero, suc, _+_, _-_, _*_}
-use lib.Dec.{ltb, leb, eqb}
+use lib.Dec.{ltb, eqb}
 use lib.ListN.{length, getD, take, drop, replicate}
 use borrow.Author.Tests.{ltb-true}
 use Rattle.rules.specs.declared.Personality.{Personality}
@@ -20,12 +20,12 @@ use Rattle.rules.specs.declared.Write.the-variants as Write
 use Rattle.rules.specs.Cell.{guarded}
 use Rattle.rules.specs.Search.{guardedAt}
 use Rattle.rules.specs.Change.{within, fillCell, filled, shiftLeft, shiftRight, shifted, editShifted, rowsShifted, columnFilled}
-use Rattle.rules.specs.State.{idle}
+use Rattle.rules.specs.State.{idle, sends}
 use Rattle.rules.specs.Possible.{rememberedOk, pendingOk, powerOn, blank, good}
 use Rattle.rules.specs.Decode.{decodeRule}
-use Rattle.rules.specs.Carry.{Effect, applied, replyOf, pageAfter, done, carried}
-use Rattle.rules.specs.Step.{obeyed, innerRule, Outcome, stepRule}
-use Rattle.rules.specs.Calls.{Ran, joined, repeated, runRule, Call, Step, Run, Press, ofStep, ofRun, ofPress, callRule, after, play}
+use Rattle.rules.specs.Carry.{Effect, applied, pageAfter, done, begun, carried}
+use Rattle.rules.specs.Step.{obeyed, innerRule, Outcome, goesOn, stepInside, stepRule}
+use Rattle.rules.specs.Calls.{Ran, joined, repeated, behind, runInside, runRule, Call, Step, Run, Press, ofStep, ofRun, ofPress, callRule, after, play}
 use Rattle.rules.specs.Numbers.{numberOk, writeOk, PlanNumbers, PageNumbers, none, more}
 use Rattle.rules.proofs.Tests.{pick-if}
 use Rattle.rules.proofs.Decoding.{decodedOk, decoded-ok}
@@ -92,10 +92,13 @@ module _ {m : Personality} where
 
 module _ (p : List ℕ) (c : Core) (ok : rememberedOk (c .personality) (c .attribute) ≡ true) (h : PageNumbers (c .personality) p) where
   carried-numbers : (x : Plan) (room : ℕ) → PlanNumbers (c .personality) x → PageNumbers (c .personality) (carried p c x room .page)
-  unfolding carried done
+  unfolding carried begun done
   carried-numbers x room k =
-      pick-if (λ (e : Effect). PageNumbers (c .personality) (e .page)) (leb (length (replyOf (c .modes .protect) p x)) room)
-      (λ e. each-applied _ (c .modes .protect) (x .second) (k .second) (each-applied _ (c .modes .protect) (x .first) (k .first) h)) (λ e. h)
+      pick-if P (sends (x .reply)) (λ d. pick-if P (eqb room 0) (λ e. h) (λ e. h))
+      (λ d. each-applied _ (c .modes .protect) (x .second) (k .second) (each-applied _ (c .modes .protect) (x .first) (k .first) h))
+    where
+      P : Effect → Type 0
+      P e = PageNumbers (c .personality) (e .page)
 
   obeyed-numbers : (tabs : List Bool) (g : List ℕ) (d : Decoded) (room : ℕ) → decodedOk g d ≡ true
       → PageNumbers (c .personality) (obeyed p c tabs d room .page)
@@ -118,13 +121,17 @@ abbrev personalityOf : State → Personality
 personalityOf s = s .core .personality
 
 pub step-numbers : (p : List ℕ) (s : State) (b room : ℕ) → PageNumbers (personalityOf s) p → PageNumbers (personalityOf s) (stepRule p s b room .page)
-unfolding stepRule
+unfolding stepRule stepInside goesOn
 step-numbers p s b room h =
-    pick-if (λ (o : Outcome). PageNumbers (personalityOf s) (o .page)) (good p s)
+    pick-if P (good p s)
     (λ g.
     let k = possible-parts s (good-parts p s g .1) .core in
-    inner-numbers p (s .core) (k .remembered) h (s .setup .tabs) (s .gathered) b room (k .pending))
+    pick-if P (sends (s .sending)) (λ u. pick-if P (eqb room 0) (λ e. h) (λ e. h))
+    (λ u. inner-numbers p (s .core) (k .remembered) h (s .setup .tabs) (s .gathered) b room (k .pending)))
     (λ g. h)
+  where
+    P : Outcome → Type 0
+    P o = PageNumbers (personalityOf s) (o .page)
 
 -- ---- runs and calls
 
@@ -134,16 +141,26 @@ repeated-numbers [] p s room h = h
 repeated-numbers (b ∷ bytes) p s room h =
     let o = stepRule p s b room in
     let same = step-keeps p s b room .personality in
-    pick-if (λ (r : Ran). PageNumbers (personalityOf s) (r .page)) (eqb (o .answer) 6) (λ e. h)
+    pick-if P (sends (s .sending)) (λ u. h)
+    (λ u. pick-if P (eqb (o .answer) 6) (λ e. h)
     (λ e. subst (λ (m : Personality). PageNumbers m (repeated bytes (o .page) (o .state) (room - length (o .reply)) .page)) same
     (repeated-numbers bytes (o .page) (o .state) (room - length (o .reply))
-    (subst (λ (m : Personality). PageNumbers m (o .page)) (sym same) (step-numbers p s b room h))))
+    (subst (λ (m : Personality). PageNumbers m (o .page)) (sym same) (step-numbers p s b room h)))))
+  where
+    P : Ran → Type 0
+    P r = PageNumbers (personalityOf s) (r .page)
 
 call-numbers : (p : List ℕ) (s : State) (c : Call) → PageNumbers (personalityOf s) p → PageNumbers (personalityOf s) (callRule p s c .page)
-unfolding callRule ofStep ofRun ofPress runRule
+unfolding callRule ofStep ofRun ofPress runRule runInside behind
 call-numbers p s (Step b room) h = step-numbers p s b room h
 call-numbers p s (Run bytes room) h =
-    pick-if (λ (r : Ran). PageNumbers (personalityOf s) (r .page)) (good p s) (λ e. repeated-numbers bytes p s room h) (λ e. h)
+    pick-if P (good p s)
+    (λ g. pick-if P (sends (s .sending)) (λ u. pick-if P (eqb room 0) (λ e. h) (λ e. unfold goesOn in repeated-numbers bytes p _ _ h))
+    (λ u. repeated-numbers bytes p s room h))
+    (λ g. h)
+  where
+    P : Ran → Type 0
+    P r = PageNumbers (personalityOf s) (r .page)
 call-numbers p s (Press v room) h = h
 
 pub play-numbers : (calls : List Call) (p : List ℕ) (s : State) → PageNumbers (personalityOf s) p → PageNumbers (personalityOf s) (play calls p s .page)

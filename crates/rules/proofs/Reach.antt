@@ -23,12 +23,13 @@ use Rattle.rules.specs.declared.Argument.{Argument}
 use Rattle.rules.specs.declared.Argument.the-variants as Argument
 use Rattle.rules.specs.declared.Decoded.{Decoded}
 use Rattle.rules.specs.declared.Decoded.the-variants as Decoded
+use Rattle.rules.specs.declared.Sending.the-variants as Sending
 use Rattle.rules.specs.Row.{columns}
 use Rattle.rules.specs.Cell.{both, either, among}
-use Rattle.rules.specs.State.{awaiting, changed, gatheredAfter, setupAfter}
+use Rattle.rules.specs.State.{awaiting, sends, changed, sendingAfter, gatheredAfter, setupAfter}
 use Rattle.rules.specs.Arguments.{isAttribute, featurePlace, isKey, isLabel}
 use Rattle.rules.specs.Slot.{slotOk, slotEnd, slotMost, slotLow, isText, allText, textOk, textsOk}
-use Rattle.rules.specs.Possible.{powerOn, blank, unsplitOk, screenOk, attributesOk, featuresOk, pendingOk, rememberedOk, noStops, coreOk, setupOk, possible, good}
+use Rattle.rules.specs.Possible.{powerOn, blank, unsplitOk, screenOk, attributesOk, featuresOk, pendingOk, rememberedOk, sendingOk, noStops, coreOk, setupOk, possible, good}
 use Rattle.rules.specs.Decode.{lookup, idleRule, escapeRule, splitRule, digitRule, decimalRowRule, decimalColumnRule, slotRule, textRule, argumentRule, decodeRule}
 use Rattle.rules.specs.Send.{digit}
 use Rattle.rules.specs.Step.{Outcome, obeyed, innerRule, stepRule}
@@ -45,7 +46,7 @@ use Rattle.rules.proofs.Remembered.{attribute-reached}
 
 -- power-on with a sequence under way, and some bytes gathered
 abbrev waiting : Personality → Pending → List ℕ → State
-waiting m q g = record { core = awaiting (powerOn m .core) q; gathered = g; setup = powerOn m .setup }
+waiting m q g = record { core = awaiting (powerOn m .core) q; sending = Sending.Nothing; gathered = g; setup = powerOn m .setup }
 
 -- the bytes lead from a sequence to a sequence, each being awaited or gathered
 data Leads : List ℕ → Pending → List ℕ → Pending → List ℕ → Type 0 where
@@ -61,37 +62,37 @@ leads-append (gather h e x) y = gather h e (leads-append x y)
 
 good-waiting : (m : Personality) (q : Pending) (g : List ℕ) → pendingOk q g ≡ true → good blank (waiting m q g) ≡ true
 unfolding good possible coreOk setupOk blank powerOn columns noStops screenOk unsplitOk textsOk textOk allText attributesOk isAttribute featuresOk
-    featurePlace rememberedOk
+    featurePlace rememberedOk sendingOk
 good-waiting Personality.Wy50 q g e = both-true e refl
 good-waiting Personality.Wy60 q g e = both-true e refl
 
 abbrev quietly : State → Outcome
-quietly s = record { answer = 0; state = s; page = blank; reply = [] }
+quietly s = record { answer = 0; taken = true; state = s; page = blank; reply = [] }
 
 module _ (m : Personality) (q : Pending) (g : List ℕ) (b room : ℕ) (p : pendingOk q g ≡ true) (h : b < 128) where
   step-waits : {r : Pending} → decodeRule q b ≡ Decoded.Wait r → stepRule blank (waiting m q g) b room ≡ quietly (waiting m r g)
-  unfolding stepRule innerRule obeyed gatheredAfter setupAfter changed
+  unfolding stepRule innerRule obeyed sendingAfter gatheredAfter setupAfter changed
   step-waits e = rw (good-waiting m q g p, lt-ltb b 128 h, e)
 
   step-gathers : {x : Slot} {n : ℕ} → decodeRule q b ≡ Decoded.Gather x n b
       → stepRule blank (waiting m q g) b room ≡ quietly (waiting m (Pending.Text x (n + 1)) (set g n b))
-  unfolding stepRule innerRule obeyed gatheredAfter setupAfter changed
+  unfolding stepRule innerRule obeyed sendingAfter gatheredAfter setupAfter changed
   step-gathers e = rw (good-waiting m q g p, lt-ltb b 128 h, e)
 
-quiet-byte : (b : ℕ) (bs : List ℕ) (s t : State) (room : ℕ) → stepRule blank s b room ≡ quietly t
+quiet-byte : (b : ℕ) (bs : List ℕ) (s t : State) (room : ℕ) → sends (s .sending) ≡ false → stepRule blank s b room ≡ quietly t
     → (repeated (b ∷ bs) blank s room) .state ≡ (repeated bs blank t room) .state
 unfolding repeated joined
-quiet-byte b bs s t room e = rw (e, sub-zero)
+quiet-byte b bs s t room u e = rw (u, e, sub-zero)
 
 leads-run : (m : Personality) {a : List ℕ} {q z : Pending} {g l : List ℕ} (room : ℕ) → Leads a q g z l → pendingOk q g ≡ true
     → (repeated a blank (waiting m q g) room) .state ≡ waiting m z l
 unfolding decodedOk
 leads-run m room (stay {q} {g}) p = ap (λ (r : Ran). r .state) (run-done blank (waiting m q g) room)
 leads-run m room (wait {b} {bs} {q} {r} {z} {g} h e x) p =
-    quiet-byte b bs (waiting m q g) (waiting m r g) room (step-waits m q g b room p h e)
+    quiet-byte b bs (waiting m q g) (waiting m r g) room refl (step-waits m q g b room p h e)
     ∙ leads-run m room x (rw e at (decoded-ok q g b h p))
 leads-run m room (gather {b} {n} {bs} {x} {q} {z} {g} h e y) p =
-    quiet-byte b bs (waiting m q g) (waiting m (Pending.Text x (n + 1)) (set g n b)) room (step-gathers m q g b room p h e)
+    quiet-byte b bs (waiting m q g) (waiting m (Pending.Text x (n + 1)) (set g n b)) room refl (step-gathers m q g b room p h e)
     ∙ leads-run m room y (rw e at (decoded-ok q g b h p))
 
 -- nothing is gathered at power-on

@@ -1,7 +1,8 @@
 -- The relation between the pages of two terminals that noninterference keeps: a cell protected at the start holds in each terminal the
 -- number it had there, and any other cell holds one number in both.
 --     related-alike, related-cell, related-length     it holds at the start of pages that are alike; what it says of each cell
---     related-guards, related-open-text, related-reply, related-reply-length     what is read of two related pages agrees
+--     related-guards, related-bit, related-at, related-places     what is read of two related pages agrees
+--     left-conceals     a send but for ESC 6 and ESC 7 leaves no other
 --     related-write     a write that spares guarded cells keeps it
 -- Assumes nothing.
 use mathlib.Core.Path.{_≡_, refl, sym, ap, _∙_}
@@ -10,17 +11,26 @@ use mathlib.Core.List.{List, [], _∷_, _++_}
 use Prim.Native.Nat.{ℕ, zero, suc, _+_, _-_, _*_, _<_, suc-le-suc}
 use native.Mathlib.Nat.{suc-ne-zero, suc-inj}
 use native.Mathlib.Omega.{arith}
+use lib.Dec.{eqb}
 use lib.ListN.{length, getD, take, drop, take-append-drop, length-append, length-take, length-drop, length-replicate}
 use Rattle.rules.specs.declared.Write.{Write}
 use Rattle.rules.specs.declared.Write.the-variants as Write
-use Rattle.rules.specs.declared.Reply.{Reply}
-use Rattle.rules.specs.declared.Reply.the-variants as Reply
-use Rattle.rules.specs.Cell.{protected}
+use Rattle.rules.specs.declared.Core.{Core}
+use Rattle.rules.specs.declared.Short.{Short}
+use Rattle.rules.specs.declared.Short.the-variants as Short
+use Rattle.rules.specs.declared.Place.{Place}
+use Rattle.rules.specs.declared.Place.the-variants as Place
+use Rattle.rules.specs.declared.Sending.{Sending}
+use Rattle.rules.specs.declared.Sending.the-variants as Sending
+use Rattle.rules.specs.Cell.{pick, protected}
 use Rattle.rules.specs.Row.{rowEnd}
 use Rattle.rules.specs.Search.{marksBy, guardedAt, firstMark, firstIn, editEnd}
 use Rattle.rules.specs.Change.{within, fillCell, filled, shiftLeft, shiftRight, shifted, editShifted, columnFilled}
-use Rattle.rules.specs.Send.{leftOut, cellPlace, textPlaces, openCell, places, bytesOf, replied}
+use Rattle.rules.specs.State.{widthOf, cursorOf}
+use Rattle.rules.specs.Send.{Spot, openCell, shortReply, each, cellPlace, textPlaces, followsLeftOut, textAt, places, beyond, standing, leftFrom}
 use Rattle.rules.specs.Carry.{applied}
+use Rattle.rules.specs.Noninterference.{revealing}
+use Rattle.rules.proofs.Tests.{pick-if}
 
 -- p and q are the pages at the start, x and y the pages now
 pub data Related : List ℕ → List ℕ → List ℕ → List ℕ → Type 0 where
@@ -98,24 +108,31 @@ related-guards none = refl
 related-guards (secret u v h) = rw (u, v, related-guards h)
 related-guards (public u h) = rw (related-guards h)
 
--- the text without protected cells is the same
-related-text : (w n : ℕ) (after : Bool) {p q x y : List ℕ} → Related p q x y → textPlaces w true n after x ≡ textPlaces w true n after y
-unfolding textPlaces cellPlace
-related-text w n after none = refl
-related-text w zero after (secret u v h) = rw (u, v, related-text w (w - 1) true h)
-related-text w (suc n) after (secret u v h) = rw (u, v, related-text w n true h)
-related-text w zero after (public {a} {c} u h) = rw (related-text w (w - 1) (protected c) h)
-related-text w (suc n) after (public {a} {c} u h) = rw (related-text w n (protected c) h)
+-- the protected bits are the same
+pub related-bit : (i : ℕ) {p q x y : List ℕ} → Related p q x y → protected (getD x i 0) ≡ protected (getD y i 0)
+related-bit i none = refl
+related-bit zero (secret u v h) = u ∙ sym v
+related-bit zero (public u h) = refl
+related-bit (suc i) (secret u v h) = related-bit i h
+related-bit (suc i) (public u h) = related-bit i h
 
--- the text with all cells is as long
-related-all : (w n : ℕ) {p q x y : List ℕ} → Related p q x y
-    → length (bytesOf (textPlaces w false n false x)) ≡ length (bytesOf (textPlaces w false n false y))
-unfolding textPlaces cellPlace bytesOf
-related-all w n none = refl
-related-all w zero (secret u v h) = rw (related-all w (w - 1) h)
-related-all w (suc n) (secret u v h) = rw (related-all w n h)
-related-all w zero (public u h) = rw (related-all w (w - 1) h)
-related-all w (suc n) (public u h) = rw (related-all w n h)
+-- the text without protected cells is the same
+related-text : (w : ℕ) (segment : Bool) (n : ℕ) (after : Bool) (i : ℕ) {p q x y : List ℕ} → Related p q x y
+    → textPlaces w false segment n after i x ≡ textPlaces w false segment n after i y
+unfolding textPlaces cellPlace
+related-text w segment n after i none = refl
+related-text w segment zero after i (secret u v h) = rw (u, v, related-text w segment (w - 1) true (suc i) h)
+related-text w segment (suc n) after i (secret u v h) = rw (u, v, related-text w segment n true (suc i) h)
+related-text w segment zero after i (public {a} {c} u h) = rw (related-text w segment (w - 1) (protected c) (suc i) h)
+related-text w segment (suc n) after i (public {a} {c} u h) = rw (related-text w segment n (protected c) (suc i) h)
+
+-- from any place, protect mode on or off
+pub related-at : (w e : ℕ) (segment : Bool) (k : Place) {p q x y : List ℕ} → Related p q x y → textAt w x e false segment k ≡ textAt w y e false segment k
+unfolding textAt followsLeftOut
+related-at w e segment (Place.Cell i) h =
+    rw (related-bit (i - 1) h) (related-text w segment _ _ i (related-take (e - i) (related-drop i h)))
+related-at w e segment (Place.Break i) h = related-text w segment 0 false i (related-take (e - i) (related-drop i h))
+related-at w e segment Place.Return h = refl
 
 -- an open cell is the same
 related-open : (i : ℕ) {p q x y : List ℕ} → Related p q x y → openCell true (getD x i 0) ≡ openCell true (getD y i 0)
@@ -126,52 +143,71 @@ related-open zero (public u h) = refl
 related-open (suc i) (secret u v h) = related-open i h
 related-open (suc i) (public u h) = related-open i h
 
--- a reply that leaves out guarded cells
-abbrev pub conceals : Reply → Bool
-conceals Reply.Nothing = true
-conceals Reply.Acknowledge = true
-conceals (Reply.Identity m) = true
-conceals (Reply.Address r c) = true
-conceals (Reply.SegmentAddress n r c) = true
-conceals (Reply.Decimal r c) = true
-conceals (Reply.Cell at) = true
-conceals (Reply.Text true a e) = false
-conceals (Reply.Text false a e) = true
+-- `on` is protect mode: `rw` of a core's own field would rewrite the core
+related-cell-reply : (on : Bool) (i : ℕ) → on ≡ true → {p q x y : List ℕ} → Related p q x y → openCell on (getD x i 0) ≡ openCell on (getD y i 0)
+related-cell-reply on i e h = rw e (related-open i h)
 
--- the text of ESC 4 and ESC 5 is the same, protect mode on or off
-pub related-open-text : (w : ℕ) (on : Bool) (a e : ℕ) {p q x y : List ℕ} → Related p q x y
-    → replied w on x (Reply.Text false a e) ≡ replied w on y (Reply.Text false a e)
-unfolding places replied
-related-open-text w on a e h = ap bytesOf (related-text w w false (related-take (e - a) (related-drop a h)))
+related-short : (c : Core) (r : Short) → c .modes .protect ≡ true → {p q x y : List ℕ} → Related p q x y → shortReply x c r ≡ shortReply y c r
+unfolding shortReply
+related-short c Short.Acknowledge e h = refl
+related-short c Short.Cell e h = related-cell-reply (c .modes .protect) (cursorOf (c .screen)) e h
+related-short c Short.Identity e h = refl
+related-short c Short.Cursor e h = refl
+related-short c Short.SegmentCursor e h = refl
+related-short c Short.DecimalCursor e h = refl
 
--- its places are the same
-related-places : (w : ℕ) (r : Reply) → conceals r ≡ true → {p q x y : List ℕ} → Related p q x y → places w true x r ≡ places w true y r
+-- a send but for ESC 6 and ESC 7 has the same places
+pub related-places : (c : Core) (s : Sending) → c .modes .protect ≡ true → revealing s ≡ false → {p q x y : List ℕ} → Related p q x y
+    → places x c s ≡ places y c s
 unfolding places
-related-places w Reply.Nothing e h = refl
-related-places w Reply.Acknowledge e h = refl
-related-places w (Reply.Identity m) e h = refl
-related-places w (Reply.Address r c) e h = refl
-related-places w (Reply.SegmentAddress n r c) e h = refl
-related-places w (Reply.Decimal r c) e h = refl
-related-places w (Reply.Cell at) e h = rw (related-open at h)
-related-places w (Reply.Text true a e) c h = absurd (false≢true c)
-related-places w (Reply.Text false a e) c h = related-text w w false (related-take (e - a) (related-drop a h))
+related-places c Sending.Nothing on e h = refl
+related-places c (Sending.Short r n) on e h = ap (λ (l : List ℕ). each r n (drop n l)) (related-short c r on h)
+related-places c (Sending.Text true segment k) on e h = absurd (false≢true (sym e))
+related-places c (Sending.Text false segment k) on e h = related-at (widthOf (c .screen)) (cursorOf (c .screen) + 1) segment k h
 
-pub related-reply : (w : ℕ) (r : Reply) → conceals r ≡ true → {p q x y : List ℕ} → Related p q x y → replied w true x r ≡ replied w true y r
-unfolding replied
-related-reply w r e h = ap bytesOf (related-places w r e h)
+-- ---- a send stays what it is
 
--- any reply fits the room of both terminals or of neither
-pub related-reply-length : (w : ℕ) (r : Reply) {p q x y : List ℕ} → Related p q x y → length (replied w true x r) ≡ length (replied w true y r)
-related-reply-length w Reply.Nothing h = ap length (related-reply w Reply.Nothing refl h)
-related-reply-length w Reply.Acknowledge h = ap length (related-reply w Reply.Acknowledge refl h)
-related-reply-length w (Reply.Identity m) h = ap length (related-reply w (Reply.Identity m) refl h)
-related-reply-length w (Reply.Address r c) h = ap length (related-reply w (Reply.Address r c) refl h)
-related-reply-length w (Reply.SegmentAddress n r c) h = ap length (related-reply w (Reply.SegmentAddress n r c) refl h)
-related-reply-length w (Reply.Decimal r c) h = ap length (related-reply w (Reply.Decimal r c) refl h)
-related-reply-length w (Reply.Cell at) h = ap length (related-reply w (Reply.Cell at) refl h)
-related-reply-length w (Reply.Text true a e) h = unfold replied places in related-all w w (related-take (e - a) (related-drop a h))
-related-reply-length w (Reply.Text false a e) h = ap length (related-reply w (Reply.Text false a e) refl h)
+data Concealing : List Spot → Type 0 where
+  none : Concealing []
+  more : {x : Spot} {l : List Spot} → revealing (x .from) ≡ false → Concealing l → Concealing (x ∷ l)
+
+conceal-text : (w : ℕ) (segment : Bool) (n : ℕ) (after : Bool) (i : ℕ) (l : List ℕ) → Concealing (textPlaces w false segment n after i l)
+unfolding textPlaces
+conceal-text w segment n after i [] = more refl none
+conceal-text w segment zero after i (v ∷ l) = more refl (more refl (conceal-text w segment (w - 1) _ (suc i) l))
+conceal-text w segment (suc n) after i (v ∷ l) = more refl (conceal-text w segment n _ (suc i) l)
+
+conceal-each : (r : Short) (n : ℕ) (l : List ℕ) → Concealing (each r n l)
+unfolding each
+conceal-each r n [] = none
+conceal-each r n (b ∷ l) = more refl (conceal-each r (suc n) l)
+
+conceal-at : (w e : ℕ) (p : List ℕ) (segment : Bool) (k : Place) → Concealing (textAt w p e false segment k)
+unfolding textAt
+conceal-at w e p segment (Place.Cell i) = conceal-text w segment _ _ i _
+conceal-at w e p segment (Place.Break i) = conceal-text w segment _ _ i _
+conceal-at w e p segment Place.Return = more refl none
+
+conceal-places : (p : List ℕ) (c : Core) (s : Sending) → revealing s ≡ false → Concealing (places p c s)
+unfolding places
+conceal-places p c Sending.Nothing e = none
+conceal-places p c (Sending.Short r n) e = conceal-each r n _
+conceal-places p c (Sending.Text true segment k) e = absurd (false≢true (sym e))
+conceal-places p c (Sending.Text false segment k) e = conceal-at _ _ p segment k
+
+conceal-beyond : {l : List Spot} → Concealing l → (n : ℕ) → Concealing (beyond n l)
+unfolding beyond
+conceal-beyond none n = none
+conceal-beyond (more {x} e h) n = pick-if Concealing (eqb n 0) (λ t. more e h) (λ t. conceal-beyond h (n - length (x .gives)))
+
+conceal-standing : {l : List Spot} → Concealing l → revealing (standing l) ≡ false
+unfolding standing
+conceal-standing none = refl
+conceal-standing (more e h) = e
+
+pub left-conceals : (p : List ℕ) (c : Core) (s : Sending) (room : ℕ) → revealing s ≡ false → revealing (leftFrom p c s room) ≡ false
+unfolding leftFrom
+left-conceals p c s room e = conceal-standing (conceal-beyond (conceal-places p c s e) room)
 
 -- ---- what is written
 

@@ -8,14 +8,14 @@ use Prim.Native.Nat.{ℕ}
 use Rattle.rules.specs.declared.State.{State}
 use Rattle.rules.specs.Cell.{pick, either}
 use Rattle.rules.specs.State.{widthOf}
-use Rattle.rules.specs.Step.{stepRule}
+use Rattle.rules.specs.Step.{unheard, stepRule}
 use Rattle.rules.specs.Calls.{Call, Step, Run, Called, runRule, ended, ofStep, ofRun, callRule, Given, after, play}
 use Rattle.rules.specs.Noninterference.{callCompletes, anyCompleted}
 use Rattle.rules.specs.RowList.{rowList, rowsOf, agrees}
 use Rattle.rules.specs.RowCalls.{stepRowsRule, runRowsRule, rowsAfter, canRebuild, Session, RowCall, Bare, ListStep, ListRun, Rebuild, RowCalled, left, rowCallRule, RowPlayed, rowAfter, rowPlay, bareCall, bareCalls, RowDemand3}
 use Rattle.rules.proofs.Related.{Related}
 use Rattle.rules.proofs.RowSteps.{call-leaves}
-use Rattle.rules.proofs.Noninterference.{protects, guards-agree, good-agrees, AgreeCall, call-agrees, either-left, either-right, start-related, related-kept}
+use Rattle.rules.proofs.Noninterference.{protects, Closed, guards-agree, good-agrees, AgreeCall, call-agrees, either-left, either-right, start-related, related-kept}
 
 record AgreeRows (p q : List ℕ) (a b : RowCalled) : Type 0 where
   called : AgreeCall p q (a .called) (b .called)
@@ -30,35 +30,35 @@ first-completes : (c : Call) (cs : List Call) (p : List ℕ) (s : State) → any
 unfolding anyCompleted
 first-completes c cs p s e = (either-left (callCompletes p s c) _ e, either-right (callCompletes p s c) _ e)
 
-module _ {p q x y : List ℕ} (h : Related p q x y) (l : List ℕ) (s : State) (on : protects s ≡ true) where
+module _ {p q x y : List ℕ} (h : Related p q x y) (l : List ℕ) (s : State) (closed : Closed s) where
   rows-agree : rowsOf x s ≡ rowsOf y s
-  rows-agree = ap (rowList (widthOf (s .core .screen))) (guards-agree (protects s) on h)
+  rows-agree = ap (rowList (widthOf (s .core .screen))) (guards-agree (protects s) (closed .on) h)
 
   -- the list is that of the page and the state left
   left-rows : {a b : Called} → AgreeCall p q a b → rowsOf (a .page) (a .given .state) ≡ rowsOf (b .page) (b .given .state)
   left-rows {a} {b} k =
-      ap (rowList (widthOf (a .given .state .core .screen))) (guards-agree (protects (a .given .state)) (k .on) (k .related))
+      ap (rowList (widthOf (a .given .state .core .screen))) (guards-agree (protects (a .given .state)) (k .closed .on) (k .related))
       ∙ ap (λ (g : Given). rowsOf (b .page) (g .state)) (sym (k .given))
 
   -- a call with the list: t says whether it agrees
   taken-agrees : (c : Call) → callCompletes x s c ≡ false
       → AgreeRows p q (record { called = callRule x s c; rows = rowsOf (callRule x s c .page) (callRule x s c .given .state) })
       (record { called = callRule y s c; rows = rowsOf (callRule y s c .page) (callRule y s c .given .state) })
-  taken-agrees c e = let k = call-agrees h s on c e in record { called = k; rows = left-rows k }
+  taken-agrees c e = let k = call-agrees h s closed c e in record { called = k; rows = left-rows k }
 
   call-with : (c : RowCall) → anyCompleted (bareCall (session x l s) c) x s ≡ false
       → AgreeRows p q (rowCallRule (session x l s) c) (rowCallRule (session y l s) c)
   unfolding rowCallRule bareCall rowsAfter canRebuild stepRowsRule runRowsRule callRule ofStep ofRun
-  call-with (Bare c) e = record { called = call-agrees h s on c (first-completes c [] x s e .0); rows = refl }
+  call-with (Bare c) e = record { called = call-agrees h s closed c (first-completes c [] x s e .0); rows = refl }
   call-with (ListStep b room) e = rw (← rows-agree) (by (agrees l x s) e)
     where
       by : (t : Bool) → anyCompleted (pick t (Step b room ∷ []) []) x s ≡ false
-          → let a = ofStep (pick t (stepRule x s b room) (record { answer = 7; state = s; page = x; reply = [] })) in
-          let d = ofStep (pick t (stepRule y s b room) (record { answer = 7; state = s; page = y; reply = [] })) in
+          → let a = ofStep (pick t (stepRule x s b room) (unheard 7 x s)) in
+          let d = ofStep (pick t (stepRule y s b room) (unheard 7 y s)) in
           AgreeRows p q (record { called = a; rows = pick t (rowsOf (a .page) (a .given .state)) l })
           (record { called = d; rows = pick t (rowsOf (d .page) (d .given .state)) l })
       by true e = taken-agrees (Step b room) (first-completes (Step b room) [] x s e .0)
-      by false e = record { called = record { given = refl; related = h; on = on }; rows = refl }
+      by false e = record { called = record { given = refl; related = h; closed = closed }; rows = refl }
   call-with (ListRun bytes room) e = rw (← rows-agree) (by (agrees l x s) e)
     where
       by : (t : Bool) → anyCompleted (pick t (Run bytes room ∷ []) []) x s ≡ false
@@ -67,8 +67,8 @@ module _ {p q x y : List ℕ} (h : Related p q x y) (l : List ℕ) (s : State) (
           AgreeRows p q (record { called = a; rows = pick t (rowsOf (a .page) (a .given .state)) l })
           (record { called = d; rows = pick t (rowsOf (d .page) (d .given .state)) l })
       by true e = taken-agrees (Run bytes room) (first-completes (Run bytes room) [] x s e .0)
-      by false e = record { called = record { given = refl; related = h; on = on }; rows = refl }
-  call-with Rebuild e = rw (← rows-agree, ← (good-agrees h s on)) (record { called = record { given = refl; related = h; on = on }; rows = refl })
+      by false e = record { called = record { given = refl; related = h; closed = closed }; rows = refl }
+  call-with Rebuild e = rw (← rows-agree, ← (good-agrees h s closed)) (record { called = record { given = refl; related = h; closed = closed }; rows = refl })
 
 -- what two lists of calls come to
 any-append : (a b : List Call) (p : List ℕ) (s : State) → anyCompleted (a ++ b) p s ≡ false
@@ -90,24 +90,24 @@ record AgreeRowPlay (p q : List ℕ) (a b : RowPlayed) : Type 0 where
   state : a .session .state ≡ b .session .state
   related : Related p q (a .session .page) (b .session .page)
 
-row-play-agrees : (cs : List RowCall) {p q x y : List ℕ} → Related p q x y → (l : List ℕ) (s : State) → protects s ≡ true
+row-play-agrees : (cs : List RowCall) {p q x y : List ℕ} → Related p q x y → (l : List ℕ) (s : State) → Closed s
     → anyCompleted (bareCalls cs (session x l s)) x s ≡ false → AgreeRowPlay p q (rowPlay cs (session x l s)) (rowPlay cs (session y l s))
 unfolding rowPlay bareCalls rowAfter
-row-play-agrees [] h l s on e = record { given = refl; lists = refl; rows = refl; state = refl; related = h }
-row-play-agrees (c ∷ cs) {x = x} h l s on e =
+row-play-agrees [] h l s closed e = record { given = refl; lists = refl; rows = refl; state = refl; related = h }
+row-play-agrees (c ∷ cs) {x = x} h l s closed e =
     let r = rowCallRule (session x l s) c in
     let n = any-append (bareCall (session x l s) c) (bareCalls cs (left r)) x s e in
     let k = call-leaves (session x l s) c in
-    let a = call-with h l s on c (n .0) in
+    let a = call-with h l s closed c (n .0) in
     let rest : anyCompleted (bareCalls cs (left r)) (r .called .page) (r .called .given .state) ≡ false =
     ap₂ (λ (p : List ℕ) (s : State). anyCompleted (bareCalls cs (left r)) p s) (k .page) (k .state) ∙ n .1 in
-    let b = row-play-agrees cs (a .called .related) (r .rows) (r .called .given .state) (a .called .on) rest in
+    let b = row-play-agrees cs (a .called .related) (r .rows) (r .called .given .state) (a .called .closed) rest in
     rw (a .called .given, ← (a .rows))
     record { given = rw (b .given); lists = rw (b .lists); rows = b .rows; state = b .state; related = b .related }
 
 pub row-noninterference : RowDemand3
-row-noninterference p q l s calls on alike e =
-    let a = row-play-agrees calls (start-related p q alike) l s on e in
+row-noninterference p q l s calls on conceals alike e =
+    let a = row-play-agrees calls (start-related p q alike) l s record { on = on; conceals = conceals } e in
     record {
       calls = record { given = a .given; state = a .state; pages = related-kept (a .related) };
       lists = a .lists;

@@ -6,9 +6,9 @@ use mathlib.Core.Bool.{Bool, true, false, false≢true}
 use mathlib.Core.List.{List, [], _∷_}
 use Prim.Native.Nat.{ℕ, _≤_}
 use native.Mathlib.Omega.{arith}
-use lib.Dec.{ltb, leb, eqb}
+use lib.Dec.{ltb, eqb}
 use lib.ListN.{length, getD, take}
-use borrow.Author.Tests.{le-leb, ltb-false, eqb-true}
+use borrow.Author.Tests.{ltb-false, eqb-true}
 use Rattle.rules.specs.declared.Answer.the-variants as Answer
 use Rattle.rules.specs.declared.Core.{Core}
 use Rattle.rules.specs.declared.Setup.{Setup}
@@ -43,18 +43,19 @@ use Rattle.rules.specs.declared.Decoded.{Decoded}
 use Rattle.rules.specs.declared.Decoded.the-variants as Decoded
 use Rattle.rules.specs.Cell.{pick, both, either}
 use Rattle.rules.specs.Search.{guardedAt}
-use Rattle.rules.specs.State.{cursorOf, idle, changed, stored, setupAfter}
+use Rattle.rules.specs.State.{cursorOf, idle, isIdle, sends, changed, stored, setupAfter}
 use Rattle.rules.specs.Arguments.{isKey, isLabel}
 use Rattle.rules.specs.Slot.{slotEnd, slotMost, slotLow, isText}
 use Rattle.rules.specs.Possible.{powerOn, good}
 use Rattle.rules.specs.Decode.{lookup, controls, escapes, idleRule, escapeRule, judged, featureRule, fieldRule, splitRule, digitRule, decimalRowRule, decimalColumnRule, slotRule, textRule, spoiltRule, argumentRule, decodeRule}
 use Rattle.rules.specs.Plan.{unlessGuarded, reversePlan, downPlan, addressPlan, movePlan, activate, windowPlan, advancing, storePlan, takesCell, attributePlan, rowEditPlan, editPlan, clearPlan, settingPlan, sendPlan, excludedPlan, planRule}
-use Rattle.rules.specs.Send.{places, bytesOf, replied}
-use Rattle.rules.specs.Carry.{Effect, replyOf, done, carried}
-use Rattle.rules.specs.Step.{obeyed, innerRule, stepRule}
+use Rattle.rules.specs.Carry.{Effect, done, begun, carried}
+use Rattle.rules.specs.Step.{obeyed, innerRule, Outcome, goesOn, stepInside, stepRule}
 use Rattle.rules.specs.Calls.{ofPress, callRule}
 use Rattle.rules.specs.ShiftedLine.{lineAfter, slotAwaited, upperText, upperUnderWay, ShiftedLine}
 use Rattle.rules.proofs.Tests.{pick-if}
+use Rattle.rules.proofs.Sends.{sending-idle}
+use Rattle.rules.proofs.Kept.{possible-parts, good-parts}
 use Rattle.rules.proofs.Decoding.{entriesOk, looked-up}
 
 -- ---- no command but a setting changes the set-up
@@ -157,18 +158,20 @@ decodedLine g t (Decoded.Do d) = commandLine d t
 
 module _ (p : List ℕ) (c : Core) (g : List ℕ) (u : Setup) (room : ℕ) where
   still-carried : (x : Plan) → Still x → setupAfter (carried p c x room .change) g u .shifted ≡ u .shifted
-  unfolding carried done setupAfter changed
+  unfolding carried begun done setupAfter changed
   still-carried x h =
-      pick-if (λ (e : Effect). setupAfter (e .change) g u .shifted ≡ u .shifted) (leb (length (replyOf (c .modes .protect) p x)) room)
-      (λ e. rw h) (λ e. refl)
+      pick-if P (sends (x .reply)) (λ d. pick-if P (eqb room 0) (λ e. refl) (λ e. refl)) (λ d. rw h)
+    where
+      P : Effect → Type 0
+      P e = setupAfter (e .change) g u .shifted ≡ u .shifted
 
   setting-line : (x : Setting) → setupAfter (carried p c (settingPlan (idle c) x) room .change) g u .shifted ≡ settingLine x (u .shifted)
-  unfolding settingPlan carried done places bytesOf replied setupAfter changed
-  setting-line (Setting.Tab b) = rw (le-leb 0 room (omega arith))
-  setting-line Setting.ClearTabs = rw (le-leb 0 room (omega arith))
-  setting-line (Setting.Attribute n a) = rw (le-leb 0 room (omega arith))
-  setting-line (Setting.Feature f) = rw (le-leb 0 room (omega arith))
-  setting-line Setting.HideLine = rw (le-leb 0 room (omega arith))
+  unfolding settingPlan carried done setupAfter changed
+  setting-line (Setting.Tab b) = refl
+  setting-line Setting.ClearTabs = refl
+  setting-line (Setting.Attribute n a) = refl
+  setting-line (Setting.Feature f) = refl
+  setting-line Setting.HideLine = refl
 
   still-store : (g : List Bool) (k : Contents) (a : ℕ) → Still (storePlan g (idle c) k a)
   unfolding storePlan unlessGuarded advancing
@@ -358,16 +361,47 @@ module _ (g : List ℕ) (t : Bool) where
   high-line q b h =
       rw (not-equal b 0x7f (λ e. omega (arith, e)), not-equal b 0x0d (λ e. omega (arith, e)), both-none (slotAwaited q), both-none (upperUnderWay q g))
 
-step-line : (p : List ℕ) (s : State) (b room : ℕ) → good p s ≡ true
-    → stepRule p s b room .state .setup .shifted ≡ lineAfter (s .core .pending) (s .gathered) b (s .setup .shifted)
-unfolding stepRule innerRule setupAfter changed
-step-line p s b room h =
-    rw h (pick-if
+byte-line : (p : List ℕ) (s : State) (b room : ℕ)
+    → setupAfter (innerRule p (s .core) (s .setup .tabs) b room .change) (s .gathered) (s .setup) .shifted
+    ≡ lineAfter (s .core .pending) (s .gathered) b (s .setup .shifted)
+unfolding innerRule setupAfter changed
+byte-line p s b room =
+    pick-if
     (λ (e : Effect). setupAfter (e .change) (s .gathered) (s .setup) .shifted ≡ lineAfter (s .core .pending) (s .gathered) b (s .setup .shifted))
     (ltb b 128)
     (λ e. obeyed-line p (s .core) (s .gathered) (s .setup) room (s .setup .tabs) (decodeRule (s .core .pending) b)
     ∙ decoded-line (s .gathered) (s .setup .shifted) (s .core .pending) b)
-    (λ e. high-line (s .gathered) (s .setup .shifted) (s .core .pending) b (ltb-false b 128 e)))
+    (λ e. high-line (s .gathered) (s .setup .shifted) (s .core .pending) b (ltb-false b 128 e))
+
+-- no sequence is under way
+idle-is : (q : Pending) (g : List ℕ) (b : ℕ) (t : Bool) → isIdle q ≡ true → t ≡ lineAfter q g b t
+idle-is Pending.Idle g b t e = refl
+idle-is Pending.Escape g b t e = refl
+idle-is (Pending.Awaits a) g b t e = absurd (false≢true e)
+idle-is (Pending.AddressRow r) g b t e = refl
+idle-is (Pending.SegmentNumber n) g b t e = refl
+idle-is (Pending.SegmentRow n r) g b t e = refl
+idle-is (Pending.DecimalRow n row) g b t e = refl
+idle-is (Pending.DecimalColumn row n column) g b t e = refl
+idle-is (Pending.FieldNumber n) g b t e = refl
+idle-is (Pending.Text x n) g b t e = absurd (false≢true e)
+idle-is (Pending.Spoilt x) g b t e = refl
+
+-- inside a send any byte waits
+inside-line : (p : List ℕ) (s : State) (b room : ℕ) → good p s ≡ true → sends (s .sending) ≡ true
+    → stepInside p s room .state .setup .shifted ≡ lineAfter (s .core .pending) (s .gathered) b (s .setup .shifted)
+unfolding stepInside goesOn
+inside-line p s b room h u =
+    let w = possible-parts s (good-parts p s h .1) in
+    let e = idle-is (s .core .pending) (s .gathered) b (s .setup .shifted) (sending-idle (s .core .screen) (s .core .pending) (s .sending) (w .sending) u) in
+    pick-if (λ (o : Outcome). o .state .setup .shifted ≡ lineAfter (s .core .pending) (s .gathered) b (s .setup .shifted)) (eqb room 0) (λ z. e) (λ z. e)
+
+step-line : (p : List ℕ) (s : State) (b room : ℕ) → good p s ≡ true
+    → stepRule p s b room .state .setup .shifted ≡ lineAfter (s .core .pending) (s .gathered) b (s .setup .shifted)
+unfolding stepRule
+step-line p s b room h =
+    rw h (pick-if (λ (o : Outcome). o .state .setup .shifted ≡ lineAfter (s .core .pending) (s .gathered) b (s .setup .shifted)) (sends (s .sending))
+    (inside-line p s b room h) (λ u. byte-line p s b room))
 
 pub shifted-line : ShiftedLine
 unfolding stepRule callRule ofPress powerOn

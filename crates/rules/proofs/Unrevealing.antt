@@ -34,20 +34,21 @@ use Rattle.rules.specs.declared.Write.{Write}
 use Rattle.rules.specs.Cell.{pick, both}
 use Rattle.rules.specs.State.{number, withMode}
 use Rattle.rules.specs.Plan.{unlessGuarded, scrolls, reversePlan, downPlan, addressPlan, movePlan, activate, windowPlan, storing, advancing, storePlan, attributePlan, rowEditPlan, editPlan, clearPlan, settingPlan, sendPlan, excludedPlan, planRule}
-use Rattle.rules.proofs.Related.{spares, conceals}
+use Rattle.rules.specs.Noninterference.{revealing}
+use Rattle.rules.proofs.Related.{spares}
 
 -- protect mode stays on, no guarded cell is written to, and none is replied
 pub record Unrevealing (x : Plan) : Type 0 where
   pub on : x .next .modes .protect ≡ true
   pub first : spares (x .first) ≡ true
   pub second : spares (x .second) ≡ true
-  pub reply : conceals (x .reply) ≡ true
+  pub reply : revealing (x .reply) ≡ false
 
 pick-unrevealing : (t : Bool) {x y : Plan} → Unrevealing x → Unrevealing y → Unrevealing (pick t x y)
 pick-unrevealing true a b = a
 pick-unrevealing false a b = b
 
-plan-unrevealing : (x : Plan) → x .next .modes .protect ≡ true → spares (x .first) ≡ true → spares (x .second) ≡ true → conceals (x .reply) ≡ true
+plan-unrevealing : (x : Plan) → x .next .modes .protect ≡ true → spares (x .first) ≡ true → spares (x .second) ≡ true → revealing (x .reply) ≡ false
     → Unrevealing x
 plan-unrevealing x on a b r = record { on = on; first = a; second = b; reply = r }
 

@@ -2,17 +2,23 @@
 use mathlib.Core.Path.{_≡_}
 use mathlib.Core.Bool.{Bool, true, false, not}
 use mathlib.Core.List.{List, [], _∷_, _++_, map}
-use Prim.Native.Nat.{ℕ, suc}
+use Prim.Native.Nat.{ℕ, zero, suc}
 use lib.Dec.{eqb}
 use lib.ListN.{getD, take, replicate}
 use Rattle.rules.specs.declared.State.{State}
 use Rattle.rules.specs.declared.Screen.{Screen}
 use Rattle.rules.specs.declared.Modes.{Modes}
 use Rattle.rules.specs.declared.Personality.the-variants as Personality
+use Rattle.rules.specs.declared.Short.{Short}
+use Rattle.rules.specs.declared.Short.the-variants as Short
+use Rattle.rules.specs.declared.Place.{Place}
+use Rattle.rules.specs.declared.Place.the-variants as Place
+use Rattle.rules.specs.declared.Sending.{Sending}
+use Rattle.rules.specs.declared.Sending.the-variants as Sending
 use Rattle.rules.specs.Cell.{pick, both, same}
 use Rattle.rules.specs.State.{cursorOf, shortBytes, labelPlace}
 use Rattle.rules.specs.Possible.{powerOn, blank}
-use Rattle.rules.specs.Calls.{Call, Step, Press, Given, Played, play}
+use Rattle.rules.specs.Calls.{Call, Step, Run, Press, Given, Played, play}
 
 -- the power-on states of the two personalities
 abbrev pub wy50 : State
@@ -45,6 +51,8 @@ pub data Claim : Type 0 where
   Message : List ℕ → Claim
   Label : ℕ → List ℕ → Claim
   Shifted : Bool → Claim
+  -- the send under way
+  Stands : Sending → Claim
 
 unfoldable pub replies : List Given → List ℕ
 replies [] = []
@@ -76,6 +84,25 @@ unfoldable pub stopsFrom : ℕ → List Bool → List ℕ
 stopsFrom at [] = []
 stopsFrom at (b ∷ l) = pick b (at ∷ []) [] ++ stopsFrom (suc at) l
 
+-- a send, as numbers: which reply, and its place
+abbrev pub shortNumber : Short → ℕ
+shortNumber Short.Acknowledge = 0
+shortNumber Short.Cell = 1
+shortNumber Short.Identity = 2
+shortNumber Short.Cursor = 3
+shortNumber Short.SegmentCursor = 4
+shortNumber Short.DecimalCursor = 5
+
+abbrev pub placeNumbers : Place → List ℕ
+placeNumbers (Place.Cell i) = 0 ∷ i ∷ []
+placeNumbers (Place.Break i) = 1 ∷ i ∷ []
+placeNumbers Place.Return = 2 ∷ []
+
+unfoldable pub sendNumbers : Sending → List ℕ
+sendNumbers Sending.Nothing = []
+sendNumbers (Sending.Short r n) = shortNumber r ∷ n ∷ []
+sendNumbers (Sending.Text all segment k) = bit all ∷ bit segment ∷ 9 ∷ placeNumbers k
+
 unfoldable pub holds : Played → Claim → Bool
 holds r (Cell i v) = eqb (getD (r .page) i 0) v
 holds r (Cursor c) = eqb (cursorOf (r .state .core .screen)) c
@@ -93,6 +120,7 @@ holds r (Remembered a) = eqb (r .state .core .attribute) a
 holds r (Message l) = same (take (r .state .setup .message .len) (r .state .setup .message .bytes)) l
 holds r (Label v l) = same (shortBytes (getD (r .state .setup .labels) (labelPlace v) record { len = 0; bytes = [] })) l
 holds r (Shifted b) = pick b (r .state .setup .shifted) (not (r .state .setup .shifted))
+holds r (Stands x) = same (sendNumbers (r .state .sending)) (sendNumbers x)
 
 unfoldable pub allHold : Played → List Claim → Bool
 allHold r [] = true
@@ -115,6 +143,14 @@ host bytes = map (λ b. Step b 1944) bytes
 -- ESC ) and two letters, ESC ( and ESC &, CR, 08h
 unfoldable pub label : ℕ → ℕ → List ℕ
 label a b = 0x1b ∷ 0x29 ∷ a ∷ b ∷ 0x1b ∷ 0x28 ∷ 0x1b ∷ 0x26 ∷ 0x0d ∷ 0x08 ∷ []
+
+-- the text of a blank page: 24 rows of spaces with US between them
+unfoldable pub rowsOfSpaces : ℕ → List ℕ
+rowsOfSpaces zero = replicate 80 0x20
+rowsOfSpaces (suc n) = replicate 80 0x20 ++ 0x1f ∷ rowsOfSpaces n
+
+unfoldable pub wholePage : List ℕ
+wholePage = rowsOfSpaces 23
 
 unfoldable pub table : List Case
 table =
@@ -145,6 +181,10 @@ table =
     -- 10: ESC x 1 2Ch, ESC }, ESC /; ESC = 2Ch 20h
     ∷ from-power-on (host (0x1b ∷ 0x78 ∷ 0x31 ∷ 0x2c ∷ 0x1b ∷ 0x7d ∷ 0x1b ∷ 0x2f ∷ 0x1b ∷ 0x3d ∷ 0x2c ∷ 0x20 ∷ []))
     (Replies (0x31 ∷ 0x20 ∷ 0x20 ∷ 0x0d ∷ []) ∷ Answers (replicate 11 0 ++ 3 ∷ []) ∷ [])
+    -- 12, amended by request A9: ESC 7 at the last cell of a blank page. 1,944 bytes; in a room of 1,943 all but the CR, and then that
+    ∷ from-power-on (host (0x1b ∷ 0x3d ∷ 0x37 ∷ 0x6f ∷ 0x1b ∷ 0x37 ∷ [])) (Replies (wholePage ++ 0x0d ∷ []) ∷ Answers (replicate 6 0) ∷ [])
+    ∷ from-power-on (Run (0x1b ∷ 0x3d ∷ 0x37 ∷ 0x6f ∷ 0x1b ∷ 0x37 ∷ []) 1943 ∷ []) (Replies wholePage ∷ Answers (0 ∷ []) ∷ [])
+    ∷ from-power-on (Run (0x1b ∷ 0x3d ∷ 0x37 ∷ 0x6f ∷ 0x1b ∷ 0x37 ∷ []) 1943 ∷ Run [] 1 ∷ []) (Replies (wholePage ++ 0x0d ∷ []) ∷ Answers (0 ∷ 0 ∷ []) ∷ [])
     ∷ []
 
 -- the statement

@@ -23,10 +23,11 @@ callCases =
     -- a byte that breaks ESC a is consumed, ESC too
     ∷ from-power-on (host (0x1b ∷ 0x61 ∷ 0x1b ∷ 0x3f ∷ [])) (Answers (0 ∷ 0 ∷ 3 ∷ 0 ∷ []) ∷ Cell 0 0x3f ∷ [])
     -- no room: 6, nothing changed, and the byte may come again
-    ∷ from-power-on (Step 0x1b 2 ∷ Step 0x3f 2 ∷ Step 0x3f 3 ∷ []) (Answers (0 ∷ 6 ∷ 0 ∷ []) ∷ Replies (0x20 ∷ 0x20 ∷ 0x0d ∷ []) ∷ Counts (0 ∷ 0 ∷ 3 ∷ []) ∷ [])
+    ∷ from-power-on (Step 0x1b 0 ∷ Step 0x3f 0 ∷ Step 0x3f 3 ∷ [])
+    (Answers (0 ∷ 6 ∷ 0 ∷ []) ∷ Replies (0x20 ∷ 0x20 ∷ 0x0d ∷ []) ∷ Counts (1 ∷ 0 ∷ 0 ∷ 0 ∷ 1 ∷ 3 ∷ []) ∷ [])
     -- a run: one room for all, taken, replied, refused; what is not taken is handed back
     ∷ from-power-on (Run (0x41 ∷ 0x42 ∷ [] ++ esc 0x3f ++ esc 0x3f ++ 0x43 ∷ []) 5 ∷ [])
-    (Answers (6 ∷ []) ∷ Counts (5 ∷ 3 ∷ 0 ∷ []) ∷ Rests (0x3f ∷ 0x43 ∷ []) ∷ Replies (0x20 ∷ 0x22 ∷ 0x0d ∷ []) ∷ Cell 2 0 ∷ Cursor 2 ∷ [])
+    (Answers (0 ∷ []) ∷ Counts (6 ∷ 5 ∷ 0 ∷ []) ∷ Rests (0x43 ∷ []) ∷ Replies (0x20 ∷ 0x22 ∷ 0x0d ∷ 0x20 ∷ 0x22 ∷ []) ∷ Cell 2 0 ∷ Cursor 2 ∷ [])
     ∷ from-power-on (Run (0x05 ∷ 0x05 ∷ 0x05 ∷ []) 2 ∷ []) (Answers (6 ∷ []) ∷ Counts (2 ∷ 2 ∷ 0 ∷ []) ∷ Rests (0x05 ∷ []) ∷ Replies (0x06 ∷ 0x06 ∷ []) ∷ [])
     ∷ from-power-on (Run (0x05 ∷ [] ++ esc 0x20) 4 ∷ []) (Answers (0 ∷ []) ∷ Counts (3 ∷ 4 ∷ 0 ∷ []) ∷ Replies (0x06 ∷ 0x35 ∷ 0x30 ∷ 0x0d ∷ []) ∷ [])
     ∷ from-power-on (Run (0x05 ∷ 0x41 ∷ []) 0 ∷ []) (Answers (6 ∷ []) ∷ Counts (0 ∷ 0 ∷ 0 ∷ []) ∷ Rests (0x05 ∷ 0x41 ∷ []) ∷ Cell 0 0 ∷ [])
@@ -38,9 +39,9 @@ callCases =
     (Answers (0 ∷ []) ∷ Counts (9 ∷ 0 ∷ 4 ∷ []) ∷ Rests [] ∷ Cell 1 0x42 ∷ [])
     -- 7, before 1 and 8: zeros, the whole input back, nothing changed
     ∷ from-page (replicate 1919 0) wy50 (Step 0x41 9 ∷ Step 0xff 9 ∷ Run (0x41 ∷ 0x42 ∷ []) 9 ∷ Run [] 9 ∷ Press 0x40 9 ∷ [])
-    (Answers (7 ∷ 7 ∷ 7 ∷ 7 ∷ 7 ∷ []) ∷ Counts (0 ∷ 0 ∷ 0 ∷ 0 ∷ 0 ∷ 0 ∷ 0 ∷ 0 ∷ 0 ∷ []) ∷ Rests (0x41 ∷ 0x42 ∷ []) ∷ Replies [] ∷ Cell 0 0 ∷ Cursor 0 ∷ [])
+    (Answers (7 ∷ 7 ∷ 7 ∷ 7 ∷ 7 ∷ []) ∷ Counts (replicate 11 0) ∷ Rests (0x41 ∷ 0x42 ∷ []) ∷ Replies [] ∷ Cell 0 0 ∷ Cursor 0 ∷ [])
     ∷ from-page (replicate 1921 0) wy50 (Step 0x41 9 ∷ Run (0x41 ∷ 0x42 ∷ []) 9 ∷ Press 0x40 9 ∷ [])
-    (Answers (7 ∷ 7 ∷ 7 ∷ []) ∷ Counts (0 ∷ 0 ∷ 0 ∷ 0 ∷ 0 ∷ []) ∷ Rests (0x41 ∷ 0x42 ∷ []) ∷ Replies [] ∷ [])
+    (Answers (7 ∷ 7 ∷ 7 ∷ []) ∷ Counts (replicate 6 0) ∷ Rests (0x41 ∷ 0x42 ∷ []) ∷ Replies [] ∷ [])
     ∷ from-page blank (belled 256) (Step 0x07 9 ∷ Run (0x05 ∷ []) 9 ∷ Press 0x40 9 ∷ []) (Answers (7 ∷ 7 ∷ 7 ∷ []) ∷ Rests (0x05 ∷ []) ∷ Replies [] ∷ Bells 256 ∷ [])
     -- ESC z: bytes are stored literally, ESC and controls too; up to 8; 80h and above 1, not gathered
     ∷ from-power-on (host (0x1b ∷ 0x7a ∷ 0x4f ∷ 0x1b ∷ 0x0d ∷ 0xe9 ∷ 0x61 ∷ 0x7f ∷ []) ++ Press 0x4f 8 ∷ Press 0x60 8 ∷ [])

@@ -9,16 +9,16 @@ use Rattle.rules.specs.declared.ShortText.{ShortText}
 use Rattle.rules.specs.declared.Personality.{Personality}
 use Rattle.rules.specs.Cell.{pick, among}
 use Rattle.rules.specs.Row.{narrowCells}
-use Rattle.rules.specs.State.{shortBytes, keyPlace}
+use Rattle.rules.specs.State.{shortBytes, keyPlace, sends}
 use Rattle.rules.specs.Possible.{powerOn, blank, good}
 use Rattle.rules.specs.Arguments.{isKey}
-use Rattle.rules.specs.Step.{Outcome, stepRule}
+use Rattle.rules.specs.Step.{Outcome, goesOn, stepRule}
 
 -- power-on with a personality: a narrow page, all cells 0. A wrong page length answers 7 and leaves the page
 unfoldable pub powerOnRule : Personality → List ℕ → Outcome
 powerOnRule m p =
-    pick (eqb (length p) narrowCells) (record { answer = 0; state = powerOn m; page = blank; reply = [] })
-    (record { answer = 7; state = powerOn m; page = p; reply = [] })
+    pick (eqb (length p) narrowCells) (record { answer = 0; taken = false; state = powerOn m; page = blank; reply = [] })
+    (record { answer = 7; taken = false; state = powerOn m; page = p; reply = [] })
 
 -- a run: its answer, bytes taken, how many of these answered 1 to 4, the reply, the bytes not taken
 pub record Ran : Type 0 where
@@ -49,19 +49,43 @@ joined o r = record {
   page = r .page;
 }
 
--- the single step repeated, each with the room that is left; it stops before the first byte that answers 6
+-- the single step repeated, each with the room that is left; it stops with 6 before the first byte that answers 6, and with 0 where the room
+-- ended inside a send
 unfoldable pub repeated : List ℕ → List ℕ → State → ℕ → Ran
 repeated [] p s room = ended p s 0 []
 repeated (b ∷ bs) p s room =
     let o = stepRule p s b room in
     let r = joined o (repeated bs (o .page) (o .state) (room - length (o .reply))) in
-    pick (eqb (o .answer) 6) (ended p s 6 (b ∷ bs)) r
+    let q = pick (eqb (o .answer) 6) (ended p s 6 (b ∷ bs)) r in
+    pick (sends (s .sending)) (ended p s 0 (b ∷ bs)) q
+
+-- a run r behind a reply
+unfoldable pub behind : List ℕ → Ran → Ran
+behind a r = record {
+  answer = r .answer;
+  taken = r .taken;
+  refused = r .refused;
+  reply = a ++ r .reply;
+  rest = r .rest;
+  state = r .state;
+  page = r .page;
+}
+
+-- inside a send: as much of it as fits, and then the bytes; without room 6, or 0 over no bytes
+unfoldable pub runInside : List ℕ → State → List ℕ → ℕ → Ran
+runInside p s bytes room =
+    let o = goesOn p s room in
+    let r = behind (o .reply) (repeated bytes p (o .state) (room - length (o .reply))) in
+    pick (eqb room 0) (ended p s (pick (eqb (length bytes) 0) 0 6) bytes) r
 
 -- on 7: zeros, the whole input back
 unfoldable pub runRule : List ℕ → State → List ℕ → ℕ → Ran
-runRule p s bytes room = let r = repeated bytes p s room in pick (good p s) r (ended p s 7 bytes)
+runRule p s bytes room =
+    let r = repeated bytes p s room in
+    let i = runInside p s bytes room in
+    pick (good p s) (pick (sends (s .sending)) i r) (ended p s 7 bytes)
 
--- a key press: 7, 8, 3, 6, else the key's bytes; an unprogrammed key sends 01h value 0Dh
+-- a key press: 7, 8, 3, 6 inside a send or where they do not fit, else the key's bytes; an unprogrammed key sends 01h value 0Dh
 pub record Pressed : Type 0 where
   pub answer : ℕ
   pub reply : List ℕ
@@ -80,7 +104,8 @@ pressRule p s v room =
     pick (good p s)
     (pick (s .core .modes .locked) (pressed 8 [])
     (pick (isKey v)
-    (pick (leb (length (keySends (keyAt s v) v)) room) (pressed 0 (keySends (keyAt s v) v)) (pressed 6 []))
+    (pick (sends (s .sending)) (pressed 6 [])
+    (pick (leb (length (keySends (keyAt s v) v)) room) (pressed 0 (keySends (keyAt s v) v)) (pressed 6 [])))
     (pressed 3 [])))
     (pressed 7 [])
 
@@ -90,7 +115,8 @@ pub data Call : Type 0 where
   Run : List ℕ → ℕ → Call
   Press : ℕ → ℕ → Call
 
--- what a call gives back, with the state after it. Counts: of a run bytes taken, reply bytes and bytes that answered 1 to 4; else reply bytes
+-- what a call gives back, with the state after it. Counts: of a run bytes taken, reply bytes and bytes that answered 1 to 4; of a step bytes taken,
+-- 1 or 0, and reply bytes; of a press reply bytes
 pub record Given : Type 0 where
   pub answer : ℕ
   pub counts : List ℕ
@@ -103,7 +129,10 @@ pub record Called : Type 0 where
   pub page : List ℕ
 
 unfoldable pub ofStep : Outcome → Called
-ofStep o = record { given = record { answer = o .answer; counts = length (o .reply) ∷ []; reply = o .reply; rest = []; state = o .state }; page = o .page }
+ofStep o = record {
+  given = record { answer = o .answer; counts = pick (o .taken) 1 0 ∷ length (o .reply) ∷ []; reply = o .reply; rest = []; state = o .state };
+  page = o .page;
+}
 
 unfoldable pub ofRun : Ran → Called
 ofRun o = record {

@@ -2,8 +2,7 @@
 use mathlib.Core.Bool.{Bool, true, false}
 use mathlib.Core.List.{List, [], _∷_, _++_}
 use Prim.Native.Nat.{ℕ, _-_}
-use lib.Dec.{leb}
-use lib.ListN.{length}
+use lib.Dec.{eqb}
 use Rattle.rules.specs.declared.Core.{Core}
 use Rattle.rules.specs.declared.Plan.{Plan}
 use Rattle.rules.specs.declared.Write.{Write}
@@ -15,8 +14,8 @@ use Rattle.rules.specs.declared.Land.the-variants as Land
 use Rattle.rules.specs.Cell.{pick}
 use Rattle.rules.specs.Search.{guardedAt, settled}
 use Rattle.rules.specs.Change.{within, filled, columnFilled, editShifted, rowsShifted}
-use Rattle.rules.specs.Send.{replied}
-use Rattle.rules.specs.State.{number, widthOf, segmentStart, segmentEnd, withCursor, withScreen, unchanged}
+use Rattle.rules.specs.Send.{sentFrom, leftFrom}
+use Rattle.rules.specs.State.{number, widthOf, segmentStart, segmentEnd, withCursor, withScreen, sends, unchanged}
 
 -- the page after a write, w being its width
 unfoldable pub applied : ℕ → Bool → Write → List ℕ → List ℕ
@@ -54,15 +53,16 @@ planWidth x = widthOf (x .next .screen)
 abbrev pub pageAfter : Bool → Plan → List ℕ → List ℕ
 pageAfter on x p = applied (planWidth x) on (x .second) (applied (planWidth x) on (x .first) p)
 
-abbrev pub replyOf : Bool → List ℕ → Plan → List ℕ
-replyOf on p x = replied (planWidth x) on p (x .reply)
-
--- written, replied, and settled over the page as it then is, with protect mode as it then is
+-- written, and settled over the page as it then is, with protect mode as it then is
 unfoldable pub done : Bool → List ℕ → Plan → Effect
 done on p x =
     effect (number (x .answer)) (landed (guardedAt (x .next .modes .protect) (pageAfter on x p)) (x .land) (x .next)) (Change.Set (x .change))
-    (pageAfter on x p) (replyOf on p x)
+    (pageAfter on x p) []
 
--- a reply longer than the room answers 6, and nothing has changed
+-- a reply begins, as much of it as fits (document 02, A9)
+unfoldable pub begun : List ℕ → Plan → ℕ → Effect
+begun p x room = effect (number (x .answer)) (x .next) (Change.Send (leftFrom p (x .next) (x .reply) room)) p (sentFrom p (x .next) (x .reply) room)
+
+-- no room while a reply is due answers 6, and nothing has changed
 unfoldable pub carried : List ℕ → Core → Plan → ℕ → Effect
-carried p c x room = pick (leb (length (replyOf (c .modes .protect) p x)) room) (done (c .modes .protect) p x) (quiet 6 c p)
+carried p c x room = pick (sends (x .reply)) (pick (eqb room 0) (quiet 6 c p) (begun p x room)) (done (c .modes .protect) p x)

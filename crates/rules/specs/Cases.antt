@@ -15,6 +15,7 @@ use Rattle.rules.specs.ReplyCases.{replyCases}
 use Rattle.rules.specs.CallCases.{callCases}
 use Rattle.rules.specs.LabelCases.{labelCases}
 use Rattle.rules.specs.SendCases.{sendCases}
+use Rattle.rules.specs.NarrowCases.{narrowCases}
 use Rattle.rules.specs.RowCases.{rowsWith, rowCases, rowCasesHold}
 use Rattle.rules.specs.PersonalityCases.{personalityCases}
 use Rattle.rules.specs.ByteCases.{bytesHold, firstBytes, argumentBytes, addressBytes, decimalBytes}
@@ -27,6 +28,7 @@ pub record CaseList : Type 0 where
   pub calling : casesHold callCases ≡ true
   pub labels : casesHold labelCases ≡ true
   pub sending : casesHold sendCases ≡ true
+  pub narrow : casesHold narrowCases ≡ true
   pub rows : rowCasesHold rowCases ≡ true
   pub wide-rows : rowList 132 (replicate 79 true ++ replicate 3089 false) ≡ 53 ∷ 80 ∷ rowsWith 132 1 23
   pub personalities : casesHold personalityCases ≡ true
@@ -38,11 +40,11 @@ pub record CaseList : Type 0 where
   pub possible : allPossible possibleStates ≡ true
   pub impossible : nonePossible impossibleStates ≡ true
   -- power-on: all cells 0; a wrong page length answers 7 and leaves the page. The state is that of the personality
-  pub power-on : powerOnRule Personality.Wy50 (replicate 1920 5) ≡ record { answer = 0; state = wy50; page = replicate 1920 0; reply = [] }
-  pub short-page : powerOnRule Personality.Wy50 (replicate 1919 5) ≡ record { answer = 7; state = wy50; page = replicate 1919 5; reply = [] }
-  pub long-page : powerOnRule Personality.Wy50 (replicate 1921 5) ≡ record { answer = 7; state = wy50; page = replicate 1921 5; reply = [] }
-  pub power-on-60 : powerOnRule Personality.Wy60 (replicate 1920 5) ≡ record { answer = 0; state = wy60; page = replicate 1920 0; reply = [] }
-  pub short-page-60 : powerOnRule Personality.Wy60 (replicate 1919 5) ≡ record { answer = 7; state = wy60; page = replicate 1919 5; reply = [] }
+  pub power-on : powerOnRule Personality.Wy50 (replicate 1920 5) ≡ record { answer = 0; taken = false; state = wy50; page = replicate 1920 0; reply = [] }
+  pub short-page : powerOnRule Personality.Wy50 (replicate 1919 5) ≡ record { answer = 7; taken = false; state = wy50; page = replicate 1919 5; reply = [] }
+  pub long-page : powerOnRule Personality.Wy50 (replicate 1921 5) ≡ record { answer = 7; taken = false; state = wy50; page = replicate 1921 5; reply = [] }
+  pub power-on-60 : powerOnRule Personality.Wy60 (replicate 1920 5) ≡ record { answer = 0; taken = false; state = wy60; page = replicate 1920 0; reply = [] }
+  pub short-page-60 : powerOnRule Personality.Wy60 (replicate 1919 5) ≡ record { answer = 7; taken = false; state = wy60; page = replicate 1919 5; reply = [] }
   -- what lies beyond a reply is untouched
   pub room : over (1 ∷ 2 ∷ []) (7 ∷ 8 ∷ 9 ∷ []) ≡ 1 ∷ 2 ∷ 9 ∷ []
   -- demand 3: what completes one of the six, and what does not

@@ -12,7 +12,7 @@ use Rattle.rules.specs.declared.Pending.the-variants as Pending
 use Rattle.rules.specs.Possible.{blank, good}
 use Rattle.rules.specs.Step.{stepRule}
 use Rattle.rules.specs.Calls.{Call, Step, Run, Press, runRule, play}
-use Rattle.rules.specs.Noninterference.{Alike, anyCompleted, Indistinguishable}
+use Rattle.rules.specs.Noninterference.{Alike, revealing, anyCompleted, Indistinguishable}
 use Rattle.rules.specs.Bench.{wy50}
 
 -- the six, by their last bytes: ESC ', ESC *, ESC +, ESC , and ESC 6, ESC 7
@@ -37,7 +37,7 @@ pub record CompletedInRun (p : List ℕ) (s : State) (bytes : List ℕ) (room : 
   pub byte : ℕ
   pub behind : List ℕ
   pub whole : bytes ≡ before ++ (byte ∷ behind)
-  pub taken : (runRule p s before room) .answer ≡ 0
+  pub taken : (runRule p s before room) .rest ≡ []
   pub completing :
       Completing ((runRule p s before room) .page) ((runRule p s before room) .state) byte (room - length ((runRule p s before room) .reply))
 
@@ -62,7 +62,8 @@ pub record Characterised : Type 0 where
 -- demand 3, said with this in place of the test
 abbrev pub UnlessCompleted : Type 0
 UnlessCompleted =
-    (p q : List ℕ) (s t : State) (calls : List Call) → s .core .modes .protect ≡ true → Alike p q s t → (Completed calls p s → ⊥)
+    (p q : List ℕ) (s t : State) (calls : List Call) → s .core .modes .protect ≡ true → revealing (s .sending) ≡ false → Alike p q s t
+    → (Completed calls p s → ⊥)
     → Indistinguishable p q (play calls p s) (play calls q t)
 
 -- what completes nothing
@@ -93,6 +94,11 @@ pub record SixCompleted : Type 0 where
   pub in-steps : map stepCompletes (0x27 ∷ 0x2a ∷ 0x2b ∷ 0x2c ∷ 0x36 ∷ 0x37 ∷ []) ≡ replicate 6 true
   pub behind : completesFrom 1944 (0x41 ∷ 0x1b ∷ 0x3f ∷ 0x1b ∷ 0x36 ∷ 0x42 ∷ []) ≡ true
   pub as-text : completesFrom 1944 (0x27 ∷ 0x2a ∷ 0x2b ∷ 0x2c ∷ 0x36 ∷ 0x37 ∷ []) ≡ false
+  -- those that send, once they begin to
+  pub begun : map (λ b. completesFrom 1 (0x1b ∷ b ∷ [])) (0x36 ∷ 0x37 ∷ []) ≡ replicate 2 true
+  -- behind a send that goes on
+  pub behind-a-send : anyCompleted (Run (0x1b ∷ 0x20 ∷ []) 1 ∷ Run (0x1b ∷ 0x27 ∷ []) 2 ∷ []) blank wy50 ≡ true
+  pub in-a-send : anyCompleted (Run (0x1b ∷ 0x20 ∷ []) 1 ∷ Run (0x1b ∷ 0x27 ∷ []) 1 ∷ []) blank wy50 ≡ false
   pub no-room : map (λ b. completesFrom 0 (0x1b ∷ b ∷ [])) (0x36 ∷ 0x37 ∷ []) ≡ replicate 2 false
   pub as-argument : completesFrom 1944 (0x1b ∷ 0x3d ∷ 0x27 ∷ 0x2a ∷ 0x1b ∷ 0x7a ∷ 0x40 ∷ 0x1b ∷ 0x2c ∷ 0x7f ∷ []) ≡ false
   pub others : map stepCompletes (0x26 ∷ 0x28 ∷ 0x34 ∷ 0x35 ∷ 0x3a ∷ 0x7e ∷ []) ≡ replicate 6 false

@@ -1,18 +1,20 @@
 -- A plan that stays inside the page: what carrying it out needs.
 use mathlib.Core.Path.{_≡_}
-use mathlib.Core.Bool.{true}
+use mathlib.Core.Bool.{Bool, true}
 use Prim.Native.Nat.{ℕ, _*_, _<_, _≤_}
 use Rattle.rules.specs.declared.Screen.{Screen}
 use Rattle.rules.specs.declared.Plan.{Plan}
 use Rattle.rules.specs.declared.Write.{Write}
 use Rattle.rules.specs.declared.Write.the-variants as Write
-use Rattle.rules.specs.declared.Reply.{Reply}
-use Rattle.rules.specs.declared.Reply.the-variants as Reply
 use Rattle.rules.specs.declared.Land.{Land}
 use Rattle.rules.specs.declared.Land.the-variants as Land
-use Rattle.rules.specs.Row.{height}
-use Rattle.rules.specs.State.{segmentStart, segmentEnd}
-use Rattle.rules.specs.Possible.{screenOk}
+use Rattle.rules.specs.declared.Place.{Place}
+use Rattle.rules.specs.declared.Place.the-variants as Place
+use Rattle.rules.specs.declared.Sending.{Sending}
+use Rattle.rules.specs.declared.Sending.the-variants as Sending
+use Rattle.rules.specs.Row.{height, columnOf}
+use Rattle.rules.specs.State.{widthOf, segmentStart, segmentEnd, cursorOf, textStart}
+use Rattle.rules.specs.Possible.{screenOk, shortLength}
 use Rattle.rules.specs.Carry.{planWidth}
 
 -- its cells and rows lie in the page, w being its width
@@ -24,15 +26,16 @@ GoodWrite w (Write.Column top bottom c v) = (top ≤ bottom) × ((bottom ≤ hei
 GoodWrite w (Write.Edit right at v) = at < height * w
 GoodWrite w (Write.Rows down top bottom) = (top ≤ bottom) × (bottom ≤ height)
 
-abbrev pub GoodReply : ℕ → Reply → Type 0
-GoodReply w Reply.Nothing = Unit {0}
-GoodReply w Reply.Acknowledge = Unit {0}
-GoodReply w (Reply.Identity m) = Unit {0}
-GoodReply w (Reply.Address r c) = Unit {0}
-GoodReply w (Reply.SegmentAddress n r c) = Unit {0}
-GoodReply w (Reply.Decimal r c) = Unit {0}
-GoodReply w (Reply.Cell at) = at < height * w
-GoodReply w (Reply.Text all a e) = (a ≤ e) × (e ≤ height * w)
+-- a send stands at a place of its reply, the first or a later one
+abbrev pub GoodPlace : Screen → Bool → Place → Type 0
+GoodPlace x segment (Place.Cell i) = (textStart x segment ≤ i) × (i ≤ cursorOf x)
+GoodPlace x segment (Place.Break i) = (columnOf (widthOf x) i ≡ 0) × ((textStart x segment < i) × (i ≤ cursorOf x))
+GoodPlace x segment Place.Return = Unit {0}
+
+abbrev pub GoodSend : Screen → Sending → Type 0
+GoodSend x Sending.Nothing = Unit {0}
+GoodSend x (Sending.Short r n) = n < shortLength r
+GoodSend x (Sending.Text all segment k) = GoodPlace x segment k
 
 -- the cursor settles from a place of the active segment
 abbrev pub GoodLand : Screen → Land → Type 0
@@ -42,6 +45,6 @@ GoodLand x (Land.Settle i) = (segmentStart x ≤ i) × (i < segmentEnd x)
 pub record GoodPlan (x : Plan) : Type 0 where
   pub one : GoodWrite (planWidth x) (x .first)
   pub two : GoodWrite (planWidth x) (x .second)
-  pub text : GoodReply (planWidth x) (x .reply)
+  pub reply : GoodSend (x .next .screen) (x .reply)
   pub screen : screenOk (x .next .screen) ≡ true
   pub place : GoodLand (x .next .screen) (x .land)

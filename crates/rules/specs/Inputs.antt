@@ -42,12 +42,13 @@ pageOf l = take 1920 (l ++ blank)
 
 -- the power-on state, but with the cursor at a cell
 unfoldable pub cursorAt : ℕ → State
-cursorAt n = record { core = withScreen (wy50 .core) (withCursor (wy50 .core .screen) n); gathered = wy50 .gathered; setup = wy50 .setup }
+cursorAt n = record { core = withScreen (wy50 .core) (withCursor (wy50 .core .screen) n); sending = wy50 .sending; gathered = wy50 .gathered; setup = wy50 .setup }
 
 -- and with protect mode on
 unfoldable pub protectAt : ℕ → State
 protectAt n = record {
   core = withModes (cursorAt n .core) (withProtect (wy50 .core .modes) true);
+  sending = wy50 .sending;
   gathered = wy50 .gathered;
   setup = wy50 .setup;
 }
@@ -56,6 +57,7 @@ protectAt n = record {
 unfoldable pub upperAt : ℕ → State
 upperAt n = record {
   core = withScreen (wy50 .core) record { wide = false; active = 0; split = 13; cursor0 = n; cursor1 = 960 };
+  sending = wy50 .sending;
   gathered = wy50 .gathered;
   setup = wy50 .setup;
 }
@@ -63,18 +65,20 @@ upperAt n = record {
 unfoldable pub lowerAt : ℕ → State
 lowerAt n = record {
   core = withScreen (wy50 .core) record { wide = false; active = 1; split = 13; cursor0 = 0; cursor1 = n };
+  sending = wy50 .sending;
   gathered = wy50 .gathered;
   setup = wy50 .setup;
 }
 
 -- the power-on state with some bells counted
 unfoldable pub belled : ℕ → State
-belled n = record { core = withBells (wy50 .core) n; gathered = wy50 .gathered; setup = wy50 .setup }
+belled n = record { core = withBells (wy50 .core) n; sending = wy50 .sending; gathered = wy50 .gathered; setup = wy50 .setup }
 
 -- the power-on state with 8 bytes in every key
 unfoldable pub fullKeys : State
 fullKeys = record {
   core = wy50 .core;
+  sending = wy50 .sending;
   gathered = wy50 .gathered;
   setup = withKeys (wy50 .setup) (replicate 32 record { len = 8; bytes = replicate 8 0x61 });
 }

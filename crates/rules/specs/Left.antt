@@ -9,7 +9,7 @@ use Rattle.rules.specs.Step.{Outcome}
 
 -- pending cleared, rest same
 abbrev pub cleared : State → State
-cleared s = record { core = idle (s .core); gathered = s .gathered; setup = s .setup }
+cleared s = record { core = idle (s .core); sending = s .sending; gathered = s .gathered; setup = s .setup }
 
 -- the column "leaves" for the answers other than 0: 2 to 4 clear the sequence, all others change nothing
 abbrev pub leaves : ℕ → State → State

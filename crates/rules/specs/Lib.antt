@@ -20,9 +20,11 @@ pub mod Completed
 pub mod Labels
 pub mod Good
 pub mod Steps
+pub mod Narrow
 pub mod Left
 pub mod Press
 pub mod Reach
+pub mod SendReach
 pub mod KeyStore
 pub mod Bench
 pub mod Inputs
@@ -31,6 +33,7 @@ pub mod WritingCases
 pub mod ReplyCases
 pub mod CallCases
 pub mod SendCases
+pub mod NarrowCases
 pub mod RowCases
 pub mod ByteCases
 pub mod PossibleCases

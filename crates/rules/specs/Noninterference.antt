@@ -9,8 +9,11 @@ use Rattle.rules.specs.declared.State.{State}
 use Rattle.rules.specs.declared.Pending.{Pending}
 use Rattle.rules.specs.declared.Pending.the-variants as Pending
 use Rattle.rules.specs.Cell.{pick, both, either, protected}
+use Rattle.rules.specs.declared.Sending.{Sending}
+use Rattle.rules.specs.declared.Sending.the-variants as Sending
+use Rattle.rules.specs.State.{sends}
 use Rattle.rules.specs.Possible.{good}
-use Rattle.rules.specs.Step.{stepRule}
+use Rattle.rules.specs.Step.{goesOn, stepRule}
 use Rattle.rules.specs.Calls.{Call, Step, Run, Press, callRule, Played, play}
 
 -- pages alike at the start: the same length, the same protected bit in each cell, and the same number in each unprotected cell. A protected
@@ -51,17 +54,28 @@ excludedBytes = 0x27 ∷ 0x2a ∷ 0x2b ∷ 0x2c ∷ 0x36 ∷ 0x37 ∷ []
 unfoldable pub completes : State → ℕ → ℕ → Bool
 completes s b answer = both (both (afterEscape (s .core .pending)) (anyOf excludedBytes b)) (eqb answer 0)
 
--- one of the six is completed by a byte that a run takes
+-- one of the six is completed by a byte that a run takes; ESC 6 and ESC 7 are once they begin to send
 unfoldable pub runCompletes : List ℕ → List ℕ → State → ℕ → Bool
 runCompletes [] p s room = false
 runCompletes (b ∷ bs) p s room =
     let o = stepRule p s b room in
     let r = either (completes s b (o .answer)) (runCompletes bs (o .page) (o .state) (room - lib.ListN.length (o .reply))) in
-    pick (eqb (o .answer) 6) false r
+    let q = pick (eqb (o .answer) 6) false r in
+    pick (sends (s .sending)) false q
+
+-- inside a send the bytes come where it went on to
+unfoldable pub insideCompletes : List ℕ → State → List ℕ → ℕ → Bool
+insideCompletes p s bytes room =
+    let o = goesOn p s room in
+    let r = runCompletes bytes p (o .state) (room - lib.ListN.length (o .reply)) in
+    pick (eqb room 0) false r
 
 unfoldable pub callCompletes : List ℕ → State → Call → Bool
 callCompletes p s (Step b room) = completes s b ((stepRule p s b room) .answer)
-callCompletes p s (Run bytes room) = let r = runCompletes bytes p s room in pick (good p s) r false
+callCompletes p s (Run bytes room) =
+    let r = runCompletes bytes p s room in
+    let i = insideCompletes p s bytes room in
+    pick (good p s) (pick (sends (s .sending)) i r) false
 callCompletes p s (Press v room) = false
 
 -- one of the six is completed somewhere in the list, judged in this terminal
@@ -70,6 +84,12 @@ anyCompleted [] p s = false
 anyCompleted (c ∷ cs) p s =
     let r = callRule p s c in
     either (callCompletes p s c) (anyCompleted cs (r .page) (r .given .state))
+
+-- an ESC 6 or ESC 7 send
+abbrev pub revealing : Sending → Bool
+revealing Sending.Nothing = false
+revealing (Sending.Short r n) = false
+revealing (Sending.Text all segment k) = all
 
 -- The pages a and b after the list, from p and q: cells open at the start have equal numbers in both, and each cell protected at the start
 -- has, in each terminal, the number it had there
@@ -85,8 +105,9 @@ pub record Indistinguishable (p q : List ℕ) (a b : Played) : Type 0 where
   pub state : a .state ≡ b .state
   pub pages : KeptPages p q (a .page) (b .page)
 
--- any list of calls, from any page and state with protect mode on, of either personality, in which the first terminal completes none of the six
+-- any list of calls, from any page and state with protect mode on, of either personality, not inside an ESC 6 or ESC 7 send, in which the first
+-- terminal completes none of the six
 abbrev pub Demand3 : Type 0
 Demand3 =
-    (p q : List ℕ) (s t : State) (calls : List Call) → s .core .modes .protect ≡ true → Alike p q s t → anyCompleted calls p s ≡ false
-    → Indistinguishable p q (play calls p s) (play calls q t)
+    (p q : List ℕ) (s t : State) (calls : List Call) → s .core .modes .protect ≡ true → revealing (s .sending) ≡ false → Alike p q s t
+    → anyCompleted calls p s ≡ false → Indistinguishable p q (play calls p s) (play calls q t)

@@ -13,7 +13,7 @@ abbrev pub core60 : Core → Core
 core60 c = record { screen = c .screen; modes = c .modes; bells = c .bells; pending = c .pending; personality = Personality.Wy60; attribute = c .attribute }
 
 unfoldable pub as60 : State → State
-as60 s = record { core = core60 (s .core); gathered = s .gathered; setup = s .setup }
+as60 s = record { core = core60 (s .core); sending = s .sending; gathered = s .gathered; setup = s .setup }
 
 unfoldable pub obeys60 : List ℕ → List Claim → Case
 obeys60 bytes claims = obeysFrom [] wy60 bytes claims

@@ -34,25 +34,28 @@ use Rattle.rules.specs.declared.Write.{Write}
 use Rattle.rules.specs.declared.Write.the-variants as Write
 use Rattle.rules.specs.declared.SetupChange.{SetupChange}
 use Rattle.rules.specs.declared.SetupChange.the-variants as SetupChange
-use Rattle.rules.specs.declared.Reply.{Reply}
-use Rattle.rules.specs.declared.Reply.the-variants as Reply
+use Rattle.rules.specs.declared.Short.{Short}
+use Rattle.rules.specs.declared.Short.the-variants as Short
+use Rattle.rules.specs.declared.Place.the-variants as Place
+use Rattle.rules.specs.declared.Sending.{Sending}
+use Rattle.rules.specs.declared.Sending.the-variants as Sending
 use Rattle.rules.specs.declared.Land.{Land}
 use Rattle.rules.specs.declared.Land.the-variants as Land
 use Rattle.rules.specs.Cell.{pick, both, either, among, normal, written, null, space, protectedSpace}
 use Rattle.rules.specs.Row.{columns, addressed, rowOf, columnOf, rowStart, rowEnd}
 use Rattle.rules.specs.Search.{previousOpen, nextField, previousField, nextTab, previousTab}
-use Rattle.rules.specs.State.{widthOf, segmentTop, segmentBottom, segmentStart, segmentEnd, cursorOf, activated, withScreen, withModes, withBells, withAttribute, withProtect, withMode}
+use Rattle.rules.specs.State.{widthOf, segmentTop, segmentBottom, segmentStart, segmentEnd, cursorOf, textStart, activated, withScreen, withModes, withBells, withAttribute, withProtect, withMode}
 use Rattle.rules.specs.Arguments.{attributeContents, attributeOf, featurePlace}
 
 -- the forms of plans
 abbrev pub refusing : Core → Answer → Plan
-refusing c a = record { answer = a; first = Write.Nothing; second = Write.Nothing; change = SetupChange.Nothing; reply = Reply.Nothing; next = c; land = Land.Stay }
+refusing c a = record { answer = a; first = Write.Nothing; second = Write.Nothing; change = SetupChange.Nothing; reply = Sending.Nothing; next = c; land = Land.Stay }
 
 abbrev pub plain : Core → Plan
 plain c = refusing c Answer.Done
 
 abbrev pub writingTwo : Core → Write → Write → Land → Plan
-writingTwo c w v l = record { answer = Answer.Done; first = w; second = v; change = SetupChange.Nothing; reply = Reply.Nothing; next = c; land = l }
+writingTwo c w v l = record { answer = Answer.Done; first = w; second = v; change = SetupChange.Nothing; reply = Sending.Nothing; next = c; land = l }
 
 abbrev pub writing : Core → Write → Land → Plan
 writing c w l = writingTwo c w Write.Nothing l
@@ -60,11 +63,11 @@ writing c w l = writingTwo c w Write.Nothing l
 abbrev pub settling : Core → ℕ → Plan
 settling c i = writing c Write.Nothing (Land.Settle i)
 
-abbrev pub replying : Core → Reply → Plan
+abbrev pub replying : Core → Sending → Plan
 replying c r = record { answer = Answer.Done; first = Write.Nothing; second = Write.Nothing; change = SetupChange.Nothing; reply = r; next = c; land = Land.Stay }
 
 abbrev pub changing : Core → SetupChange → Plan
-changing c x = record { answer = Answer.Done; first = Write.Nothing; second = Write.Nothing; change = x; reply = Reply.Nothing; next = c; land = Land.Stay }
+changing c x = record { answer = Answer.Done; first = Write.Nothing; second = Write.Nothing; change = x; reply = Sending.Nothing; next = c; land = Land.Stay }
 
 -- a guarded cursor cell answers 4
 unfoldable pub unlessGuarded : List Bool → Core → Plan → Plan
@@ -227,23 +230,22 @@ settingPlan c (Setting.Attribute n a) = changing c (SetupChange.Attribute n a)
 settingPlan c (Setting.Feature f) = changing c (SetupChange.Feature (featurePlace f) f)
 settingPlan c Setting.HideLine = changing c SetupChange.HideLine
 
--- the cursor's row from the segment's top, and its column, from 0
-abbrev pub cursorRow : Screen → ℕ
-cursorRow x = rowOf (widthOf x) (cursorOf x) - segmentTop x
+-- a short reply, and a text, from their first place
+abbrev pub short : Core → Short → Plan
+short c r = replying c (Sending.Short r 0)
 
-abbrev pub cursorColumn : Screen → ℕ
-cursorColumn x = columnOf (widthOf x) (cursorOf x)
+abbrev pub text : Core → Bool → Bool → Plan
+text c all segment = replying c (Sending.Text all segment (Place.Cell (textStart (c .screen) segment)))
 
 unfoldable pub sendPlan : List Bool → Core → Send → Plan
-sendPlan g c Send.Acknowledge = replying c Reply.Acknowledge
-sendPlan g c Send.Identity = replying c (Reply.Identity (c .personality))
-sendPlan g c Send.Cursor = replying c (Reply.Address (0x20 + cursorRow (c .screen)) (0x20 + cursorColumn (c .screen)))
-sendPlan g c Send.SegmentCursor =
-    replying c (Reply.SegmentAddress (0x30 + c .screen .active) (0x20 + cursorRow (c .screen)) (0x20 + cursorColumn (c .screen)))
-sendPlan g c Send.DecimalCursor = replying c (Reply.Decimal (cursorRow (c .screen) + 1) (cursorColumn (c .screen) + 1))
-sendPlan g c Send.Cell = unlessGuarded g c (replying c (Reply.Cell (cursorOf (c .screen))))
-sendPlan g c Send.OpenRow = replying c (Reply.Text false (rowStart (widthOf (c .screen)) (cursorOf (c .screen))) (cursorOf (c .screen) + 1))
-sendPlan g c Send.OpenSegment = replying c (Reply.Text false (segmentStart (c .screen)) (cursorOf (c .screen) + 1))
+sendPlan g c Send.Acknowledge = short c Short.Acknowledge
+sendPlan g c Send.Identity = short c Short.Identity
+sendPlan g c Send.Cursor = short c Short.Cursor
+sendPlan g c Send.SegmentCursor = short c Short.SegmentCursor
+sendPlan g c Send.DecimalCursor = short c Short.DecimalCursor
+sendPlan g c Send.Cell = unlessGuarded g c (short c Short.Cell)
+sendPlan g c Send.OpenRow = text c false false
+sendPlan g c Send.OpenSegment = text c false true
 
 -- ---- the six that demand 3 leaves out: ESC ', the clear-all commands ESC * + , and the sends with guarded cells ESC 6 7
 
@@ -259,8 +261,8 @@ excludedPlan c Excluded.ProtectOff = plain (protectOff c)
 excludedPlan c Excluded.ClearNulls = clearAll c null
 excludedPlan c Excluded.ClearSpaces = clearAll c space
 excludedPlan c Excluded.ClearProtected = clearAll (protectOff c) protectedSpace
-excludedPlan c Excluded.SendRow = replying c (Reply.Text true (rowStart (widthOf (c .screen)) (cursorOf (c .screen))) (cursorOf (c .screen) + 1))
-excludedPlan c Excluded.SendSegment = replying c (Reply.Text true (segmentStart (c .screen)) (cursorOf (c .screen) + 1))
+excludedPlan c Excluded.SendRow = text c true false
+excludedPlan c Excluded.SendSegment = text c true true
 
 -- the plan of each command, from a core whose sequence is cleared
 unfoldable pub planRule : List Bool → List Bool → Core → Command → Plan

@@ -12,9 +12,15 @@ use Rattle.rules.specs.declared.Personality.{Personality}
 use Rattle.rules.specs.declared.Personality.the-variants as Personality
 use Rattle.rules.specs.declared.Pending.{Pending}
 use Rattle.rules.specs.declared.Pending.the-variants as Pending
+use Rattle.rules.specs.declared.Short.{Short}
+use Rattle.rules.specs.declared.Short.the-variants as Short
+use Rattle.rules.specs.declared.Place.{Place}
+use Rattle.rules.specs.declared.Place.the-variants as Place
+use Rattle.rules.specs.declared.Sending.{Sending}
+use Rattle.rules.specs.declared.Sending.the-variants as Sending
 use Rattle.rules.specs.Cell.{pick, both, either, among, normal}
-use Rattle.rules.specs.Row.{height, narrowCells}
-use Rattle.rules.specs.State.{widthOf, pageLength, noText, noLong}
+use Rattle.rules.specs.Row.{height, narrowCells, columnOf}
+use Rattle.rules.specs.State.{widthOf, pageLength, cursorOf, textStart, isIdle, noText, noLong}
 use Rattle.rules.specs.Arguments.{isAttribute, featurePlace}
 use Rattle.rules.specs.Slot.{slotOk, slotLow, slotMost, textOk, textsOk}
 
@@ -29,6 +35,7 @@ powerOn m = record {
     personality = m;
     attribute = normal;
   };
+  sending = Sending.Nothing;
   gathered = replicate 46 0;
   setup = record {
     tabs = replicate 132 false;
@@ -95,6 +102,31 @@ unfoldable pub rememberedOk : Personality → ℕ → Bool
 rememberedOk Personality.Wy50 a = eqb a normal
 rememberedOk Personality.Wy60 a = ltb a 31
 
+-- how many bytes a short reply has
+abbrev pub shortLength : Short → ℕ
+shortLength Short.Acknowledge = 1
+shortLength Short.Cell = 1
+shortLength Short.Identity = 3
+shortLength Short.Cursor = 3
+shortLength Short.SegmentCursor = 4
+shortLength Short.DecimalCursor = 7
+
+-- cell i is in the text that is sent, and not its first
+abbrev pub inText : Screen → Bool → ℕ → Bool
+inText x segment i = both (ltb (textStart x segment) i) (leb i (cursorOf x))
+
+-- a place of a text but its first: a US stands before a row's first cell
+unfoldable pub placeOk : Screen → Bool → Place → Bool
+placeOk x segment (Place.Cell i) = inText x segment i
+placeOk x segment (Place.Break i) = both (eqb (columnOf (widthOf x) i) 0) (inText x segment i)
+placeOk x segment Place.Return = true
+
+-- a send that some page, bytes and rooms leave under way (document 02, A9): no sequence is, and it stands at any place of its reply but the first
+unfoldable pub sendingOk : Screen → Pending → Sending → Bool
+sendingOk x q Sending.Nothing = true
+sendingOk x q (Sending.Short r n) = both (isIdle q) (both (leb 1 n) (ltb n (shortLength r)))
+sendingOk x q (Sending.Text all segment k) = both (isIdle q) (placeOk x segment k)
+
 -- document 01 has narrow pages only; the rules are said over both widths, and no wide screen is possible until request A11 lands
 abbrev pub narrow : Screen → Bool
 narrow x = not (x .wide)
@@ -112,7 +144,9 @@ setupOk w u =
     (both (attributesOk (u .attributes)) (both (featuresOk 0 (u .features)) (tabsOk w (u .tabs))))))
 
 unfoldable pub possible : State → Bool
-possible s = both (coreOk (s .core) (s .gathered)) (setupOk (widthOf (s .core .screen)) (s .setup))
+possible s =
+    both (coreOk (s .core) (s .gathered)) (both (sendingOk (s .core .screen) (s .core .pending) (s .sending))
+    (setupOk (widthOf (s .core .screen)) (s .setup)))
 
 -- a page of the state's own length, and a possible state
 unfoldable pub good : List ℕ → State → Bool

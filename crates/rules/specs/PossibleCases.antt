@@ -8,23 +8,28 @@ use Rattle.rules.specs.declared.Setup.{Setup}
 use Rattle.rules.specs.declared.Pending.{Pending}
 use Rattle.rules.specs.declared.Pending.the-variants as Pending
 use Rattle.rules.specs.declared.Slot.the-variants as Slot
+use Rattle.rules.specs.declared.Short.the-variants as Short
+use Rattle.rules.specs.declared.Place.the-variants as Place
+use Rattle.rules.specs.declared.Sending.{Sending}
+use Rattle.rules.specs.declared.Sending.the-variants as Sending
 use Rattle.rules.specs.Cell.{both}
-use Rattle.rules.specs.State.{withScreen, withAttribute, awaiting, withTabs, withAttributes, withFeatures, withKeys, withLabels, withMessage, withShifted}
+use Rattle.rules.specs.State.{withScreen, withAttribute, awaiting, withSending, withTabs, withAttributes, withFeatures, withKeys, withLabels, withMessage, withShifted}
 use Rattle.rules.specs.Possible.{possible}
 use Rattle.rules.specs.Bench.{wy50, wy60}
-use Rattle.rules.specs.Inputs.{belled}
+use Rattle.rules.specs.Inputs.{lowerAt, belled}
 
 -- the power-on state, but with another active segment, split row and cursors
 unfoldable pub placed : ℕ → ℕ → ℕ → ℕ → State
 placed a s c d = record {
   core = withScreen (wy50 .core) record { wide = false; active = a; split = s; cursor0 = c; cursor1 = d };
+  sending = wy50 .sending;
   gathered = wy50 .gathered;
   setup = wy50 .setup;
 }
 
 -- with another set-up
 abbrev pub settled : Setup → State
-settled u = record { core = wy50 .core; gathered = wy50 .gathered; setup = u }
+settled u = record { core = wy50 .core; sending = wy50 .sending; gathered = wy50 .gathered; setup = u }
 
 -- with a key of n bytes, which are given, at a place; a label; a message; field attributes; features; a tab stop; the shifted line on
 unfoldable pub keyed : ℕ → ℕ → List ℕ → State
@@ -50,11 +55,15 @@ shiftedOn = settled (withShifted (wy50 .setup) true)
 
 -- of each personality, with an attribute remembered
 unfoldable pub remembering : State → ℕ → State
-remembering s a = record { core = withAttribute (s .core) a; gathered = s .gathered; setup = s .setup }
+remembering s a = record { core = withAttribute (s .core) a; sending = s .sending; gathered = s .gathered; setup = s .setup }
 
 -- with a text under way, or a spoilt one, of which the bytes gathered are given
 unfoldable pub gathering : Pending → List ℕ → State
-gathering q g = record { core = awaiting (wy50 .core) q; gathered = g; setup = wy50 .setup }
+gathering q g = record { core = awaiting (wy50 .core) q; sending = wy50 .sending; gathered = g; setup = wy50 .setup }
+
+-- with a send under way; of the lower segment of a page split at row 13, the cursor in the third cell of row 15
+abbrev pub sending : Sending → State
+sending x = withSending (lowerAt 1122) x
 
 unfoldable pub possibleStates : List State
 possibleStates =
@@ -96,6 +105,21 @@ possibleStates =
     ∷ remembering wy60 15
     ∷ remembering wy60 16
     ∷ remembering wy60 30
+    -- a send: any place of its reply but the first
+    ∷ sending (Sending.Short Short.Identity 1)
+    ∷ sending (Sending.Short Short.Identity 2)
+    ∷ sending (Sending.Short Short.Cursor 2)
+    ∷ sending (Sending.Short Short.SegmentCursor 3)
+    ∷ sending (Sending.Short Short.DecimalCursor 6)
+    ∷ sending (Sending.Text false false (Place.Cell 1121))
+    ∷ sending (Sending.Text true false (Place.Cell 1122))
+    ∷ sending (Sending.Text false false Place.Return)
+    ∷ sending (Sending.Text false true (Place.Cell 961))
+    ∷ sending (Sending.Text false true (Place.Cell 1040))
+    ∷ sending (Sending.Text true true (Place.Cell 1122))
+    ∷ sending (Sending.Text true true (Place.Break 1040))
+    ∷ sending (Sending.Text false true (Place.Break 1120))
+    ∷ sending (Sending.Text true true Place.Return)
     ∷ []
 
 unfoldable pub impossibleStates : List State
@@ -144,6 +168,27 @@ impossibleStates =
     ∷ remembering wy50 16
     ∷ remembering wy60 31
     ∷ remembering wy60 32
+    -- a first place, one past the end, a US that is not there; a sequence under way as well
+    ∷ sending (Sending.Short Short.Acknowledge 0)
+    ∷ sending (Sending.Short Short.Acknowledge 1)
+    ∷ sending (Sending.Short Short.Cell 1)
+    ∷ sending (Sending.Short Short.Identity 0)
+    ∷ sending (Sending.Short Short.Identity 3)
+    ∷ sending (Sending.Short Short.Cursor 3)
+    ∷ sending (Sending.Short Short.SegmentCursor 4)
+    ∷ sending (Sending.Short Short.DecimalCursor 7)
+    ∷ sending (Sending.Text false false (Place.Cell 1120))
+    ∷ sending (Sending.Text false false (Place.Cell 1123))
+    ∷ sending (Sending.Text false false (Place.Break 1120))
+    ∷ sending (Sending.Text false true (Place.Cell 960))
+    ∷ sending (Sending.Text false true (Place.Cell 1123))
+    ∷ sending (Sending.Text true true (Place.Cell 0))
+    ∷ sending (Sending.Text true true (Place.Break 960))
+    ∷ sending (Sending.Text true true (Place.Break 1041))
+    ∷ sending (Sending.Text true true (Place.Break 1200))
+    ∷ sending (Sending.Text true true (Place.Break 0))
+    ∷ withSending (gathering Pending.Escape (replicate 46 0)) (Sending.Short Short.Identity 1)
+    ∷ withSending (gathering (Pending.AddressRow 0x20) (replicate 46 0)) (Sending.Text false false Place.Return)
     ∷ []
 
 unfoldable pub allPossible : List State → Bool

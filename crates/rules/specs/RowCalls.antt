@@ -10,15 +10,15 @@ use Rattle.rules.specs.declared.State.{State}
 use Rattle.rules.specs.Cell.{pick, both}
 use Rattle.rules.specs.Row.{height}
 use Rattle.rules.specs.Possible.{good}
-use Rattle.rules.specs.Step.{Outcome, stepRule}
+use Rattle.rules.specs.Step.{Outcome, unheard, stepRule}
 use Rattle.rules.specs.Calls.{Ran, ended, runRule, Call, Step, Run, Called, ofStep, ofRun, callRule, Given, Played, play}
-use Rattle.rules.specs.Noninterference.{anyCompleted, AlikePages, Indistinguishable}
+use Rattle.rules.specs.Noninterference.{revealing, anyCompleted, AlikePages, Indistinguishable}
 use Rattle.rules.specs.RowList.{rowsOf, agrees}
 
 -- l is the list
 unfoldable pub stepRowsRule : List ℕ → List ℕ → State → ℕ → ℕ → Outcome
 stepRowsRule p l s b room =
-    let r = stepRule p s b room in pick (agrees l p s) r (record { answer = 7; state = s; page = p; reply = [] })
+    let r = stepRule p s b room in pick (agrees l p s) r (unheard 7 p s)
 
 unfoldable pub runRowsRule : List ℕ → List ℕ → State → List ℕ → ℕ → Ran
 runRowsRule p l s bytes room = let r = runRule p s bytes room in pick (agrees l p s) r (ended p s 7 bytes)
@@ -112,7 +112,7 @@ pub record EqualResults : Type 0 where
 -- one that disagrees answers 7, and nothing has changed
 pub record Disagreeing : Type 0 where
   pub step : (p l : List ℕ) (s : State) (b room : ℕ) → agrees l p s ≡ false
-      → stepRowsRule p l s b room ≡ record { answer = 7; state = s; page = p; reply = [] }
+      → stepRowsRule p l s b room ≡ unheard 7 p s
   pub run : (p l : List ℕ) (s : State) (bytes : List ℕ) (room : ℕ) → agrees l p s ≡ false → runRowsRule p l s bytes room ≡ ended p s 7 bytes
   pub kept : (p l : List ℕ) (s : State) (p′ : List ℕ) (s′ : State) → agrees l p s ≡ false → rowsAfter p l s p′ s′ ≡ l
   -- such are all lists that are not 48 long
@@ -135,6 +135,6 @@ pub record RowIndistinguishable (p q : List ℕ) (a b : RowPlayed) : Type 0 wher
 -- the same list l, right or wrong; none of the six is completed by the calls that the first terminal's come to
 abbrev pub RowDemand3 : Type 0
 RowDemand3 =
-    (p q l : List ℕ) (s : State) (calls : List RowCall) → s .core .modes .protect ≡ true → AlikePages p q
+    (p q l : List ℕ) (s : State) (calls : List RowCall) → s .core .modes .protect ≡ true → revealing (s .sending) ≡ false → AlikePages p q
     → anyCompleted (bareCalls calls (record { page = p; rows = l; state = s })) p s ≡ false
     → RowIndistinguishable p q (rowPlay calls (record { page = p; rows = l; state = s })) (rowPlay calls (record { page = q; rows = l; state = s }))

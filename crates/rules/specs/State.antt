@@ -23,8 +23,10 @@ use Rattle.rules.specs.declared.Core.{Core}
 use Rattle.rules.specs.declared.State.{State}
 use Rattle.rules.specs.declared.Pending.{Pending}
 use Rattle.rules.specs.declared.Pending.the-variants as Pending
+use Rattle.rules.specs.declared.Sending.{Sending}
+use Rattle.rules.specs.declared.Sending.the-variants as Sending
 use Rattle.rules.specs.Cell.{pick, both, either}
-use Rattle.rules.specs.Row.{columns, height, Placed}
+use Rattle.rules.specs.Row.{columns, height, rowOf, columnOf, rowStart, Placed}
 
 -- document 01, "Numbers that come back"; 5 is unused (A4)
 abbrev pub number : Answer → ℕ
@@ -71,6 +73,17 @@ withCursor x n = record {
   cursor0 = pick (eqb (x .active) 0) n (x .cursor0);
   cursor1 = pick (eqb (x .active) 0) (x .cursor1) n;
 }
+
+-- the cursor's row from the segment's top, and its column, from 0
+abbrev pub cursorRow : Screen → ℕ
+cursorRow x = rowOf (widthOf x) (cursorOf x) - segmentTop x
+
+abbrev pub cursorColumn : Screen → ℕ
+cursorColumn x = columnOf (widthOf x) (cursorOf x)
+
+-- the first cell of a text that is sent: the segment's, or that of the cursor's row
+abbrev pub textStart : Screen → Bool → ℕ
+textStart x segment = pick segment (segmentStart x) (rowStart (widthOf x) (cursorOf x))
 
 -- another segment is active
 abbrev pub activated : Screen → ℕ → Screen
@@ -131,6 +144,30 @@ awaiting c q = record { screen = c .screen; modes = c .modes; bells = c .bells; 
 abbrev pub idle : Core → Core
 idle c = awaiting c Pending.Idle
 
+-- no sequence is under way
+abbrev pub isIdle : Pending → Bool
+isIdle Pending.Idle = true
+isIdle Pending.Escape = false
+isIdle (Pending.Awaits a) = false
+isIdle (Pending.AddressRow r) = false
+isIdle (Pending.SegmentNumber n) = false
+isIdle (Pending.SegmentRow n r) = false
+isIdle (Pending.DecimalRow n row) = false
+isIdle (Pending.DecimalColumn row n column) = false
+isIdle (Pending.FieldNumber n) = false
+isIdle (Pending.Text x n) = false
+isIdle (Pending.Spoilt x) = false
+
+-- there is something to send
+abbrev pub sends : Sending → Bool
+sends Sending.Nothing = false
+sends (Sending.Short r n) = true
+sends (Sending.Text all segment k) = true
+
+-- another send is under way
+abbrev pub withSending : State → Sending → State
+withSending s x = record { core = s .core; sending = x; gathered = s .gathered; setup = s .setup }
+
 abbrev pub withProtect : Modes → Bool → Modes
 withProtect m b = record { protect = b; mark = m .mark; insert = m .insert; autoscroll = m .autoscroll; locked = m .locked; local = m .local }
 
@@ -182,13 +219,21 @@ stored Slot.Message l u = withMessage u (longText l)
 abbrev pub unchanged : Change
 unchanged = Change.Set SetupChange.Nothing
 
--- the gathered bytes g, and the set-up, after a byte's change
+-- the send under way, the gathered bytes g, and the set-up, after a byte's change
+unfoldable pub sendingAfter : Change → Sending → Sending
+sendingAfter (Change.Gather n b) y = y
+sendingAfter (Change.Take x n) y = y
+sendingAfter (Change.Set x) y = y
+sendingAfter (Change.Send x) y = x
+
 unfoldable pub gatheredAfter : Change → List ℕ → List ℕ
 gatheredAfter (Change.Gather n b) g = set g n b
 gatheredAfter (Change.Take x n) g = g
 gatheredAfter (Change.Set x) g = g
+gatheredAfter (Change.Send x) g = g
 
 unfoldable pub setupAfter : Change → List ℕ → Setup → Setup
 setupAfter (Change.Gather n b) g u = u
 setupAfter (Change.Take x n) g u = stored x (take n g) u
 setupAfter (Change.Set x) g u = changed x u
+setupAfter (Change.Send x) g u = u

@@ -1,22 +1,25 @@
 -- The run over many bytes as the single step repeated: the steps that it takes, and what it gives by them.
 use mathlib.Core.Path.{_≡_}
-use mathlib.Core.Bool.{Bool}
+use mathlib.Core.Bool.{Bool, true}
 use mathlib.Core.List.{List, [], _∷_, _++_}
 use Prim.Native.Nat.{ℕ, _+_, _-_, _<_, _≤_}
 use lib.Dec.{leb, eqb}
 use lib.ListN.{length, getD, take, drop}
 use Rattle.rules.specs.declared.State.{State}
 use Rattle.rules.specs.Cell.{pick, both}
-use Rattle.rules.specs.Step.{Outcome, stepRule}
-use Rattle.rules.specs.Calls.{Ran, repeated}
+use Rattle.rules.specs.State.{sends}
+use Rattle.rules.specs.Step.{Outcome, goesOn, stepRule}
+use Rattle.rules.specs.Calls.{Ran, behind, repeated}
 
--- the step on each byte in turn, on the page and the state that the last left, with the room that is left, up to the first that answers 6
+-- the step on each byte in turn, on the page and the state that the last left, with the room that is left, up to the first that answers 6 or
+-- finds a send under way
 unfoldable pub steps : List ℕ → List ℕ → State → ℕ → List Outcome
 steps [] p s room = []
 steps (b ∷ bs) p s room =
     let o = stepRule p s b room in
     let l = o ∷ steps bs (o .page) (o .state) (room - length (o .reply)) in
-    pick (eqb (o .answer) 6) [] l
+    let q = pick (eqb (o .answer) 6) [] l in
+    pick (sends (s .sending)) [] q
 
 -- an answer from 1 to 4
 abbrev pub isRefusal : ℕ → Bool
@@ -41,10 +44,12 @@ unfoldable pub lastState : State → List Outcome → State
 lastState s [] = s
 lastState s (o ∷ l) = lastState (o .state) l
 
--- a run that stopped: 6, and so does the step on the first byte not taken, where the run stands and with the room that is left
-pub record Stopped (bytes : List ℕ) (room : ℕ) (r : Ran) : Type 0 where
-  pub answer : r .answer ≡ 6
-  pub next : (stepRule (r .page) (r .state) (getD bytes (r .taken) 0) (room - length (r .reply))) .answer ≡ 6
+-- a run that stopped: 0, inside a send, and no room is left; or 6, and so does the step on the first byte not taken, where the run stands and
+-- with the room that is left
+pub data Stopped (bytes : List ℕ) (room : ℕ) (r : Ran) : Type 0 where
+  in-send : r .answer ≡ 0 → sends (r .state .sending) ≡ true → length (r .reply) ≡ room → Stopped bytes room r
+  no-room : r .answer ≡ 6 → (stepRule (r .page) (r .state) (getD bytes (r .taken) 0) (room - length (r .reply))) .answer ≡ 6
+      → Stopped bytes room r
 
 -- what a run r over the bytes gives, from a page p and a state s, l being its steps
 pub record Repeats (p : List ℕ) (s : State) (bytes : List ℕ) (room : ℕ) (l : List Outcome) (r : Ran) : Type 0 where
@@ -57,9 +62,16 @@ pub record Repeats (p : List ℕ) (s : State) (bytes : List ℕ) (room : ℕ) (l
   pub most : r .taken ≤ length bytes
   pub rest : r .rest ≡ drop (r .taken) bytes
   pub whole : take (r .taken) bytes ++ r .rest ≡ bytes
-  -- 0 if all bytes are taken, else 6
+  -- 0 if all bytes are taken
   pub all : r .taken ≡ length bytes → r .answer ≡ 0
   pub some : r .taken < length bytes → Stopped bytes room r
+
+-- what a run r inside a send gives: the send goes on with the room, and then the bytes with what is left of it
+pub record Resumes (p : List ℕ) (s : State) (bytes : List ℕ) (room : ℕ) (r : Ran) : Type 0 where
+  pub bytes-run : Ran
+  pub repeats : Repeats p (goesOn p s room .state) bytes (room - length (goesOn p s room .reply))
+      (steps bytes p (goesOn p s room .state) (room - length (goesOn p s room .reply))) bytes-run
+  pub whole : r ≡ behind (goesOn p s room .reply) bytes-run
 
 -- a run that was refused: 7, zeros, no reply, the whole input back, nothing changed
 pub record Refused (p : List ℕ) (s : State) (bytes : List ℕ) (r : Ran) : Type 0 where

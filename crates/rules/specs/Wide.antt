@@ -16,6 +16,7 @@ use Rattle.rules.specs.Inputs.{esc, goTo, labelled, typed}
 abbrev pub widePowerOn : State
 widePowerOn = record {
   core = withScreen (wy50 .core) record { wide = true; active = 0; split = 0; cursor0 = 0; cursor1 = 0 };
+  sending = wy50 .sending;
   gathered = wy50 .gathered;
   setup = wy50 .setup;
 }

@@ -103,9 +103,35 @@ pub struct Core {
     pub attribute: u8,
 }
 
-// `gathered` holds the bytes of a text under way.
+// The replies of a few bytes: 05h, ESC M, ESC SPACE, ESC ?, ESC /, ESC b.
+pub enum Short {
+    Acknowledge,
+    Cell,
+    Identity,
+    Cursor,
+    SegmentCursor,
+    DecimalCursor,
+}
+
+// A place of a text that is sent: a cell, the US before a cell, the CR.
+pub enum Place {
+    Cell(u16),
+    Break(u16),
+    Return,
+}
+
+// A reply, and the place from which it goes on: of a short one how many bytes went before. ESC 4 to ESC 7 send a text up to the cursor, all cells
+// or those not marked protected, from the segment's first cell or the row's.
+pub enum Sending {
+    Nothing,
+    Short(Short, u8),
+    Text { all: bool, segment: bool, at: Place },
+}
+
+// `gathered` holds the bytes of a text under way; `sending` is the send under way.
 pub struct State {
     pub core: Core,
+    pub sending: Sending,
     pub gathered: [u8; 46],
     pub setup: Setup,
 }
@@ -291,25 +317,13 @@ pub enum SetupChange {
     HideLine,
 }
 
-// What a byte changes beside the core: a byte of a text is gathered at a place, a slot takes the first so many bytes gathered, or a command's
-// change of the set-up.
+// What a byte changes beside the core: a byte of a text is gathered at a place, a slot takes the first so many bytes gathered, a command's change
+// of the set-up, or a reply that was due has begun, and this is left of it.
 pub enum Change {
     Gather(u8, u8),
     Take(Slot, u8),
     Set(SetupChange),
-}
-
-// What is replied.
-pub enum Reply {
-    Nothing,
-    Acknowledge,
-    Identity(Personality),
-    Address(u8, u8),
-    SegmentAddress(u8, u8, u8),
-    Decimal(u8, u8),
-    Cell(u16),
-    // cells `from` up to `to`; guarded cells too, or left out
-    Text { all: bool, from: u16, to: u16 },
+    Send(Sending),
 }
 
 // Where the active cursor goes at the end, over the page as it then is.
@@ -323,7 +337,8 @@ pub struct Plan {
     pub first: Write,
     pub second: Write,
     pub change: SetupChange,
-    pub reply: Reply,
+    // from its first place; a plan with a reply asks for nothing else
+    pub reply: Sending,
     pub next: Core,
     pub land: Land,
 }
@@ -341,8 +356,10 @@ pub struct PowerOn {
     pub state: State,
 }
 
+// `taken` says whether the step's own byte was taken.
 pub struct StepResult {
     pub answer: Answer,
+    pub taken: bool,
     pub replied: usize,
     pub state: State,
 }
