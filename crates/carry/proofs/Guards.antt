@@ -145,7 +145,7 @@ kept-guards w true x p e = on-guards w x p e
 kept-guards w false x p e = off-guards (applied w false x p) p (length-applied w false x p)
 
 -- two modes that are the same
-same-mode : (a b : Bool) → Bool·beq a b ≡ true → a ≡ b
+pub same-mode : (a b : Bool) → Bool·beq a b ≡ true → a ≡ b
 same-mode true true e = refl
 same-mode true false e = absurd (false≢true e)
 same-mode false true e = absurd (false≢true e)

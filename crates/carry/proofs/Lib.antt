@@ -1,5 +1,5 @@
-pub mod Bytes
 pub mod Settling
+pub mod Went
 pub mod Carrying
 pub mod Guards
 pub mod Touched

@@ -1,7 +1,8 @@
 // A plan carried out: the only place that reads or writes a cell's contents.
 ghost use mathlib.Core.Path.{_≡_};
+ghost use mathlib.Core.Bool.{true};
 ghost use lib.ListN.{length};
-ghost use Rattle.rules.specs.State.{pageLength};
+ghost use Rattle.rules.specs.State.{pageLength, sends};
 ghost use Rattle.rules.specs.Good.{GoodPlan};
 ghost use Rattle.rules.specs.Search.{guardedAt};
 ghost use Rattle.rules.specs.RowList.{Beside};
@@ -10,12 +11,11 @@ ghost use Rattle.carry.specs.Carried.{Carried};
 ghost use Rattle.carry.specs.Rows.{BesideAfter};
 
 mod landing; // where the cursor goes
-mod replies; // what is replied: whether it fits, and its bytes
+pub mod replies; // what is sent of a reply
 mod writes; // what is written
 
 use landing::land;
-use replies::put_reply;
-use replies::reply_fits;
+use replies::send;
 use rules::Answer;
 use rules::Change;
 use rules::Core;
@@ -23,9 +23,41 @@ use rules::CoreResult;
 use rules::Plan;
 use rules::SetupChange;
 use state::screen::width_of;
+use state::sending::is_sending;
+use writes::keep_list;
 use writes::write_both;
 
-// The room is judged before anything is written: a reply longer than it answers 6, and nothing has changed.
+// A reply begins, as much of it as fits. No room answers 6, and nothing has changed.
+fn begin(page: &[u16], rows: &mut [u16], core: Core, plan: Plan, room: &mut [u8]) -> CoreResult
+    requires { ⌜ (length (now page) ≡ pageLength (plan .next .screen)) × (GoodPlan plan × (Beside (planWidth plan) (guardedAt (core .modes .protect) (now page)) (now rows) × (sends (plan .reply) ≡ true))) ⌝ }
+    ensures { λ r. ⌜ Carried (carried (now (page .entry)) core plan (length (now (room .entry)))) r (now (page .entry)) (now (room .entry)) (now (room .exit)) × BesideAfter (planWidth plan) (carried (now (page .entry)) core plan (length (now (room .entry)))) (now (rows .exit)) ⌝ }
+{
+    let next = plan.next;
+    if room.len() == 0 {
+        return CoreResult {
+            answer: Answer::NoRoom,
+            replied: 0,
+            core: next,
+            change: Change::Set(SetupChange::Nothing),
+        };
+    }
+    let screen = next.screen;
+    let width = width_of(screen) as usize;
+    keep_list(rows, page, width, core.modes.protect, next.modes.protect);
+    let reply = plan.reply;
+    let sent = send(page, next, reply, room);
+    let n = sent.replied;
+    let left = sent.left;
+    let answer = plan.answer;
+    let change = Change::Send(left);
+    CoreResult {
+        answer: answer,
+        replied: n,
+        core: next,
+        change: change,
+    }
+}
+
 // A row list beside the page follows it.
 pub fn carry_out(
     page: &mut [u16],
@@ -37,20 +69,13 @@ pub fn carry_out(
     requires { ⌜ (length (now page) ≡ pageLength (plan .next .screen)) × (GoodPlan plan × Beside (planWidth plan) (guardedAt (core .modes .protect) (now page)) (now rows)) ⌝ }
     ensures { λ r. ⌜ Carried (carried (now (page .entry)) core plan (length (now (room .entry)))) r (now (page .exit)) (now (room .entry)) (now (room .exit)) × BesideAfter (planWidth plan) (carried (now (page .entry)) core plan (length (now (room .entry)))) (now (rows .exit)) ⌝ }
 {
+    let reply = plan.reply;
+    if is_sending(reply) {
+        return begin(page, rows, core, plan, room);
+    }
     let on = core.modes.protect;
     let screen = plan.next.screen;
     let width = width_of(screen) as usize;
-    let reply = plan.reply;
-    if !reply_fits(page, width, on, reply, room.len()) {
-        let next = plan.next;
-        return CoreResult {
-            answer: Answer::NoRoom,
-            replied: 0,
-            core: next,
-            change: Change::Set(SetupChange::Nothing),
-        };
-    }
-    let n = put_reply(page, width, on, reply, room);
     let first = plan.first;
     let second = plan.second;
     let next = plan.next;
@@ -62,7 +87,7 @@ pub fn carry_out(
     let change = Change::Set(x);
     CoreResult {
         answer: answer,
-        replied: n,
+        replied: 0,
         core: c,
         change: change,
     }

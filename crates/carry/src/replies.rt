@@ -1,72 +1,50 @@
-// What a plan replies: whether it fits, so that the room is judged first, and its bytes.
+// What is sent of a reply from the place where it stands, as much as the room takes.
 ghost use mathlib.Core.Path.{_≡_};
-ghost use Prim.Native.Nat.{_+_, _*_, _/_, _%_, _≤_};
+ghost use mathlib.Core.Bool.{true};
 ghost use mathlib.Core.List.{[], _∷_};
-ghost use lib.Dec.{leb};
-ghost use lib.ListN.{length};
-ghost use Rattle.rules.specs.Row.{Width};
-ghost use Rattle.rules.specs.Good.{GoodReply};
-ghost use Rattle.rules.specs.Send.{model, digit as digitOf, leavesOut, replied};
-ghost use Rattle.rules.specs.Room.{over};
-use page::text::cell_length;
-use page::text::put_cell;
-use page::text::put_text;
-use page::text::text_fits;
+ghost use Prim.Native.Nat.{_+_, _<_, _≤_};
+ghost use lib.ListN.{length, drop};
+ghost use Rattle.rules.specs.State.{Inside, pageLength, cursorRow, cursorColumn};
+ghost use Rattle.rules.specs.Possible.{screenOk, shortLength};
+ghost use Rattle.rules.specs.Good.{GoodSend};
+ghost use Rattle.rules.specs.Send.{model as modelOf, digit as digitOf, decimal, each, places};
+ghost use Rattle.page.specs.Room.{stands, gone};
+ghost use Rattle.carry.specs.Went.{Went};
+use page::text::Sent;
+use page::text::send_bytes;
+use page::text::send_cell;
+use page::text::send_text;
+use rules::Core;
 use rules::Personality;
-use rules::Reply;
+use rules::Screen;
+use rules::Sending;
+use rules::Short;
+use state::screen;
+use state::screen::cursor_of;
+use state::screen::segment_top;
+use state::screen::width_of;
 
-// ESC 4 and ESC 5 leave protected cells out, ESC 6 and ESC 7 send all.
-fn leaves_out(all: bool) -> bool
-    ensures { λ r. ⌜ r ≡ leavesOut all ⌝ }
+// The cursor's row from the segment's top, and its column, from 0.
+fn cursor_row(x: Screen) -> u8
+    requires { ⌜ Inside x ⌝ }
+    ensures { λ r. ⌜ r ≡ cursorRow x ⌝ }
 {
-    !all
+    (screen::cursor_row(x) - segment_top(x)) as u8
 }
 
-// Whether so much room is enough for the reply.
-pub fn reply_fits(page: &[u16], width: usize, on: bool, x: Reply, room: usize) -> bool
-    requires { ⌜ (length (now page) ≡ 24 * width) × (GoodReply width x × Width width) ⌝ }
-    ensures { λ r. ⌜ r ≡ leb (length (replied width on (now (page .entry)) x)) room ⌝ }
+fn cursor_column(x: Screen) -> u8
+    ensures { λ r. ⌜ r ≡ cursorColumn x ⌝ }
 {
-    match x {
-        Reply::Nothing => true,
-        Reply::Acknowledge => 1 <= room,
-        Reply::Identity(_) => 3 <= room,
-        Reply::Address(_, _) => 3 <= room,
-        Reply::SegmentAddress(_, _, _) => 4 <= room,
-        Reply::Decimal(_, _) => 7 <= room,
-        Reply::Cell(at) => cell_length(page, on, at as usize) <= room,
-        Reply::Text { all, from, to } => text_fits(
-            page,
-            width,
-            leaves_out(all),
-            from as usize,
-            to as usize,
-            room,
-        ),
-    }
+    screen::cursor_column(x) as u8
 }
 
-// Bytes at the front of the room; how many.
-fn put_bytes(room: &mut [u8], bytes: &[u8]) -> usize
-    requires { ⌜ length (now bytes) ≤ length (now room) ⌝ }
-    ensures { λ r. ⌜ (r ≡ length (now (bytes .entry))) × (now (room .exit) ≡ over (now (bytes .entry)) (now (room .entry))) ⌝ }
-{
-    let mut i = 0;
-    while i < bytes.len() {
-        room[i] = bytes[i];
-        i += 1;
-    }
-    i
-}
-
-// ESC SPACE: the model's number and CR.
-fn put_identity(room: &mut [u8], m: Personality) -> usize
-    requires { ⌜ 3 ≤ length (now room) ⌝ }
-    ensures { λ x. ⌜ (x ≡ 3) × (now (room .exit) ≡ over (model m ∷ 0x30 ∷ 0x0d ∷ []) (now (room .entry))) ⌝ }
+// The first digit of the model's number.
+fn model(m: Personality) -> u8
+    ensures { λ r. ⌜ r ≡ modelOf m ⌝ }
 {
     match m {
-        Personality::Wy50 => put_bytes(room, b"50\r"),
-        Personality::Wy60 => put_bytes(room, b"60\r"),
+        Personality::Wy50 => b'5',
+        Personality::Wy60 => b'6',
     }
 }
 
@@ -77,10 +55,19 @@ fn digit(n: u8) -> u8
     0x30 + n % 10
 }
 
+// ESC SPACE: the model's number and CR.
+fn send_identity(room: &mut [u8], m: Personality, from: u8) -> Sent
+    requires { ⌜ from ≤ 3 ⌝ }
+    ensures { λ r. ⌜ stands (now (room .exit)) (r .replied) (r .left) ≡ gone (each Short.Identity from (drop from (modelOf m ∷ 0x30 ∷ 0x0d ∷ []))) 0 (now (room .entry)) ⌝ }
+{
+    let bytes = [model(m), b'0', b'\r'];
+    send_bytes(room, &bytes, Short::Identity, from)
+}
+
 // ESC b: two digits, R, three digits, C.
-fn put_decimal(room: &mut [u8], r: u8, c: u8) -> usize
-    requires { ⌜ 7 ≤ length (now room) ⌝ }
-    ensures { λ x. ⌜ (x ≡ 7) × (now (room .exit) ≡ over (digitOf (r / 10) ∷ digitOf r ∷ 0x52 ∷ digitOf (c / 100) ∷ digitOf (c / 10) ∷ digitOf c ∷ 0x43 ∷ []) (now (room .entry))) ⌝ }
+fn send_decimal(room: &mut [u8], r: u8, c: u8, from: u8) -> Sent
+    requires { ⌜ from ≤ 7 ⌝ }
+    ensures { λ x. ⌜ stands (now (room .exit)) (x .replied) (x .left) ≡ gone (each Short.DecimalCursor from (drop from (decimal r c))) 0 (now (room .entry)) ⌝ }
 {
     let bytes = [
         digit(r / 10),
@@ -91,29 +78,55 @@ fn put_decimal(room: &mut [u8], r: u8, c: u8) -> usize
         digit(c),
         b'C',
     ];
-    put_bytes(room, &bytes)
+    send_bytes(room, &bytes, Short::DecimalCursor, from)
 }
 
-// The reply at the front of the room; its length.
-pub fn put_reply(page: &[u16], width: usize, on: bool, x: Reply, room: &mut [u8]) -> usize
-    requires { ⌜ (length (now page) ≡ 24 * width) × ((GoodReply width x × Width width) × (length (replied width on (now page) x) ≤ length (now room))) ⌝ }
-    ensures { λ r. ⌜ (r ≡ length (replied width on (now (page .entry)) x)) × (now (room .exit) ≡ over (replied width on (now (page .entry)) x) (now (room .entry))) ⌝ }
+fn send_short(page: &[u16], core: Core, reply: Short, from: u8, room: &mut [u8]) -> Sent
+    requires { ⌜ (length (now page) ≡ pageLength (core .screen)) × ((screenOk (core .screen) ≡ true) × ((from < shortLength reply) × (0 < length (now room)))) ⌝ }
+    ensures { λ r. ⌜ stands (now (room .exit)) (r .replied) (r .left) ≡ gone (places (now (page .entry)) core (Sending.Short reply from)) 0 (now (room .entry)) ⌝ }
 {
-    match x {
-        Reply::Nothing => 0,
-        Reply::Acknowledge => put_bytes(room, b"\x06"),
-        Reply::Identity(m) => put_identity(room, m),
-        Reply::Address(r, c) => put_bytes(room, &[r, c, 0x0d]),
-        Reply::SegmentAddress(n, r, c) => put_bytes(room, &[n, r, c, 0x0d]),
-        Reply::Decimal(r, c) => put_decimal(room, r, c),
-        Reply::Cell(at) => put_cell(room, page, on, at as usize),
-        Reply::Text { all, from, to } => put_text(
+    let x = core.screen;
+    let row = cursor_row(x);
+    let column = cursor_column(x);
+    match reply {
+        Short::Acknowledge => send_bytes(room, b"\x06", Short::Acknowledge, from),
+        Short::Cell => send_cell(room, page, core.modes.protect, cursor_of(x) as usize),
+        Short::Identity => {
+            let m = core.personality;
+            send_identity(room, m, from)
+        }
+        Short::Cursor => send_bytes(
             room,
-            page,
-            width,
-            leaves_out(all),
-            from as usize,
-            to as usize,
+            &[0x20 + row, 0x20 + column, 0x0d],
+            Short::Cursor,
+            from,
         ),
+        Short::SegmentCursor => send_bytes(
+            room,
+            &[0x30 + x.active, 0x20 + row, 0x20 + column, 0x0d],
+            Short::SegmentCursor,
+            from,
+        ),
+        Short::DecimalCursor => send_decimal(room, row + 1, column + 1, from),
+    }
+}
+
+// A text's extent is read from the core at each call.
+pub fn send(page: &[u16], core: Core, sending: Sending, room: &mut [u8]) -> Sent
+    requires { ⌜ (length (now page) ≡ pageLength (core .screen)) × ((screenOk (core .screen) ≡ true) × (GoodSend (core .screen) sending × (0 < length (now room)))) ⌝ }
+    ensures { λ r. ⌜ Went (now (page .entry)) core sending (now (room .entry)) (r .replied) (r .left) (now (room .exit)) ⌝ }
+{
+    match sending {
+        Sending::Nothing => Sent {
+            replied: 0,
+            left: Sending::Nothing,
+        },
+        Sending::Short(reply, n) => send_short(page, core, reply, n, room),
+        Sending::Text { all, segment, at } => {
+            let x = core.screen;
+            let width = width_of(x) as usize;
+            let to = cursor_of(x) as usize + 1;
+            send_text(room, page, width, to, all, segment, at)
+        }
     }
 }

@@ -182,3 +182,17 @@ pub fn write_both(
     let bottom = t.bottom;
     recount(rows, page, width, after, top, bottom);
 }
+
+// The row list where nothing is written; protect mode becomes `after`.
+pub fn keep_list(rows: &mut [u16], page: &[u16], width: usize, on: bool, after: bool)
+    requires { ⌜ (length (now page) ≡ 24 * width) × (Width width × Beside width (guardedAt on (now page)) (now rows)) ⌝ }
+    ensures { λ r. ⌜ Beside width (guardedAt after (now (page .entry))) (now (rows .exit)) ⌝ }
+{
+    if rows.len() == 0 {
+        return;
+    }
+    if on == after {
+        return;
+    }
+    rebuild(rows, page, width, after);
+}

@@ -1,24 +1,23 @@
 -- Asking the terminal: the call's promise, and what it comes to on each path.
 --     tell-page, tell-state, tell-under-way, tell-no-room, tell-counted     what the caller is told
---     few-bytes, replied-within     what is lent
---     asks                          the call's promise, from the run's
---     ask-cases                     the statement of specs/Ask
+--     ready-is                                  whether nothing is under way
+--     few-bytes, room-most, lends, replied-within     what is lent
+--     asks                                      the call's promise, from the run's
+--     ask-cases                                 the statement of specs/Ask
 -- Assumes nothing.
 use mathlib.Core.Path.{_≡_, refl, sym, ap, _∙_}
-use mathlib.Core.Bool.{Bool, true, false}
-use mathlib.Core.List.{List, [], _∷_}
-use Prim.Native.Nat.{ℕ, _+_, _*_, _≤_}
+use mathlib.Core.Bool.{Bool, true, false, not}
+use mathlib.Core.List.{List, [], _∷_, _++_}
+use Prim.Native.Nat.{ℕ, zero, suc, _+_, _≤_}
 use native.Mathlib.Omega.{arith}
 use lib.Dec.{eqb}
-use lib.ListN.{length, take, drop, length-append}
-use lib.Seq.{take-append-seam}
+use lib.ListN.{length, take, drop, length-append, take-append-drop}
+use lib.Seq.{take-append-seam, length-take-le}
 use borrow.Author.Tests.{eq-eqb, ne-eqb}
 use Rattle.rules.specs.declared.State.{State}
-use Rattle.rules.specs.declared.Pending.{Pending}
-use Rattle.rules.specs.declared.Pending.the-variants as Pending
 use Rattle.rules.specs.declared.RunResult.{RunResult}
-use Rattle.rules.specs.Cell.{pick}
-use Rattle.rules.specs.State.{number, widthOf, pageLength}
+use Rattle.rules.specs.Cell.{pick, both, either}
+use Rattle.rules.specs.State.{number, pageLength, isIdle, sends}
 use Rattle.rules.specs.Possible.{possible, good}
 use Rattle.rules.specs.Calls.{Ran, runRule}
 use Rattle.rules.specs.Room.{over}
@@ -27,31 +26,35 @@ use Rattle.counter.specs.declared.Counted.{Counted}
 use Rattle.counter.specs.declared.Told.{Told}
 use Rattle.counter.specs.declared.Told.the-variants as Told
 use Rattle.counter.specs.Count.{countRule}
-use Rattle.counter.specs.Ask.{isIdle, question, asking, toldRule, askRule, Asks, Silent, AskCases}
-use Rattle.counter.proofs.Replies.{asked-done, asked-stopped, by-room, room-enough, asked-nothing, asked-refused, asking-page}
+use Rattle.counter.specs.Ask.{isReady, question, lent, asking, isCut, toldRule, askRule, Asks, Silent, AskCases}
+use Rattle.counter.proofs.Replies.{asked-begun, asked-stopped, by-room, asked-nothing, asked-refused, asking-page, cut-fills, whole-state, never-cut}
 
 -- ---- what the caller is told
 
-module _ (n : ℕ) (full t : Bool) (c : Counted) where
-  pub tell-state : n ≡ 7 → full ≡ true → Told.BadState ≡ toldRule n full t c
+module _ (n : ℕ) (full ready cut : Bool) (c : Counted) where
+  pub tell-state : n ≡ 7 → full ≡ true → Told.BadState ≡ toldRule n full ready cut c
   unfolding toldRule
   tell-state e f = rw (eq-eqb n 7 e, f)
 
-  pub tell-page : n ≡ 7 → full ≡ false → Told.BadPage ≡ toldRule n full t c
+  pub tell-page : n ≡ 7 → full ≡ false → Told.BadPage ≡ toldRule n full ready cut c
   unfolding toldRule
   tell-page e f = rw (eq-eqb n 7 e, f)
 
-  pub tell-under-way : (n ≡ 7 → ⊥) → t ≡ false → Told.UnderWay ≡ toldRule n full t c
+  pub tell-under-way : (n ≡ 7 → ⊥) → ready ≡ false → Told.UnderWay ≡ toldRule n full ready cut c
   unfolding toldRule
   tell-under-way e f = rw (ne-eqb n 7 e, f)
 
-  pub tell-no-room : (n ≡ 7 → ⊥) → t ≡ true → n ≡ 6 → Told.NoRoom ≡ toldRule n full t c
+  pub tell-no-room : (n ≡ 7 → ⊥) → ready ≡ true → cut ≡ true → Told.NoRoom ≡ toldRule n full ready cut c
   unfolding toldRule
-  tell-no-room e f g = rw (ne-eqb n 7 e, f, eq-eqb n 6 g)
+  tell-no-room e f g = rw (ne-eqb n 7 e, f, g)
 
-  pub tell-counted : (n ≡ 7 → ⊥) → t ≡ true → (n ≡ 6 → ⊥) → Told.Counted c ≡ toldRule n full t c
+  pub tell-counted : (n ≡ 7 → ⊥) → ready ≡ true → cut ≡ false → Told.Counted c ≡ toldRule n full ready cut c
   unfolding toldRule
-  tell-counted e f g = rw (ne-eqb n 7 e, f, ne-eqb n 6 g)
+  tell-counted e f g = rw (ne-eqb n 7 e, f, g)
+
+pub ready-is : (s : State) {a b r : Bool} → a ≡ isIdle (s .core .pending) → b ≡ sends (s .sending) → r ≡ both a (not b) → r ≡ isReady s
+unfolding isReady
+ready-is s ea eb er = er ∙ rw (ea, eb)
 
 -- ---- the promise
 
@@ -62,13 +65,53 @@ few false = omega arith
 pub few-bytes : {n : ℕ} (t : Bool) → n ≡ pick t 2 0 → n ≤ 2
 few-bytes t e = omega (arith, few t)
 
-question-is : {n : ℕ} (t : Bool) (q : Pending) → t ≡ isIdle q → n ≡ pick t 2 0 → take n (0x1b ∷ 0x35 ∷ []) ≡ question q
+pub room-most : {m : ℕ} (t : Bool) (w : List ℕ) → m ≡ lent t (length w) → m ≤ length w
+room-most t w e = omega (arith, by t)
+  where
+    by : (t : Bool) → pick t (length w) 0 ≤ length w
+    by true = omega arith
+    by false = omega arith
+
+question-is : {n : ℕ} (t : Bool) → n ≡ pick t 2 0 → take n (0x1b ∷ 0x35 ∷ []) ≡ question t
 unfolding question
-question-is t q e f = rw (f, ← e) (by-test t)
+question-is t f = rw f (by-test t)
   where
     by-test : (t : Bool) → take (pick t 2 0) (0x1b ∷ 0x35 ∷ []) ≡ pick {A = List ℕ} t (0x1b ∷ 0x35 ∷ []) []
     by-test true = refl
     by-test false = refl
+
+-- a part of the room was lent, and came back with the reply at its front
+lent-back : (r w : List ℕ) (m : ℕ) → length r ≤ m → m ≤ length w → over r (take m w) ++ drop m w ≡ over r w
+unfolding over
+lent-back [] w m h k = take-append-drop m w
+lent-back (b ∷ r) [] m h k = absurd (omega arith)
+lent-back (b ∷ r) (x ∷ w) zero h k = absurd (omega arith)
+lent-back (b ∷ r) (x ∷ w) (suc m) h k = ap (λ (l : List ℕ). b ∷ l) (lent-back r w m (omega arith) (omega arith))
+
+back-whole : {o : Ran} {r : RunResult} {l p′ w q : List ℕ} {m : ℕ} → m ≤ length w → Completed o r l p′ (take m w) q
+    → Completed o r l p′ w (q ++ drop m w)
+back-whole {o} {r} {l} {p′} {w} {q} {m} k h =
+    let n : length (take m w) ≡ m = length-take-le m w k in
+    record {
+      answer = h .answer;
+      taken = h .taken;
+      replied = h .replied;
+      refused = h .refused;
+      rest = h .rest;
+      state = h .state;
+      page = h .page;
+      room = ap (λ (t : List ℕ). t ++ drop m w) (h .room) ∙ lent-back (o .reply) w m (omega (arith, h .replied, h .fits, n)) k;
+      fits = omega (arith, h .fits, n, k);
+      within = h .within;
+    }
+
+pub lends : (p : List ℕ) (s : State) (ready : Bool) {n m : ℕ} {r : RunResult} {p′ w q : List ℕ} → n ≡ pick ready 2 0 → m ≡ lent ready (length w)
+    → Completed (runRule p s (take n (0x1b ∷ 0x35 ∷ [])) (length (take m w))) r (take n (0x1b ∷ 0x35 ∷ [])) p′ (take m w) q
+    → Completed (runRule p s (question ready) (lent ready (length w))) r (question ready) p′ w (q ++ drop m w)
+lends p s ready {m = m} {w = w} en em h =
+    let k = room-most ready w em in
+    let l : length (take m w) ≡ lent ready (length w) = length-take-le m w k ∙ em in
+    rw (question-is ready en, l) at (back-whole k h)
 
 -- the reply at the front of the room
 front : (l w w′ : List ℕ) (n : ℕ) → n ≡ length l → w′ ≡ over l w → take n w′ ≡ l
@@ -81,26 +124,25 @@ replied-within {o} {r} {l} {p} {w} {w′} h =
     omega (arith, h .replied, ap length (h .room), length-append (o .reply) (drop (length (o .reply)) w))
 
 module _ (p : List ℕ) (s : State) (first last : ℕ) (p′ w w′ : List ℕ) where
-  asked : {r : RunResult} {full t : Bool} {c : Counted} {a : ℕ} {x : Told} → full ≡ eqb (length p) (pageLength (s .core .screen))
-      → t ≡ isIdle (s .core .pending) → Completed (asking p s (length w)) r (question (s .core .pending)) p′ w w′
-      → c ≡ countRule (take (r .replied) w′) first last → a ≡ number (r .answer) → x ≡ toldRule a full t c
+  asked : {r : RunResult} {x : Told} → Completed (asking p s (length w)) r (question (isReady s)) p′ w w′
+      → x ≡ toldRule (number (r .answer)) (eqb (length p) (pageLength (s .core .screen))) (isReady s)
+      (either (eqb (number (r .answer)) 6) (sends (r .state .sending))) (countRule (take (r .replied) w′) first last)
       → Asks p s first last (record { told = x; replied = r .replied }) p′ w w′
-  unfolding askRule
-  asked {r} d e h k m n = record {
-    told = n ∙ rw (d, e, m, k, h .answer, front _ w w′ (r .replied) (h .replied) (h .room));
+  unfolding askRule isCut
+  asked {r} h o = record {
+    told = o ∙ rw (h .answer, h .state, front _ w w′ (r .replied) (h .replied) (h .room));
     replied = h .replied;
     fits = h .fits;
     page = h .page ∙ asking-page p s (length w);
     room = h .room;
   }
 
-  pub asks : {n : ℕ} {r : RunResult} {full t : Bool} {c : Counted} {a : ℕ} {x : Told} → full ≡ eqb (length p) (pageLength (s .core .screen))
-      → t ≡ isIdle (s .core .pending) → n ≡ pick t 2 0
-      → Completed (runRule p s (take n (0x1b ∷ 0x35 ∷ [])) (length w)) r (take n (0x1b ∷ 0x35 ∷ [])) p′ w w′
-      → c ≡ countRule (take (r .replied) w′) first last → a ≡ number (r .answer) → x ≡ toldRule a full t c
-      → Asks p s first last (record { told = x; replied = r .replied }) p′ w w′
+  pub asks : {r : RunResult} {full ready cut : Bool} {c : Counted} {a : ℕ} {x : Told} → full ≡ eqb (length p) (pageLength (s .core .screen))
+      → ready ≡ isReady s → Completed (runRule p s (question ready) (lent ready (length w))) r (question ready) p′ w w′
+      → c ≡ countRule (take (r .replied) w′) first last → a ≡ number (r .answer) → cut ≡ either (eqb a 6) (sends (r .state .sending))
+      → x ≡ toldRule a full ready cut c → Asks p s first last (record { told = x; replied = r .replied }) p′ w w′
   unfolding asking
-  asks {n} {r} {full} {t} d e f h k m x = asked d e (rw (question-is t (s .core .pending) e f) at h) k m x
+  asks d e h k m n o = asked (rw e at h) (o ∙ rw (n, d, e, m, k))
 
 -- ---- path by path
 
@@ -114,7 +156,7 @@ module _ (p : List ℕ) (s : State) (first last room : ℕ) where
       let e = ne-eqb (length p) (pageLength (s .core .screen)) h in
       let g : good p s ≡ false = rw e in
       let x = asked-refused p s room g in
-      (sym (tell-page _ _ _ _ (x .answer) e), x .reply)
+      (sym (tell-page _ _ _ _ _ (x .answer) e), x .reply)
 
   bad-state : length p ≡ pageLength (s .core .screen) → possible s ≡ false → (askRule p s first last room ≡ Told.BadState) × Silent p s room
   unfolding good askRule
@@ -122,41 +164,30 @@ module _ (p : List ℕ) (s : State) (first last room : ℕ) where
       let e = eq-eqb (length p) (pageLength (s .core .screen)) h in
       let g : good p s ≡ false = rw (e, k) in
       let x = asked-refused p s room g in
-      (sym (tell-state _ _ _ _ (x .answer) e), x .reply)
+      (sym (tell-state _ _ _ _ _ (x .answer) e), x .reply)
 
-  under-way : good p s ≡ true → isIdle (s .core .pending) ≡ false → (askRule p s first last room ≡ Told.UnderWay) × Silent p s room
+  under-way : good p s ≡ true → isReady s ≡ false → (askRule p s first last room ≡ Told.UnderWay) × Silent p s room
   unfolding askRule
-  under-way g e =
-      let x = asked-nothing p s room g e in (
-        sym (tell-under-way _ _ _ _ (unlike (ap (λ (r : Ran). r .answer) x) (λ z. omega (arith, z))) e),
+  under-way g r =
+      let x = asked-nothing p s room g r in (
+        sym (tell-under-way _ _ _ _ _ (unlike (ap (λ (r : Ran). r .answer) x) (λ z. omega (arith, z))) r),
         ap (λ (r : Ran). r .reply) x,
       )
 
-  module _ (g : good p s ≡ true) (e : s .core .pending ≡ Pending.Idle) where
-    idle : isIdle (s .core .pending) ≡ true
-    unfolding isIdle
-    idle = ap isIdle e
+  module _ (g : good p s ≡ true) (r : isReady s ≡ true) where
+    not-refused : (asking p s room) .answer ≡ 7 → ⊥
+    not-refused =
+        by-room p s room g r (λ z. unlike (asked-stopped p s room g r z .answer) (λ y. omega (arith, y)))
+        (λ h. unlike (asked-begun p s room g r h .answer) (λ y. omega (arith, y)))
 
-    no-room : (asking p s room) .answer ≡ 6 → (askRule p s first last room ≡ Told.NoRoom) × Silent p s room
+    no-room : isCut (asking p s room) ≡ true → (askRule p s first last room ≡ Told.NoRoom) × (length ((asking p s room) .reply) ≡ room)
     unfolding askRule
-    no-room h =
-        by-room p s room g e
-        (λ k. absurd (unlike (asked-done p s room g e k .answer) (λ z. omega (arith, z)) h))
-        (λ k. (sym (tell-no-room _ _ _ _ (unlike h (λ z. omega (arith, z))) idle h), asked-stopped p s room g e k .reply))
+    no-room k = (sym (tell-no-room _ _ _ _ _ not-refused r k), cut-fills p s room g r k)
 
-    counted : (asking p s room) .answer ≡ 0
+    counted : isCut (asking p s room) ≡ false
         → (askRule p s first last room ≡ Told.Counted (countRule ((asking p s room) .reply) first last)) × ((asking p s room) .state ≡ s)
     unfolding askRule
-    counted h =
-        by-room p s room g e
-        (λ k. (
-          sym (tell-counted _ _ _ _ (unlike h (λ z. omega (arith, z))) idle (unlike h (λ z. omega (arith, z)))),
-          asked-done p s room g e k .state,
-        ))
-        (λ k. absurd (unlike (asked-stopped p s room g e k .answer) (λ z. omega (arith, z)) h))
-
-    enough : 24 * (widthOf (s .core .screen) + 1) ≤ room → (asking p s room) .answer ≡ 0
-    enough h = asked-done p s room g e (room-enough p s room g e h) .answer
+    counted k = (sym (tell-counted _ _ _ _ _ not-refused r k), whole-state p s room g r k)
 
 pub ask-cases : (p : List ℕ) (s : State) (first last room : ℕ) → AskCases p s first last room
 ask-cases p s first last room = record {
@@ -165,5 +196,5 @@ ask-cases p s first last room = record {
   under-way = under-way p s first last room;
   no-room = no-room p s first last room;
   counted = counted p s first last room;
-  enough = enough p s first last room;
+  enough = never-cut p s room;
 }

@@ -1,15 +1,13 @@
 -- Asking the terminal with ESC 5, and counting what it replies.
 use mathlib.Core.Path.{_≡_}
-use mathlib.Core.Bool.{Bool, true, false}
+use mathlib.Core.Bool.{Bool, true, false, not}
 use mathlib.Core.List.{List, [], _∷_, _++_}
 use Prim.Native.Nat.{ℕ, _+_, _*_, _≤_}
 use lib.Dec.{eqb}
 use lib.ListN.{length, getD}
 use Rattle.rules.specs.declared.State.{State}
-use Rattle.rules.specs.declared.Pending.{Pending}
-use Rattle.rules.specs.declared.Pending.the-variants as Pending
-use Rattle.rules.specs.Cell.{pick, either, among}
-use Rattle.rules.specs.State.{widthOf, pageLength}
+use Rattle.rules.specs.Cell.{pick, both, either, among}
+use Rattle.rules.specs.State.{widthOf, pageLength, isIdle, sends}
 use Rattle.rules.specs.Possible.{possible, good}
 use Rattle.rules.specs.Calls.{Ran, runRule}
 use Rattle.rules.specs.Noninterference.{Alike}
@@ -23,40 +21,38 @@ use Rattle.counter.specs.Alphabet.{backquote}
 use Rattle.counter.specs.Pieces.{isMark, whole}
 use Rattle.counter.specs.Count.{countRule}
 
--- no sequence is under way
-unfoldable pub isIdle : Pending → Bool
-isIdle Pending.Idle = true
-isIdle Pending.Escape = false
-isIdle (Pending.Awaits a) = false
-isIdle (Pending.AddressRow r) = false
-isIdle (Pending.SegmentNumber n) = false
-isIdle (Pending.SegmentRow n r) = false
-isIdle (Pending.DecimalRow n row) = false
-isIdle (Pending.DecimalColumn row n column) = false
-isIdle (Pending.FieldNumber n) = false
-isIdle (Pending.Text x n) = false
-isIdle (Pending.Spoilt x) = false
+-- neither a sequence nor a send is under way
+unfoldable pub isReady : State → Bool
+isReady s = both (isIdle (s .core .pending)) (not (sends (s .sending)))
 
--- what the terminal is asked: ESC 5, and nothing inside a sequence
-unfoldable pub question : Pending → List ℕ
-question q = pick (isIdle q) (0x1b ∷ 0x35 ∷ []) []
+-- what the terminal is asked, by whether it is ready: ESC 5, or nothing; and the room that it is lent for that
+unfoldable pub question : Bool → List ℕ
+question ready = pick ready (0x1b ∷ 0x35 ∷ []) []
+
+abbrev pub lent : Bool → ℕ → ℕ
+lent ready room = pick ready room 0
 
 -- the run that asks it
 unfoldable pub asking : List ℕ → State → ℕ → Ran
-asking p s room = runRule p s (question (s .core .pending)) room
+asking p s room = runRule p s (question (isReady s)) (lent (isReady s) room)
 
--- what the caller is told, by the run's answer n, whether the page has its length, and whether no sequence is under way: 7 is a wrong page,
--- else an impossible state; then a sequence under way; then 6, no room; else the count of the reply
-unfoldable pub toldRule : ℕ → Bool → Bool → Counted → Told
-toldRule n full idle c =
-    pick (eqb n 7) (pick full Told.BadState Told.BadPage) (pick idle (pick (eqb n 6) Told.NoRoom (Told.Counted c)) Told.UnderWay)
+-- its reply did not begin, or did not end
+unfoldable pub isCut : Ran → Bool
+isCut r = either (eqb (r .answer) 6) (sends (r .state .sending))
+
+-- what the caller is told, by the run's answer n, whether the page has its length, whether nothing is under way, and whether the reply is cut: 7 is
+-- a wrong page, else an impossible state; then a sequence or a send under way; then no room; else the count of the reply
+unfoldable pub toldRule : ℕ → Bool → Bool → Bool → Counted → Told
+toldRule n full ready cut c =
+    pick (eqb n 7) (pick full Told.BadState Told.BadPage) (pick ready (pick cut Told.NoRoom (Told.Counted c)) Told.UnderWay)
 
 unfoldable pub askRule : List ℕ → State → ℕ → ℕ → ℕ → Told
 askRule p s first last room =
-    toldRule ((asking p s room) .answer) (eqb (length p) (pageLength (s .core .screen))) (isIdle (s .core .pending))
+    toldRule ((asking p s room) .answer) (eqb (length p) (pageLength (s .core .screen))) (isReady s) (isCut (asking p s room))
     (countRule ((asking p s room) .reply) first last)
 
--- p and w are the page and the room before the call, p′ and w′ after it: the page is as it was, and the reply stands at the front of the room
+-- p and w are the page and the room before the call, p′ and w′ after it: the page is as it was, and the reply, as far as
+-- it fits, stands at the front of the room
 pub record Asks (p : List ℕ) (s : State) (first last : ℕ) (r : Asked) (p′ w w′ : List ℕ) : Type 0 where
   pub told : r .told ≡ askRule p s first last (length w)
   pub replied : r .replied ≡ length ((asking p s (length w)) .reply)
@@ -73,14 +69,15 @@ Silent p s room = (asking p s room) .reply ≡ []
 pub record AskCases (p : List ℕ) (s : State) (first last room : ℕ) : Type 0 where
   pub bad-page : (length p ≡ pageLength (s .core .screen) → ⊥) → (askRule p s first last room ≡ Told.BadPage) × Silent p s room
   pub bad-state : length p ≡ pageLength (s .core .screen) → possible s ≡ false → (askRule p s first last room ≡ Told.BadState) × Silent p s room
-  pub under-way : good p s ≡ true → isIdle (s .core .pending) ≡ false → (askRule p s first last room ≡ Told.UnderWay) × Silent p s room
-  pub no-room : good p s ≡ true → s .core .pending ≡ Pending.Idle → (asking p s room) .answer ≡ 6
-      → (askRule p s first last room ≡ Told.NoRoom) × Silent p s room
+  pub under-way : good p s ≡ true → isReady s ≡ false → (askRule p s first last room ≡ Told.UnderWay) × Silent p s room
+  -- a reply that does not end fills the room
+  pub no-room : good p s ≡ true → isReady s ≡ true → isCut (asking p s room) ≡ true
+      → (askRule p s first last room ≡ Told.NoRoom) × (length ((asking p s room) .reply) ≡ room)
   -- the reply is counted, and the terminal is as it was
-  pub counted : good p s ≡ true → s .core .pending ≡ Pending.Idle → (asking p s room) .answer ≡ 0
+  pub counted : good p s ≡ true → isReady s ≡ true → isCut (asking p s room) ≡ false
       → (askRule p s first last room ≡ Told.Counted (countRule ((asking p s room) .reply) first last)) × ((asking p s room) .state ≡ s)
   -- a byte for each cell and one for each row are always room enough: 1,944 on a page of 80 columns
-  pub enough : good p s ≡ true → s .core .pending ≡ Pending.Idle → 24 * (widthOf (s .core .screen) + 1) ≤ room → (asking p s room) .answer ≡ 0
+  pub enough : good p s ≡ true → isReady s ≡ true → 24 * (widthOf (s .core .screen) + 1) ≤ room → isCut (asking p s room) ≡ false
 
 -- ---- what the terminal replies to ESC 5
 
@@ -100,7 +97,7 @@ pub record Replies (r : List ℕ) : Type 0 where
 
 abbrev pub RepliesToAsking : Type 0
 RepliesToAsking =
-    (p : List ℕ) (s : State) (room : ℕ) → good p s ≡ true → s .core .pending ≡ Pending.Idle → (asking p s room) .answer ≡ 0
+    (p : List ℕ) (s : State) (room : ℕ) → good p s ≡ true → isReady s ≡ true → isCut (asking p s room) ≡ false
     → Replies ((asking p s room) .reply)
 
 -- such a reply is never refused for its CR, and a byte that is refused is a backquote

@@ -3,30 +3,31 @@ ghost use mathlib.Core.Path.{_≡_};
 ghost use Prim.Native.Nat.{_*_};
 ghost use lib.Dec.{eqb};
 ghost use lib.ListN.{length};
-ghost use Rattle.rules.specs.Cell.{pick};
+ghost use Rattle.rules.specs.Cell.{pick, either};
 ghost use Rattle.rules.specs.Row.{height, columns};
-ghost use Rattle.counter.specs.Ask.{isIdle, toldRule};
+ghost use Rattle.rules.specs.State.{sends};
+ghost use Rattle.rules.specs.Calls.{runRule};
+ghost use Rattle.terminal.specs.Promise.{Completed};
+ghost use Rattle.counter.specs.Ask.{isReady, question, lent, toldRule};
 use crate::Counted;
 use crate::Told;
-use rules::Pending;
+use rules::RunResult;
+use rules::Sending;
+use rules::State;
+use state::core::is_idle;
+use state::logic::and;
+use state::logic::or;
+use state::sending::is_sending;
+use terminal::run;
 
-// No sequence is under way.
-pub fn is_idle(p: Pending) -> bool
-    ensures { λ r. ⌜ r ≡ isIdle p ⌝ }
+// Neither a sequence nor a send is under way.
+pub fn is_ready(state: State) -> bool
+    ensures { λ r. ⌜ r ≡ isReady state ⌝ }
 {
-    match p {
-        Pending::Idle => true,
-        Pending::Escape => false,
-        Pending::Awaits(_) => false,
-        Pending::AddressRow(_) => false,
-        Pending::SegmentNumber(_) => false,
-        Pending::SegmentRow(_, _) => false,
-        Pending::DecimalRow(_, _) => false,
-        Pending::DecimalColumn(_, _, _) => false,
-        Pending::FieldNumber(_) => false,
-        Pending::Text(_, _) => false,
-        Pending::Spoilt(_) => false,
-    }
+    let core = state.core;
+    let pending = core.pending;
+    let sending = state.sending;
+    and(is_idle(pending), !is_sending(sending))
 }
 
 // Whether a page has the length of its width.
@@ -39,14 +40,37 @@ pub fn has_length(page: &[u16], wide: bool) -> bool
     page.len() == 1920
 }
 
-pub fn question_length(idle: bool) -> usize
-    ensures { λ r. ⌜ r ≡ pick idle 2 0 ⌝ }
+fn question_length(ready: bool) -> usize
+    ensures { λ r. ⌜ r ≡ pick ready 2 0 ⌝ }
 {
-    if idle { 2 } else { 0 }
+    if ready { 2 } else { 0 }
 }
 
-pub fn tell(answer: u8, full: bool, idle: bool, c: Counted) -> Told
-    ensures { λ r. ⌜ r ≡ toldRule answer full idle c ⌝ }
+fn room_length(ready: bool, room: usize) -> usize
+    ensures { λ r. ⌜ r ≡ lent ready room ⌝ }
+{
+    if ready { room } else { 0 }
+}
+
+// Asks a terminal that is ready; of another it asks nothing and lends it no room.
+pub fn ask(page: &mut [u16], state: State, ready: bool, room: &mut [u8]) -> RunResult
+    ensures { λ r. ⌜ Completed (runRule (now (page .entry)) state (question ready) (lent ready (length (now (room .entry))))) r (question ready) (now (page .exit)) (now (room .entry)) (now (room .exit)) ⌝ }
+{
+    let question = [0x1b, 0x35];
+    let n = question_length(ready);
+    let m = room_length(ready, room.len());
+    run(page, state, &question[..n], &mut room[..m])
+}
+
+// The reply did not begin, or did not end.
+pub fn is_cut(answer: u8, sending: Sending) -> bool
+    ensures { λ r. ⌜ r ≡ either (eqb answer 6) (sends sending) ⌝ }
+{
+    or(answer == 6, is_sending(sending))
+}
+
+pub fn tell(answer: u8, full: bool, ready: bool, cut: bool, c: Counted) -> Told
+    ensures { λ r. ⌜ r ≡ toldRule answer full ready cut c ⌝ }
 {
     if answer == 7 {
         if full {
@@ -54,10 +78,10 @@ pub fn tell(answer: u8, full: bool, idle: bool, c: Counted) -> Told
         }
         return Told::BadPage;
     }
-    if !idle {
+    if !ready {
         return Told::UnderWay;
     }
-    if answer == 6 {
+    if cut {
         return Told::NoRoom;
     }
     Told::Counted(c)

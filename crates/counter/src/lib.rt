@@ -8,9 +8,10 @@ ghost use lib.ListN.{length};
 ghost use Rattle.counter.specs.Pieces.{pieces, pieceOf};
 ghost use Rattle.counter.specs.Count.{textCount, countRule};
 ghost use Rattle.counter.specs.Ask.{Asks};
+use asking::ask;
 use asking::has_length;
-use asking::is_idle;
-use asking::question_length;
+use asking::is_cut;
+use asking::is_ready;
 use asking::tell;
 use pieces::has_return;
 use pieces::in_order;
@@ -18,7 +19,6 @@ use pieces::marks_in;
 use pieces::past;
 use rules::State;
 use terminal::answer_number;
-use terminal::run;
 use text::count_remaining;
 
 // The units and the parts of a text; or why it is not counted: the reply has no final CR, the first number is 0 or above the last, the last
@@ -32,7 +32,7 @@ pub enum Counted {
 }
 
 // What a caller who asks the terminal is told: the count; or why there is none: a page of the wrong length, an impossible state, a sequence
-// under way, or a reply that does not fit the room.
+// or a send under way, or a reply that does not fit the room.
 pub enum Told {
     Counted(Counted),
     BadPage,
@@ -99,8 +99,8 @@ pub fn count_text(text: &[u8]) -> Counted
     count_remaining(text, false)
 }
 
-// Asks the terminal with ESC 5 and counts its reply, which comes back in the room. The terminal is as it was; inside a sequence nothing is
-// asked.
+// Asks the terminal with ESC 5 and counts its reply, which comes back in the room. The terminal is as it was; inside a sequence or a send nothing is
+// asked. A reply that does not end in the room is not counted.
 pub fn count_alert(
     page: &mut [u16],
     state: State,
@@ -111,16 +111,16 @@ pub fn count_alert(
     ensures { λ r. ⌜ Asks (now (page .entry)) state first last r (now (page .exit)) (now (room .entry)) (now (room .exit)) ⌝ }
 {
     let full = has_length(page, state.core.screen.wide);
-    let core = state.core;
-    let pending = core.pending;
-    let idle = is_idle(pending);
-    let question = [0x1b, 0x35];
-    let n = question_length(idle);
-    let t = run(page, state, &question[..n], room);
-    let a = t.answer;
+    let ready = is_ready(state);
+    let t = ask(page, state, ready, room);
+    let answer = t.answer;
     let e = t.replied;
+    let next = t.state;
+    let sending = next.sending;
     let c = count(&room[..e], first, last);
-    let told = tell(answer_number(a), full, idle, c);
+    let n = answer_number(answer);
+    let cut = is_cut(n, sending);
+    let told = tell(n, full, ready, cut, c);
     Asked {
         told: told,
         replied: e,

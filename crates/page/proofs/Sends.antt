@@ -1,357 +1,520 @@
--- Laws of the text of a send.
---     short-place                                             one cell
---     row-length, row-count, row-none                         cells of one row, counted one by one
---     row-first, row-skip, row-turn, row-over                 a stretch that is left out
---     Putting, begin-stretch, put-next, put-end               the loop that puts a stretch that is sent
---     Row, begin-row, next-stretch, end-row, whole-row        the loop that puts a row, a stretch a turn
---     rest, text-most, Counted, Sending                       the text row by row, counted and sent
+-- Laws of a send: what goes from a place on is what goes from the next, with the place's byte in the room.
+--     gone-one, gone-silent, gone-full, gone-none     one place that gives a byte or none, no room, and the end
+--     cell-open, cell-guarded                         ESC M
+--     Copying                                         the loop over the bytes of a short reply
+--     step-sent, step-first, step-silent              a cell of a row
+--     Putting, Skipping                               the loops over a stretch that is sent, and over one that is left out
+--     Rowing                                          the loop over a row, a stretch a turn
+--     go-us, go-cr, Going                             US, CR, and the loop over the rows
 -- Assumes nothing.
 use mathlib.Core.Path.{_≡_, refl, sym, ap, subst, _∙_}
-use mathlib.Core.Bool.{Bool, true, false}
-use mathlib.Core.List.{List, [], _∷_, _++_, append-assoc}
-use Prim.Native.Nat.{ℕ, zero, suc, _+_, _-_, _*_, _/_, _≤_, _<_}
+use mathlib.Core.Bool.{Bool, true, false, false≢true}
+use mathlib.Core.List.{List, [], _∷_}
+use mathlib.Core.Logic.{⊎-elim}
+use Prim.Native.Nat.{ℕ, suc, _+_, _-_, _*_, _/_, _≤_, _<_}
 use native.Mathlib.Numerals.{add-one}
 use native.Mathlib.Omega.{arith}
-use lib.ListN.{length, getD, set, take, drop, length-append, length-set, length-take, length-drop, drop-of-length-le}
-use lib.Seq.{drop-cons, drop-drop, take-add}
-use borrow.Rule.Slice.PartMut.{mid-len}
-use mir.Syntax.{w64}
-use mir.Val.{Fits}
+use lib.Dec.{eqb, ltb}
+use lib.ListN.{length, getD, set, take, drop, length-set, drop-of-length-le}
+use lib.Seq.{drop-cons, take-nil}
+use borrow.Author.Tests.{eqb-false, eq-eqb, ne-eqb, lt-ltb, le-ltb, ltb-true, ltb-false}
+use Rattle.rules.specs.declared.Short.{Short}
+use Rattle.rules.specs.declared.Short.the-variants as Short
+use Rattle.rules.specs.declared.Place.{Place}
+use Rattle.rules.specs.declared.Place.the-variants as Place
+use Rattle.rules.specs.declared.Sending.{Sending}
+use Rattle.rules.specs.declared.Sending.the-variants as Sending
 use Rattle.rules.specs.Cell.{pick, guarded, sent}
-use Rattle.rules.specs.Row.{Width}
-use Rattle.rules.specs.Send.{openCell, leftOut, cellPlace, textPlaces, bytesOf}
-use Rattle.rules.proofs.Rows.{by-width, width-range, page-small}
-use Rattle.rules.proofs.Sends.{bytes-most, small-text, text-count, text-bound}
-use Rattle.page.specs.Room.{stored}
-use Rattle.page.specs.Text.{rowText, Stretch}
-use Rattle.page.proofs.Room.{length-stored, stored-append, unstored}
+use Rattle.rules.specs.Row.{Width, columnOf, rowEnd}
+use Rattle.rules.specs.Send.{Spot, spot, openCell, each, leavesOut, cellPlace, followsLeftOut, textAt, bytesOf, standing}
+use Rattle.rules.proofs.Tests.{either-way}
+use Rattle.rules.proofs.Rows.{by-width, row-after}
+use Rattle.rules.proofs.Sends.{beyond-zero, beyond-silent, beyond-one, beyond-none, nextPlace, at-cell, at-break}
+use Rattle.page.specs.Room.{stored, Gone, stands, gone}
+use Rattle.page.specs.Text.{RowPart, placeIn, spotsIn, skips, Stretch, Skipped, RowSent}
+
+-- ---- one place
+
+stands-is : {a a′ : List ℕ} {b b′ : ℕ} {c c′ : Sending} → a ≡ a′ → b ≡ b′ → c ≡ c′ → stands a b c ≡ stands a′ b′ c′
+stands-is e f g = rw (e, f, g)
+
+-- a send that stops, with what it stops at
+pub stopped : {w : List ℕ} {n n′ : ℕ} {x x′ : Sending} {g : Gone} → (n′ ≡ n) × (x′ ≡ x) → stands w n x ≡ g → stands w n′ x′ ≡ g
+stopped e h = stands-is refl (e .0) (e .1) ∙ h
+
+module _ (x : Sending) (l : List Spot) (n : ℕ) (w : List ℕ) where
+  pub gone-one : (b : ℕ) → n < length w → gone (spot x (b ∷ []) ∷ l) n w ≡ gone l (n + 1) (set w n b)
+  unfolding gone bytesOf stored
+  gone-one b h =
+      let e : length w - n ≡ suc (length w - (n + 1)) = omega arith in
+      let m : n + suc (length (take (length w - (n + 1)) (bytesOf l))) ≡ n + 1 + length (take (length w - (n + 1)) (bytesOf l)) = omega arith in
+      stands-is (rw (e, length-set w n b)) (rw (e, length-set w n b) m) (rw (e, length-set w n b, beyond-one (length w - (n + 1)) x b l))
+
+  pub gone-silent : n < length w → gone (spot x [] ∷ l) n w ≡ gone l n w
+  unfolding gone bytesOf
+  gone-silent h =
+      let e : length w - n ≡ suc (length w - (n + 1)) = omega arith in
+      stands-is refl refl (rw (e, beyond-silent (length w - (n + 1)) x l))
+
+pub gone-full : (l : List Spot) (n : ℕ) (w : List ℕ) → n ≡ length w → gone l n w ≡ stands w n (standing l)
+unfolding gone stored
+gone-full l n w h =
+    let e : length w - n ≡ 0 = omega (arith, h) in
+    let m : n + 0 ≡ n = omega arith in
+    stands-is (rw e) (rw e m) (rw (e, beyond-zero l))
+
+pub gone-none : (n : ℕ) (w : List ℕ) → gone [] n w ≡ stands w n Sending.Nothing
+unfolding gone bytesOf stored standing
+gone-none n w =
+    let m : n + 0 ≡ n = omega arith in
+    stands-is (rw (take-nil (length w - n))) (rw (take-nil (length w - n)) m) (rw (beyond-none (length w - n)))
+
+gone-at : {l k : List Spot} (n : ℕ) (w : List ℕ) → l ≡ k → gone l n w ≡ gone k n w
+gone-at n w e = ap (λ (l : List Spot). gone l n w) e
 
 -- ---- ESC M
 
-pub open-cell : (on : Bool) (v : ℕ) → guarded on v ≡ false → openCell on v ≡ sent v ∷ []
-unfolding openCell
-open-cell on v h = rw h
+pub cell-open : (on : Bool) (v : ℕ) (w : List ℕ) → guarded on v ≡ false → 0 < length w
+    → stands (set w 0 (sent v)) 1 Sending.Nothing ≡ gone (each Short.Cell 0 (openCell on v)) 0 w
+unfolding openCell each
+cell-open on v w h k = rw h (sym (gone-one (Sending.Short Short.Cell 0) [] 0 w (sent v) k ∙ gone-none 1 (set w 0 (sent v))))
 
-pub guarded-cell : (on : Bool) (v : ℕ) → guarded on v ≡ true → openCell on v ≡ []
-unfolding openCell
-guarded-cell on v h = rw h
+pub cell-guarded : (on : Bool) (v : ℕ) (w : List ℕ) → guarded on v ≡ true → stands w 0 Sending.Nothing ≡ gone (each Short.Cell 0 (openCell on v)) 0 w
+unfolding openCell each
+cell-guarded on v w h = rw h (sym (gone-none 0 w))
 
--- ---- cells of one row
+-- ---- the bytes of a short reply
 
-place-length : (t after : Bool) (v : ℕ) → length (pick t (pick after [] (0x1c ∷ [])) (v ∷ [])) ≤ 1
-place-length true true v = omega arith
-place-length true false v = omega arith
-place-length false after v = omega arith
+-- the invariant: the byte i is the next, and n of them are in the room r; from the byte a on, none was in the room q
+pub record Copying (x : Short) (bytes : List ℕ) (a : ℕ) (q : List ℕ) (i n : ℕ) (r : List ℕ) : Type 0 where
+  pub most : i ≤ length bytes
+  pub long : length r ≡ length q
+  pub fits : n ≤ length r
+  pub is : gone (each x a (drop a bytes)) 0 q ≡ gone (each x i (drop i bytes)) n r
 
-pub short-place : (out after : Bool) (v : ℕ) → length (cellPlace out after v) ≤ 1
-unfolding cellPlace
-short-place out after v = place-length (leftOut out v) after (sent v)
+pub copy-begin : {x : Short} {bytes : List ℕ} {a : ℕ} {q : List ℕ} → a ≤ length bytes → Copying x bytes a q a 0 q
+copy-begin h = record { most = h; long = refl; fits = omega arith; is = refl }
 
-module _ (out : Bool) (l : List ℕ) (i : ℕ) where
-  row-step : (after : Bool) → i < length l
-      → rowText out after (drop i l) ≡ cellPlace out after (getD l i 0) ++ rowText out (leftOut out (getD l i 0)) (drop (i + 1) l)
-  unfolding rowText
-  row-step after h = rw (drop-cons l i 0 h, add-one)
+module _ {x : Short} {bytes : List ℕ} {a : ℕ} {q : List ℕ} {i n : ℕ} {r : List ℕ} (c : Copying x bytes a q i n r) where
+  copy-first : i < length bytes → each x i (drop i bytes) ≡ spot (Sending.Short x i) (getD bytes i 0 ∷ []) ∷ each x (i + 1) (drop (i + 1) bytes)
+  unfolding each
+  copy-first h = rw (drop-cons bytes i 0 h, add-one)
 
-  pub row-count : (after : Bool) → i < length l
-      → length (rowText out after (drop i l))
-      ≡ length (cellPlace out after (getD l i 0)) + length (rowText out (leftOut out (getD l i 0)) (drop (i + 1) l))
-  row-count after h =
-      ap length (row-step after h) ∙ length-append (cellPlace out after (getD l i 0)) (rowText out (leftOut out (getD l i 0)) (drop (i + 1) l))
+  pub copy-next : i < length bytes → (n ≡ length r → ⊥) → Copying x bytes a q (i + 1) (n + 1) (set r n (getD bytes i 0))
+  copy-next h f = record {
+    most = omega arith;
+    long = length-set r n (getD bytes i 0) ∙ c .long;
+    fits = omega (arith, length-set r n (getD bytes i 0), c .fits, f);
+    is = c .is ∙ gone-at n r (copy-first h) ∙ gone-one (Sending.Short x i) _ n r (getD bytes i 0) (omega (arith, c .fits, f));
+  }
 
-  pub row-none : (after : Bool) → length l ≤ i → rowText out after (drop i l) ≡ []
-  unfolding rowText
-  row-none after h = rw (drop-of-length-le l h)
+  pub copy-full : i < length bytes → n ≡ length r → stands r n (Sending.Short x i) ≡ gone (each x a (drop a bytes)) 0 q
+  unfolding standing
+  copy-full h e = sym (c .is ∙ gone-full _ n r e ∙ ap (λ (l : List Spot). stands r n (standing l)) (copy-first h))
 
-  -- a cell that is sent
-  row-sent : (after : Bool) → i < length l → leftOut out (getD l i 0) ≡ false
-      → rowText out after (drop i l) ≡ sent (getD l i 0) ∷ rowText out false (drop (i + 1) l)
-  unfolding cellPlace
-  row-sent after h e = row-step after h ∙ rw e
+  pub copy-end : length bytes ≤ i → stands r n Sending.Nothing ≡ gone (each x a (drop a bytes)) 0 q
+  unfolding each
+  copy-end h = sym (c .is ∙ gone-at n r (ap (each x i) (drop-of-length-le bytes h)) ∙ gone-none n r)
 
-  -- the first cell of a stretch that is left out, and a further one
-  row-first : i < length l → leftOut out (getD l i 0) ≡ true → rowText out false (drop i l) ≡ 0x1c ∷ rowText out true (drop (i + 1) l)
-  unfolding cellPlace
-  row-first h e = row-step false h ∙ rw e
+-- ---- a cell of a row
 
-  pub row-skip : i < length l → leftOut out (getD l i 0) ≡ true → rowText out true (drop i l) ≡ rowText out true (drop (i + 1) l)
-  unfolding cellPlace
-  row-skip h e = row-step true h ∙ rw e
+module _ {p : List ℕ} {i end : ℕ} (t : RowPart p i end) where
+  -- the same row from a later cell on
+  abbrev pub later : (j : ℕ) → i ≤ j → RowPart p j end
+  later j h = record {
+    width = t .width;
+    to = t .to;
+    segment = t .segment;
+    wide = t .wide;
+    page = t .page;
+    most = t .most;
+    inner = λ k a. t .inner k (omega arith);
+    ends = t .ends;
+  }
 
-  -- behind a stretch
-  pub row-turn : i < length l → leftOut out (getD l i 0) ≡ false → rowText out true (drop i l) ≡ rowText out false (drop i l)
-  row-turn h e = row-sent true h e ∙ sym (row-sent false h e)
+  module _ (j : ℕ) (a : i ≤ j) where
+    next-inner : suc j < end → nextPlace (t .width) (t .to) j ≡ placeIn (t .to) end (suc j)
+    unfolding nextPlace
+    next-inner h =
+        rw (lt-ltb (suc j) end h, ne-eqb (suc j) (t .to) (omega (arith, t .most)), ne-eqb (columnOf (t .width) (suc j)) 0 (t .inner j a h))
 
-  pub row-over : length l ≤ i → rowText out true (drop i l) ≡ rowText out false (drop i l)
-  row-over h = row-none true h ∙ sym (row-none false h)
+    next-last : (s : Bool) → eqb end (t .to) ≡ s → suc j ≡ end → nextPlace (t .width) (t .to) j ≡ placeIn (t .to) end (suc j)
+    unfolding nextPlace
+    next-last true y e = rw (e, le-ltb end end (omega arith), y)
+    next-last false y e = rw (e, le-ltb end end (omega arith), y, eq-eqb (columnOf (t .width) end) 0 (t .ends (eqb-false end (t .to) y)))
+
+    next-in : j < end → (s : Bool) → ltb (suc j) end ≡ s → nextPlace (t .width) (t .to) j ≡ placeIn (t .to) end (suc j)
+    next-in h true z = next-inner (ltb-true (suc j) end z)
+    next-in h false z = next-last (eqb end (t .to)) refl (omega (arith, ltb-false (suc j) end z))
+
+    module _ (all : Bool) where
+      abbrev here : Sending
+      here = Sending.Text all (t .segment) (Place.Cell j)
+
+      -- the cell, and the places behind it
+      spots-next : j < end
+          → spotsIn t all j
+          ≡ spot here (cellPlace (leavesOut all) (followsLeftOut (t .width) all p j) (getD p j 0)) ∷ spotsIn t all (j + 1)
+      unfolding spotsIn
+      spots-next h =
+          rw (lt-ltb j end h, add-one)
+          (at-cell (t .wide) p (t .to) (t .page) all (t .segment) j (omega (arith, t .most))
+          ∙ ap (λ (z : Place). spot here (cellPlace (leavesOut all) (followsLeftOut (t .width) all p j) (getD p j 0)) ∷ textAt (t .width) p (t .to) all (t .segment) z)
+          (next-in h (ltb (suc j) end) refl))
+
+      -- where it stands there
+      pub standing-cell : j < end → standing (spotsIn t all j) ≡ Sending.Text all (t .segment) (Place.Cell j)
+      unfolding standing
+      standing-cell h = ap standing (spots-next h)
+
+      -- the next cell follows it
+      pub follows-next : j + 1 < end → followsLeftOut (t .width) all p (j + 1) ≡ skips p all j
+      unfolding followsLeftOut
+      follows-next h =
+          let e : suc j - 1 ≡ j = omega arith in
+          rw (add-one, ne-eqb (columnOf (t .width) (suc j)) 0 (t .inner j a (omega arith)), e)
+
+      module _ (h : j < end) (n : ℕ) (q : List ℕ) (f : n < length q) where
+        pub step-sent : skips p all j ≡ false → gone (spotsIn t all j) n q ≡ gone (spotsIn t all (j + 1)) (n + 1) (set q n (sent (getD p j 0)))
+        unfolding cellPlace
+        step-sent e = gone-at n q (spots-next h ∙ rw e) ∙ gone-one here (spotsIn t all (j + 1)) n q (sent (getD p j 0)) f
+
+        pub step-first : skips p all j ≡ true → followsLeftOut (t .width) all p j ≡ false
+            → gone (spotsIn t all j) n q ≡ gone (spotsIn t all (j + 1)) (n + 1) (set q n 0x1c)
+        unfolding cellPlace
+        step-first e g = gone-at n q (spots-next h ∙ rw (e, g)) ∙ gone-one here (spotsIn t all (j + 1)) n q 0x1c f
+
+        pub step-silent : skips p all j ≡ true → followsLeftOut (t .width) all p j ≡ true → gone (spotsIn t all j) n q ≡ gone (spotsIn t all (j + 1)) n q
+        unfolding cellPlace
+        step-silent e g = gone-at n q (spots-next h ∙ rw (e, g)) ∙ gone-silent here (spotsIn t all (j + 1)) n q f
 
 -- ---- a stretch that is sent
 
--- the invariant: i is the next cell and k its place in the room r; they were `from`, n and q
-pub record Putting (out : Bool) (l : List ℕ) (from n : ℕ) (q : List ℕ) (i k : ℕ) (r : List ℕ) : Type 0 where
-  pub least : from ≤ i
-  pub most : i ≤ length l
-  pub place : k ≡ n + (i - from)
+-- the invariant: i is the next cell, and k its place in the room r; they were a, n and q
+pub record Putting (p : List ℕ) (all : Bool) (a stop n : ℕ) (q : List ℕ) (i k : ℕ) (r : List ℕ) : Type 0 where
+  pub least : a ≤ i
+  pub most : i ≤ stop
+  pub place : k ≡ n + (i - a)
+  pub last : a < i → skips p all (i - 1) ≡ false
   pub long : length r ≡ length q
-  pub count : length (rowText out false (drop from l)) ≡ i - from + length (rowText out false (drop i l))
-  pub is : stored k (rowText out false (drop i l)) r ≡ stored n (rowText out false (drop from l)) q
+  pub is : (end : ℕ) → stop ≤ end → (t : RowPart p a end) → gone (spotsIn t all a) n q ≡ gone (spotsIn t all i) k r
 
-module _ {out : Bool} {l : List ℕ} {from n : ℕ} {q : List ℕ} where
-  pub begin-stretch : from ≤ length l → Putting out l from n q from n q
-  begin-stretch h = record { least = omega arith; most = h; place = omega arith; long = refl; count = omega arith; is = refl }
+module _ {p : List ℕ} {all : Bool} {a stop n : ℕ} {q : List ℕ} where
+  pub put-begin : a ≤ stop → Putting p all a stop n q a n q
+  put-begin h = record {
+    least = omega arith;
+    most = h;
+    place = omega arith;
+    last = λ l. absurd (omega arith);
+    long = refl;
+    is = λ end s t. refl;
+  }
 
-  module _ {i k : ℕ} {r : List ℕ} (c : Putting out l from n q i k r) where
-    pub put-fits : n + length (rowText out false (drop from l)) ≤ length q → i < length l → leftOut out (getD l i 0) ≡ false → k < length r
-    put-fits f h e = omega (arith, c .place, c .long, c .count, ap length (row-sent out l i false h e), c .least)
+  module _ {i k : ℕ} {r : List ℕ} (c : Putting p all a stop n q i k r) where
+    pub put-fits : n + (stop - a) ≤ length q → i < stop → k < length r
+    put-fits f h = omega (arith, c .place, c .least, c .long)
 
-    pub put-next : {b : ℕ} → i < length l → leftOut out (getD l i 0) ≡ false → b ≡ sent (getD l i 0) → Putting out l from n q (i + 1) (k + 1) (set r k b)
-    unfolding stored
-    put-next {b} h e eb =
-        let s = row-sent out l i false h e in
+    pub put-next : {b : ℕ} → n + (stop - a) ≤ length q → i < stop → skips p all i ≡ false → b ≡ sent (getD p i 0)
+        → Putting p all a stop n q (i + 1) (k + 1) (set r k b)
+    put-next {b} f h e eb =
+        let z : i + 1 - 1 ≡ i = omega arith in
         record {
           least = omega (arith, c .least);
           most = omega arith;
           place = omega (arith, c .place, c .least);
+          last = λ l. rw z e;
           long = length-set r k b ∙ c .long;
-          count = omega (arith, c .count, ap length s, c .least);
-          is = rw eb (sym (ap (λ (t : List ℕ). stored k t r) s) ∙ c .is);
+          is = λ end s t. rw eb (c .is end s t ∙ step-sent t i (c .least) all (omega arith) k r (put-fits f h) e);
         }
 
-    pub put-end : (i < length l → leftOut out (getD l i 0) ≡ true) → Stretch out l from n i q r
+    pub put-end : (i < stop → skips p all i ≡ true) → Stretch p all a stop n q i r
     put-end e = record {
       from = c .least;
       to = c .most;
+      last = c .last;
       ends = e;
       long = c .long;
-      count = c .count;
-      is = rw (← (c .place)) (c .is);
+      is = λ end s t. rw (← (c .place)) (c .is end s t);
+    }
+
+-- ---- a stretch that is left out
+
+pub record Skipping (p : List ℕ) (all : Bool) (a end i : ℕ) : Type 0 where
+  pub least : a ≤ i
+  pub most : i ≤ end
+  pub follows : (t : RowPart p a end) → (a < end → followsLeftOut (t .width) all p a ≡ true) → i < end → followsLeftOut (t .width) all p i ≡ true
+  pub is : (t : RowPart p a end) → (a < end → followsLeftOut (t .width) all p a ≡ true) → (n : ℕ) (q : List ℕ) → n < length q
+      → gone (spotsIn t all a) n q ≡ gone (spotsIn t all i) n q
+
+module _ {p : List ℕ} {all : Bool} {a end : ℕ} where
+  pub skip-begin : a ≤ end → Skipping p all a end a
+  skip-begin h = record { least = omega arith; most = h; follows = λ t g. g; is = λ t g n q f. refl }
+
+  pub skip-none : {after : Bool} → a ≤ end → after ≡ false → Skipped p all after a end a
+  skip-none {after} h e = record {
+    from = omega arith;
+    to = h;
+    stays = λ z. refl;
+    ends = λ z. absurd (false≢true (sym e ∙ z));
+    is = λ t g n q f. refl;
+  }
+
+  module _ {i : ℕ} (c : Skipping p all a end i) where
+    pub skip-next : i < end → skips p all i ≡ true → Skipping p all a end (i + 1)
+    skip-next h e = record {
+      least = omega (arith, c .least);
+      most = omega arith;
+      follows = λ t g l. follows-next t i (c .least) all l ∙ e;
+      is = λ t g n q f. c .is t g n q f ∙ step-silent t i (c .least) all h n q f e (c .follows t g h);
+    }
+
+    pub skip-end : {after : Bool} → after ≡ true → (i < end → skips p all i ≡ false) → Skipped p all after a end i
+    skip-end {after} z e = record {
+      from = c .least;
+      to = c .most;
+      stays = λ y. absurd (false≢true (sym y ∙ z));
+      ends = λ y. e;
+      is = λ t g. c .is t (λ l. g l ∙ z);
     }
 
 -- ---- a row
 
--- the invariant: i is the next cell, the first of a stretch that is left out, and n its place in the room r; they were j, m and q
-pub record Row (out : Bool) (l : List ℕ) (j m : ℕ) (q : List ℕ) (i n : ℕ) (r : List ℕ) : Type 0 where
-  pub most : i ≤ length l
-  pub ends : i < length l → leftOut out (getD l i 0) ≡ true
+-- the invariant: `at` is the next cell, `after` says that the one before it is left out, and n is its place in the room r; they were a, `follows`,
+-- m and q
+pub record Rowing (p : List ℕ) (all follows : Bool) (a end m : ℕ) (q : List ℕ) (at n : ℕ) (after : Bool) (r : List ℕ) : Type 0 where
+  pub least : a ≤ at
+  pub most : at ≤ end
   pub long : length r ≡ length q
-  pub fits : m + length (rowText out false (drop j l)) ≤ length q
-  pub count : n + length (rowText out false (drop i l)) ≡ m + length (rowText out false (drop j l))
-  pub is : stored n (rowText out false (drop i l)) r ≡ stored m (rowText out false (drop j l)) q
+  pub fits : n ≤ length r
+  pub known : (t : RowPart p a end) → followsLeftOut (t .width) all p a ≡ follows → at < end → followsLeftOut (t .width) all p at ≡ after
+  pub is : (t : RowPart p a end) → followsLeftOut (t .width) all p a ≡ follows → gone (spotsIn t all a) m q ≡ gone (spotsIn t all at) n r
 
--- the first stretch, which may be empty, is in the room
-module _ {out : Bool} {l : List ℕ} {start : ℕ} {q : List ℕ} {j : ℕ} {r : List ℕ} (s : Stretch out l 0 start j q r) where
-  pub begin-row : start + length (rowText out false l) ≤ length q → Row out l j (start + j) r j (start + j) r
-  begin-row f = record { most = s .to; ends = s .ends; long = refl; fits = omega (arith, s .count, s .long); count = refl; is = refl }
+-- what `cut` promises
+abbrev pub Cut : ℕ → ℕ → ℕ → ℕ → Type 0
+Cut from end room r = (from ≤ r) × ((r ≤ end) × ((r ≤ from + room) × (r < end → r ≡ from + room)))
 
-  pub whole-row : {n : ℕ} {r′ : List ℕ} → n ≡ start + j + length (rowText out false (drop j l))
-      → r′ ≡ stored (start + j) (rowText out false (drop j l)) r
-      → (n ≡ start + length (rowText out false l)) × (r′ ≡ stored start (rowText out false l) q)
-  whole-row en er = let z : j - 0 ≡ j = omega arith in (omega (arith, s .count), er ∙ rw z at (s .is))
+cut-some : {from end room r : ℕ} → Cut from end room r → from < end → 0 < room → (b : Bool) → ltb r end ≡ b → from < r
+cut-some {from} {end} {room} {r} x h l true y = let u : r ≡ from + room = x .1 .1 .1 (ltb-true r end y) in omega (arith, u)
+cut-some {from} {end} {room} {r} x h l false y = omega (arith, ltb-false r end y)
 
-module _ {out : Bool} {l : List ℕ} {j m : ℕ} {q : List ℕ} where
-  module _ {i n : ℕ} {r : List ℕ} (c : Row out l j m q i n r) where
-    pub end-row : length l ≤ i → (n ≡ m + length (rowText out false (drop j l))) × (r ≡ stored m (rowText out false (drop j l)) q)
-    end-row h =
-        let e = row-none out l i false h in
-        (omega (arith, ap length e, c .count), unstored n e (c .is))
+module _ {p : List ℕ} {all follows : Bool} {a end m : ℕ} {q : List ℕ} where
+  pub row-begin : a ≤ end → m ≤ length q → Rowing p all follows a end m q a m follows q
+  row-begin h f = record { least = omega arith; most = h; long = refl; fits = f; known = λ t g l. g; is = λ t g. refl }
 
-    module _ (h : i < length l) where
-      first : rowText out false (drop i l) ≡ 0x1c ∷ rowText out true (drop (i + 1) l)
-      first = row-first out l i h (c .ends h)
+  module _ {at n : ℕ} {after : Bool} {r : List ℕ} (c : Rowing p all follows a end m q at n after r) where
+    pub row-full : length r ≤ n → RowSent p all follows a end m q at n r
+    row-full h = record { from = c .least; to = c .most; long = c .long; fits = c .fits; full = λ l. omega (arith, c .fits); is = c .is }
 
-      pub fs-fits : n < length r
-      fs-fits = omega (arith, ap length first, c .count, c .fits, c .long)
+    -- a turn: first is the next cell that is sent, the stretch from there up to `next` is in the room r′, and there was room up to `stop`
+    module _ {first stop next : ℕ} {r′ : List ℕ} (h : n < length r) (s : Skipped p all after at end first) (k : Cut first end (length r - n) stop)
+        (d : Stretch p all first stop n r next r′) where
+      on : (t : RowPart p a end) → followsLeftOut (t .width) all p a ≡ follows
+          → gone (spotsIn t all a) m q ≡ gone (spotsIn t all next) (n + (next - first)) r′
+      unfolding spotsIn
+      on t g =
+          c .is t g ∙ s .is (later t at (c .least)) (c .known t g) n r h
+          ∙ d .is end (k .1 .0) (later t first (omega (arith, c .least, s .from)))
 
-      module _ (next : ℕ) (turn : rowText out true (drop (i + 1) l) ≡ rowText out false (drop next l)) where
-        pub stretch-fits : n + 1 + length (rowText out false (drop next l)) ≤ length (set r n 0x1c)
-        stretch-fits = omega (arith, length-set r n 0x1c, ap length first, ap length turn, c .count, c .fits, c .long)
+      pub row-stop : next ≡ stop → RowSent p all follows a end m q next (n + (next - first)) r′
+      row-stop e = record {
+        from = omega (arith, c .least, s .from, d .from);
+        to = omega (arith, k);
+        long = d .long ∙ c .long;
+        fits = omega (arith, k, d .from, d .long);
+        full = λ l. let x : stop ≡ first + (length r - n) = k .1 .1 .1 (omega (arith, e)) in omega (arith, e, d .long);
+        is = on;
+      }
 
-        fs-put : stored (n + 1) (rowText out false (drop next l)) (set r n 0x1c) ≡ stored n (rowText out false (drop i l)) r
-        unfolding stored
-        fs-put = rw (← turn) (sym (ap (λ (t : List ℕ). stored n t r) first))
+      module _ (e : next ≡ stop → ⊥) where
+        before-stop : next < stop
+        before-stop = omega (arith, d .to, e)
 
-        pub next-stretch : {end n′ : ℕ} {r′ : List ℕ} → Stretch out l next (n + 1) end (set r n 0x1c) r′ → n′ ≡ n + 1 + (end - next)
-            → Row out l j m q end n′ r′
-        next-stretch {end} {n′} {r′} s e = record {
-          most = s .to;
-          ends = s .ends;
-          long = s .long ∙ length-set r n 0x1c ∙ c .long;
-          fits = c .fits;
-          count = omega (arith, ap length first, ap length turn, c .count, s .count);
-          is = rw e (s .is ∙ fs-put ∙ c .is);
+        pub fs-fits : n + (next - first) < length r′
+        fs-fits = omega (arith, before-stop, k, d .from, d .long)
+
+        -- it is the first of a stretch that is left out
+        begins-behind : (t : RowPart p a end) → first < next → followsLeftOut (t .width) all p next ≡ false
+        begins-behind t l =
+            let z : next - 1 + 1 ≡ next = omega arith in
+            subst (λ (j : ℕ). followsLeftOut (t .width) all p j ≡ false) z
+            (follows-next t (next - 1) (omega (arith, c .least, s .from)) all (omega (arith, before-stop, k)) ∙ d .last l)
+
+        begins-first : (t : RowPart p a end) → followsLeftOut (t .width) all p a ≡ follows → next ≡ first → followsLeftOut (t .width) all p next ≡ false
+        begins-first t g z =
+            ⊎-elim
+            (λ y. absurd (false≢true (sym (s .ends y (omega (arith, z, before-stop, k))) ∙ ap (skips p all) (sym z) ∙ d .ends before-stop)))
+            (λ y.
+            let x : at ≡ next = sym (z ∙ s .stays y) in
+            subst (λ (j : ℕ). followsLeftOut (t .width) all p j ≡ false) x (c .known t g (omega (arith, x, before-stop, k)) ∙ y))
+            (either-way after)
+
+        begins : (t : RowPart p a end) → followsLeftOut (t .width) all p a ≡ follows → (b : Bool) → ltb first next ≡ b
+            → followsLeftOut (t .width) all p next ≡ false
+        begins t g true y = begins-behind t (ltb-true first next y)
+        begins t g false y = begins-first t g (omega (arith, ltb-false first next y, d .from))
+
+        pub row-next : Rowing p all follows a end m q (next + 1) (n + (next - first) + 1) true (set r′ (n + (next - first)) 0x1c)
+        row-next = record {
+          least = omega (arith, c .least, s .from, d .from);
+          most = omega (arith, before-stop, k);
+          long = length-set r′ (n + (next - first)) 0x1c ∙ d .long ∙ c .long;
+          fits = omega (arith, length-set r′ (n + (next - first)) 0x1c, fs-fits);
+          known = λ t g l. follows-next t next (omega (arith, c .least, s .from, d .from)) all l ∙ d .ends before-stop;
+          is = λ t g.
+              on t g
+              ∙ step-first t next (omega (arith, c .least, s .from, d .from)) all (omega (arith, before-stop, k)) (n + (next - first)) r′ fs-fits
+              (d .ends before-stop) (begins t g (ltb first next) refl);
         }
 
--- ---- row by row
+-- ---- the rows
 
-module _ (w : ℕ) (out : Bool) where
-  -- a whole row is left
-  full-row : (m : ℕ) → w ≡ suc m → (after : Bool) (v : ℕ) (l : List ℕ)
-      → textPlaces w out w after (v ∷ l) ≡ cellPlace out after v ∷ textPlaces w out (w - 1) (leftOut out v) l
-  unfolding textPlaces
-  full-row m e after v l = let z : suc m - 1 ≡ m = omega arith in rw (e, z)
+module _ {w : ℕ} (k : Width w) where
+  -- the columns of a row behind the first, and its end
+  row-inner : (i j : ℕ) → i ≤ j → suc j < rowEnd w i → columnOf w (suc j) ≡ 0 → ⊥
+  unfolding rowEnd
+  row-inner i j a b c =
+      by-width (λ (w : ℕ). suc j < (i / w + 1) * w → columnOf w (suc j) ≡ 0 → ⊥) (λ b c. omega arith) (λ b c. omega arith) k b c
 
-  -- n cells of the row are left, and more rows come
-  row-before : (m : ℕ) → w ≡ suc m → (n : ℕ) (after : Bool) (x y : List ℕ) → length x ≡ n → 0 < length y
-      → bytesOf (textPlaces w out n after (x ++ y)) ≡ rowText out after x ++ (0x1f ∷ bytesOf (textPlaces w out w false y))
-  unfolding textPlaces bytesOf rowText
-  row-before m e n after [] [] h k = absurd (omega arith)
-  row-before m e zero after [] (v ∷ l) h k = rw (full-row m e false v l)
-  row-before m e (suc n) after [] (v ∷ l) h k = absurd (omega arith)
-  row-before m e zero after (v ∷ x) y h k = absurd (omega arith)
-  row-before m e (suc n) after (v ∷ x) y h k = rw (row-before m e n (leftOut out v) x y (omega arith) k, append-assoc)
+  row-ends : (i : ℕ) → columnOf w (rowEnd w i) ≡ 0
+  unfolding rowEnd
+  row-ends i = by-width (λ (w : ℕ). columnOf w ((i / w + 1) * w) ≡ 0) (omega arith) (omega arith) k
 
-  -- no further row comes
-  row-last : (n : ℕ) (after : Bool) (x : List ℕ) → length x ≤ n → bytesOf (textPlaces w out n after x) ≡ rowText out after x ++ 0x0d ∷ []
-  unfolding textPlaces bytesOf rowText
-  row-last n after [] h = refl
-  row-last zero after (v ∷ x) h = absurd (omega arith)
-  row-last (suc n) after (v ∷ x) h = rw (row-last n (leftOut out v) x (omega arith), append-assoc)
+  row-from : (i : ℕ) → columnOf w i ≡ 0 → rowEnd w i ≡ i + w
+  unfolding rowEnd
+  row-from i h = by-width (λ (w : ℕ). columnOf w i ≡ 0 → (i / w + 1) * w ≡ i + w) (λ h. omega arith) (λ h. omega arith) k h
 
--- the cells from i up to e, and the text of them that is left
-abbrev pub part : List ℕ → ℕ → ℕ → List ℕ
-part p i e = take (e - i) (drop i p)
-
-abbrev pub rest : ℕ → Bool → List ℕ → ℕ → ℕ → List ℕ
-rest w out p e i = bytesOf (textPlaces w out w false (part p i e))
-
--- a cell's place in bytes is a number of the machine
-pub on-page : {w at : ℕ} → Width w → at ≤ 24 * w → Fits w64 (at * 2)
-on-page k h = record { fits = omega (arith, page-small k) }
-
-module _ {w : ℕ} (k : Width w) (out : Bool) (p : List ℕ) (e i : ℕ) (f : e ≤ length p) where
-  next-row : w < e - i → rest w out p e i ≡ rowText out false (part p i (i + w)) ++ (0x1f ∷ rest w out p e (i + w))
-  next-row h =
-      let n : e - i ≡ w + (e - (i + w)) = omega arith in
-      let z : i + w - i ≡ w = omega arith in
-      let a : length (take w (drop i p)) ≡ w = rw z at (mid-len i (i + w) p (omega arith)) in
-      let b : length (part p (i + w) e) ≡ e - (i + w) = mid-len (i + w) e p f in
-      let s : w ≡ suc (w - 1) = omega (arith, width-range k) in
-      let m : part p i e ≡ take w (drop i p) ++ part p (i + w) e = rw (n, take-add w (e - (i + w)) (drop i p), drop-drop w i p) in
-      rw (m, z) (row-before w out (w - 1) s w false (take w (drop i p)) (part p (i + w) e) a (omega arith))
-
-  next-length : w < e - i → length (rest w out p e i) ≡ length (rowText out false (part p i (i + w))) + (1 + length (rest w out p e (i + w)))
-  next-length h = omega (arith, ap length (next-row h), length-append (rowText out false (part p i (i + w))) (0x1f ∷ rest w out p e (i + w)))
-
-  last-row : e - i ≤ w → rest w out p e i ≡ rowText out false (part p i e) ++ 0x0d ∷ []
-  last-row h = row-last w out w false (part p i e) (omega (arith, length-take (e - i) (drop i p)))
-
-  last-length : e - i ≤ w → length (rest w out p e i) ≡ length (rowText out false (part p i e)) + 1
-  last-length h = omega (arith, ap length (last-row h), length-append (rowText out false (part p i e)) (0x0d ∷ []))
-
--- a row is small, and lies in the page
-pub row-small : {w : ℕ} → Width w → (p : List ℕ) (i e : ℕ) → length p ≡ 24 * w → length (part p i e) ≤ 3168
-row-small k p i e h = omega (arith, length-take (e - i) (drop i p), length-drop i p, page-small k)
-
--- a byte for each cell and 24 more are enough
-pub text-most : {w : ℕ} → Width w → (out : Bool) (p : List ℕ) (a e : ℕ) → a ≤ e → e ≤ length p → length p ≡ 24 * w
-    → length (rest w out p e a) ≤ e - a + 24
-text-most {w} k out p a e h f g =
-    let l : length (part p a e) ≡ e - a = mid-len a e p f in
-    let c = text-count k out w false (part p a e) (omega arith) in
-    let most = by-width (λ (w : ℕ). e ≤ 24 * w → length (part p a e) + (length (part p a e) - w + (w - 1)) / w + 1 ≤ e - a + 24)
-    (λ u. omega (arith, l)) (λ u. omega (arith, l)) k (omega arith) in
-    omega (arith, bytes-most (small-text w out w false (part p a e)), c)
-
--- the invariant of a count: n bytes come before the cell `at`, the first of a row
-pub record Counted (w : ℕ) (out : Bool) (p : List ℕ) (e a at n : ℕ) : Type 0 where
+-- the invariant: `at` is the next cell, in the row that ends before `end`, `after` says that the one before it is left out, and n is its place in the
+-- room r; they were a, m and q
+pub record Going (w : ℕ) (p : List ℕ) (to : ℕ) (all segment : Bool) (a m : ℕ) (q : List ℕ) (at n : ℕ) (after : Bool) (end : ℕ) (r : List ℕ)
+    : Type 0 where
   pub wide : Width w
-  pub inside : e ≤ length p
-  pub page : length p ≡ 24 * w
-  pub to : at ≤ e
-  pub count : n + length (rest w out p e at) ≡ length (rest w out p e a)
-
-module _ {w : ℕ} {out : Bool} {p : List ℕ} {e a : ℕ} where
-  pub count-begin : Width w → a ≤ e → e ≤ length p → length p ≡ 24 * w → Counted w out p e a a 0
-  count-begin k h f g = record { wide = k; inside = f; page = g; to = h; count = omega arith }
-
-  module _ {at n : ℕ} (c : Counted w out p e a at n) where
-    most : length (rest w out p e a) ≤ 24 * (w + 1)
-    most = text-bound (c .wide) out (part p a e) (omega (arith, length-take (e - a) (drop a p), c .inside, c .page))
-
-    -- cells and places are small
-    pub cell-small : at ≤ 3168
-    cell-small = omega (arith, c .to, c .inside, c .page, page-small (c .wide))
-
-    pub cell-fits : Fits w64 (at * 2)
-    cell-fits = on-page (c .wide) (omega (arith, c .to, c .inside, c .page))
-
-    pub row-range : w < e - at → (at + w ≤ e) × (at + w ≤ length p)
-    row-range h = omega (arith, c .inside)
-
-    module _ {m : ℕ} where
-      pub count-next : w < e - at → m ≡ length (rowText out false (part p at (at + w))) → Counted w out p e a (at + w) (n + (m + 1))
-      count-next h em = record {
-        wide = c .wide;
-        inside = c .inside;
-        page = c .page;
-        to = omega arith;
-        count = omega (arith, c .count, next-length (c .wide) out p e at (c .inside) h);
-      }
-
-      pub next-small : w < e - at → m ≡ length (rowText out false (part p at (at + w))) → n + (m + 1) ≤ 3192
-      next-small h em = omega (arith, c .count, next-length (c .wide) out p e at (c .inside) h, most, page-small (c .wide))
-
-      pub count-end : e - at ≤ w → m ≡ length (rowText out false (part p at e)) → n + m + 1 ≡ length (rest w out p e a)
-      count-end h em = omega (arith, c .count, last-length (c .wide) out p e at (c .inside) h)
-
-      pub end-small : e - at ≤ w → m ≡ length (rowText out false (part p at e)) → n + m + 1 ≤ 3192
-      end-small h em = omega (arith, count-end h em, most, page-small (c .wide))
-
--- a row and a byte after it
-put-byte : (x : List ℕ) (b : ℕ) (y : List ℕ) (n : ℕ) (r : List ℕ) {n′ : ℕ} {r′ : List ℕ} → n′ ≡ n + length x → r′ ≡ stored n x r
-    → stored (n′ + 1) y (set r′ n′ b) ≡ stored n (x ++ (b ∷ y)) r
-unfolding stored
-put-byte x b y n r en er = rw (en, er) (sym (stored-append x (b ∷ y) n r))
-
--- the invariant of a send: what is counted is in the room r, which was q
-pub record Sending (w : ℕ) (out : Bool) (p : List ℕ) (e a : ℕ) (q : List ℕ) (at n : ℕ) (r : List ℕ) : Type 0 where
-  pub counted : Counted w out p e a at n
+  pub page : to ≤ length p
+  pub some : at < end
+  pub most : end ≤ to
+  pub row : end ≤ rowEnd w at
+  pub ends : end < to → end ≡ rowEnd w at
   pub long : length r ≡ length q
-  pub fits : length (rest w out p e a) ≤ length q
-  pub is : stored n (rest w out p e at) r ≡ stored 0 (rest w out p e a) q
+  pub fits : n ≤ length r
+  pub follows : followsLeftOut w all p at ≡ after
+  pub is : gone (textAt w p to all segment (Place.Cell a)) m q ≡ gone (textAt w p to all segment (Place.Cell at)) n r
 
-module _ {w : ℕ} {out : Bool} {p : List ℕ} {e a : ℕ} {q : List ℕ} where
-  pub send-begin : Width w → a ≤ e → e ≤ length p → length p ≡ 24 * w → length (rest w out p e a) ≤ length q → Sending w out p e a q a 0 q
-  send-begin k h f g m = record { counted = count-begin k h f g; long = refl; fits = m; is = refl }
+-- the US that a send stands at, and the CR
+module _ (w : ℕ) (p : List ℕ) (to : ℕ) (all segment : Bool) where
+  pub go-us : (i : ℕ) (q : List ℕ) → Width w → to ≤ length p → columnOf w i ≡ 0 → i < to → 0 < length q
+      → gone (textAt w p to all segment (Place.Break i)) 0 q ≡ gone (textAt w p to all segment (Place.Cell i)) 1 (set q 0 0x1f)
+  go-us i q k h z l f =
+      gone-at 0 q (at-break k p to h all segment i l z)
+      ∙ gone-one (Sending.Text all segment (Place.Break i)) (textAt w p to all segment (Place.Cell i)) 0 q 0x1f f
 
-  module _ {at n : ℕ} {r : List ℕ} (c : Sending w out p e a q at n r) where
-    module _ (h : w < e - at) where
-      abbrev row : List ℕ
-      row = rowText out false (part p at (at + w))
+  pub go-cr : (n : ℕ) (q : List ℕ) → n < length q → stands (set q n 0x0d) (n + 1) Sending.Nothing ≡ gone (textAt w p to all segment Place.Return) n q
+  unfolding textAt
+  go-cr n q f = sym (gone-one (Sending.Text all segment Place.Return) [] n q 0x0d f ∙ gone-none (n + 1) (set q n 0x0d))
 
-      row-is : rest w out p e at ≡ row ++ (0x1f ∷ rest w out p e (at + w))
-      row-is = next-row (c .counted .wide) out p e at (c .counted .inside) h
-
-      pub row-fits : n + length row + 1 ≤ length r
-      row-fits = omega (
-        arith,
-        c .counted .count,
-        c .long,
-        c .fits,
-        next-length (c .counted .wide) out p e at (c .counted .inside) h,
-      )
-
-      pub send-next : {n′ : ℕ} {r′ : List ℕ} → n′ ≡ n + length row → r′ ≡ stored n row r → Sending w out p e a q (at + w) (n′ + 1) (set r′ n′ 0x1f)
-      send-next {n′} {r′} en er = record {
-        counted = subst (λ (x : ℕ). Counted w out p e a (at + w) x) (omega (arith, en)) (count-next (c .counted) {m = length row} h refl);
-        long = length-set r′ n′ 0x1f ∙ ap length er ∙ length-stored row n r ∙ c .long;
-        fits = c .fits;
-        is = put-byte row 0x1f (rest w out p e (at + w)) n r en er ∙ sym (ap (λ (t : List ℕ). stored n t r) row-is) ∙ c .is;
+module _ {w : ℕ} {p : List ℕ} {to : ℕ} {all segment : Bool} where
+  pub go-begin : {a m : ℕ} {q : List ℕ} {after : Bool} {end : ℕ} → Width w → to ≤ length p → a < to → m ≤ length q → after ≡ followsLeftOut w all p a
+      → Cut a to (rowEnd w a - a) end → Going w p to all segment a m q a m after end q
+  go-begin {a} {m} {q} {after} {end} k h l f g x =
+      let z = row-after k a in
+      record {
+        wide = k;
+        page = h;
+        some = cut-some x l (omega arith) (ltb end to) refl;
+        most = x .1 .0;
+        row = omega (arith, x, z);
+        ends = λ y. let u = x .1 .1 .1 y in omega (arith, u, z);
+        long = refl;
+        fits = f;
+        follows = sym g;
+        is = refl;
       }
 
-    module _ (h : e - at ≤ w) where
-      abbrev last : List ℕ
-      last = rowText out false (part p at e)
+  module _ {a m : ℕ} {q : List ℕ} {at n : ℕ} {after : Bool} {end : ℕ} {r : List ℕ} (c : Going w p to all segment a m q at n after end r) where
+    abbrev start : Gone
+    start = gone (textAt w p to all segment (Place.Cell a)) m q
 
-      last-is : rest w out p e at ≡ last ++ 0x0d ∷ []
-      last-is = last-row (c .counted .wide) out p e at (c .counted .inside) h
+    -- the row, whose end is the text's or a row's
+    row-over : (end ≡ to → ⊥) → columnOf w end ≡ 0
+    row-over h = rw (c .ends (omega (arith, c .most, h))) (row-ends (c .wide) at)
 
-      pub last-fits : n + length last + 1 ≤ length r
-      last-fits = omega (arith, c .long, c .fits, count-end (c .counted) {m = length last} h refl)
+    abbrev part : RowPart p at end
+    part = record {
+      width = w;
+      to = to;
+      segment = segment;
+      wide = c .wide;
+      page = c .page;
+      most = c .most;
+      inner = λ j h l. row-inner (c .wide) at j h (omega (arith, c .row));
+      ends = row-over;
+    }
 
-      pub send-length : {n′ : ℕ} → n′ ≡ n + length last → n′ + 1 ≡ length (rest w out p e a)
-      send-length en = omega (arith, en, count-end (c .counted) {m = length last} h refl)
+    cell-is : textAt w p to all segment (Place.Cell at) ≡ spotsIn part all at
+    unfolding spotsIn
+    cell-is = rw (lt-ltb at end (c .some))
 
-      pub send-end : {n′ : ℕ} {r′ : List ℕ} → n′ ≡ n + length last → r′ ≡ stored n last r → set r′ n′ 0x0d ≡ stored 0 (rest w out p e a) q
-      unfolding stored
-      send-end en er = put-byte last 0x0d [] n r en er ∙ sym (ap (λ (t : List ℕ). stored n t r) last-is) ∙ c .is
+    pub go-end : length r ≤ n → stands r n (Sending.Text all segment (Place.Cell at)) ≡ start
+    go-end h =
+        sym
+        (c .is ∙ gone-at n r cell-is ∙ gone-full (spotsIn part all at) n r (omega (arith, c .fits))
+        ∙ ap (stands r n) (standing-cell part at (omega arith) all (c .some)))
+
+    module _ {at′ n′ : ℕ} {r′ : List ℕ} (x : RowSent p all after at end n r at′ n′ r′) where
+      gone-on : start ≡ gone (spotsIn part all at′) n′ r′
+      gone-on = c .is ∙ gone-at n r cell-is ∙ x .is part (c .follows)
+
+      pub go-stop : at′ < end → stands r′ n′ (Sending.Text all segment (Place.Cell at′)) ≡ start
+      go-stop h =
+          sym
+          (gone-on ∙ gone-full (spotsIn part all at′) n′ r′ (x .full h) ∙ ap (stands r′ n′) (standing-cell part at′ (x .from) all h))
+
+      -- behind the row's last cell
+      module _ (h : end ≤ at′) where
+        abbrev behind : Place
+        behind = pick (eqb end to) Place.Return (Place.Break end)
+
+        gone-behind : start ≡ gone (textAt w p to all segment behind) n′ r′
+        unfolding spotsIn
+        gone-behind = gone-on ∙ rw (le-ltb at′ end h)
+
+        standing-behind : (b : Bool) → eqb end to ≡ b
+            → standing (textAt w p to all segment (pick b Place.Return (Place.Break end))) ≡ Sending.Text all segment (pick b Place.Return (Place.Break end))
+        unfolding standing textAt
+        standing-behind true y = refl
+        standing-behind false y =
+            let z = eqb-false end to y in
+            ap standing (at-break (c .wide) p to (c .page) all segment end (omega (arith, c .most, z)) (row-over z))
+
+        pub go-full : n′ ≡ length r′ → stands r′ n′ (Sending.Text all segment behind) ≡ start
+        go-full e = sym (gone-behind ∙ gone-full (textAt w p to all segment behind) n′ r′ e ∙ ap (stands r′ n′) (standing-behind (eqb end to) refl))
+
+        module _ (f : n′ ≡ length r′ → ⊥) where
+          pub go-fits : n′ < length r′
+          go-fits = omega (arith, x .fits, f)
+
+          pub go-return : end ≡ to → stands (set r′ n′ 0x0d) (n′ + 1) Sending.Nothing ≡ start
+          go-return e = go-cr w p to all segment n′ r′ go-fits ∙ sym (gone-behind ∙ rw (eq-eqb end to e))
+
+          pub go-break : {end′ : ℕ} → (end ≡ to → ⊥) → Cut at′ to w end′ → Going w p to all segment a m q at′ (n′ + 1) false end′ (set r′ n′ 0x1f)
+          unfolding followsLeftOut
+          go-break {end′} e k =
+              let z : at′ ≡ end = omega (arith, x .to) in
+              let y : columnOf w at′ ≡ 0 = rw z (row-over e) in
+              let l : at′ < to = omega (arith, z, c .most, e) in
+              let v = row-from (c .wide) at′ y in
+              let u = row-after (c .wide) at′ in
+              record {
+                wide = c .wide;
+                page = c .page;
+                some = cut-some k l (omega (arith, u, v)) (ltb end′ to) refl;
+                most = k .1 .0;
+                row = omega (arith, k, v);
+                ends = λ o. k .1 .1 .1 o ∙ sym v;
+                long = length-set r′ n′ 0x1f ∙ x .long ∙ c .long;
+                fits = omega (arith, length-set r′ n′ 0x1f, go-fits);
+                follows = rw (eq-eqb (columnOf w at′) 0 y);
+                is = gone-behind
+                    ∙ rw (ne-eqb end to e)
+                    (gone-at n′ r′ (at-break (c .wide) p to (c .page) all segment end (omega (arith, c .most, e)) (row-over e))
+                    ∙ gone-one (Sending.Text all segment (Place.Break end)) (textAt w p to all segment (Place.Cell end)) n′ r′ 0x1f go-fits
+                    ∙ ap (λ (j : ℕ). gone (textAt w p to all segment (Place.Cell j)) (n′ + 1) (set r′ n′ 0x1f)) (sym z));
+              }

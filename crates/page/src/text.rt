@@ -1,124 +1,120 @@
-// The text of a send, a row at a time: whether it fits, and the text itself into a room. And the one cell of ESC M.
+// What a send puts into a room: the text from one of its places on, a row at a time, as much as fits; bytes; and the one cell of ESC M.
 ghost use mathlib.Core.Path.{_≡_};
-ghost use mathlib.Core.Bool.{true, false};
 ghost use Prim.Native.Nat.{_+_, _-_, _*_, _<_, _≤_};
-ghost use lib.Dec.{leb};
+ghost use lib.Dec.{eqb};
 ghost use lib.ListN.{length, getD, drop};
+ghost use Rattle.rules.specs.Cell.{pick};
 ghost use Rattle.rules.specs.Row.{Width, wideCells};
-ghost use Rattle.rules.specs.Send.{openCell, leftOut, cellPlace, textOf, bytesOf};
-ghost use Rattle.page.specs.Room.{stored};
-ghost use Rattle.page.specs.Text.{rowText, Stretch};
+ghost use Rattle.rules.specs.Send.{openCell, each, leavesOut, leftOut, followsLeftOut, textAt};
+ghost use Rattle.page.specs.Room.{stands, gone};
+ghost use Rattle.page.specs.Text.{GoodAt, Stretch, Skipped, RowSent};
 use crate::cell::is_guarded;
 use crate::cell::is_protected;
 use crate::cell::sent_code;
+use crate::search::row_end;
+use rules::Place;
+use rules::Sending;
+use rules::Short;
 
-// How many bytes ESC M gives for a cell.
-pub fn cell_length(page: &[u16], protect: bool, at: usize) -> usize
-    requires { ⌜ (at < length (now page)) × (length (now page) ≤ wideCells) ⌝ }
-    ensures { λ r. ⌜ r ≡ length (openCell protect (getD (now (page .entry)) at 0)) ⌝ }
-{
-    if is_guarded(protect, page[at]) { 0 } else { 1 }
+// What a send comes to: how many bytes went, and the send that is left.
+pub struct Sent {
+    pub replied: usize,
+    pub left: Sending,
 }
 
-// The cell's byte at the front of the room, or none; how many.
-pub fn put_cell(room: &mut [u8], page: &[u16], protect: bool, at: usize) -> usize
-    requires { ⌜ (at < length (now page)) × ((length (now page) ≤ wideCells) × (length (openCell protect (getD (now page) at 0)) ≤ length (now room))) ⌝ }
-    ensures { λ r. ⌜ (r ≡ length (openCell protect (getD (now (page .entry)) at 0))) × (now (room .exit) ≡ stored 0 (openCell protect (getD (now (page .entry)) at 0)) (now (room .entry))) ⌝ }
+// ESC M: the cell's byte at the front of the room, or none.
+pub fn send_cell(room: &mut [u8], page: &[u16], protect: bool, at: usize) -> Sent
+    requires { ⌜ (at < length (now page)) × ((length (now page) ≤ wideCells) × (0 < length (now room))) ⌝ }
+    ensures { λ r. ⌜ stands (now (room .exit)) (r .replied) (r .left) ≡ gone (each Short.Cell 0 (openCell protect (getD (now (page .entry)) at 0))) 0 (now (room .entry)) ⌝ }
 {
     if is_guarded(protect, page[at]) {
-        return 0;
+        return Sent {
+            replied: 0,
+            left: Sending::Nothing,
+        };
     }
     room[0] = sent_code(page[at]);
-    1
+    Sent {
+        replied: 1,
+        left: Sending::Nothing,
+    }
+}
+
+// The bytes of a short reply from the place `from` on, at the front of the room, as many as fit.
+pub fn send_bytes(room: &mut [u8], bytes: &[u8], reply: Short, from: u8) -> Sent
+    requires { ⌜ (from ≤ length (now bytes)) × (length (now bytes) ≤ 255) ⌝ }
+    ensures { λ r. ⌜ stands (now (room .exit)) (r .replied) (r .left) ≡ gone (each reply from (drop from (now (bytes .entry)))) 0 (now (room .entry)) ⌝ }
+{
+    let mut n = 0;
+    let mut i = from as usize;
+    while i < bytes.len() {
+        if n == room.len() {
+            return Sent {
+                replied: n,
+                left: Sending::Short(reply, i as u8),
+            };
+        }
+        room[n] = bytes[i];
+        n += 1;
+        i += 1;
+    }
+    Sent {
+        replied: n,
+        left: Sending::Nothing,
+    }
 }
 
 // A text leaves protected cells out, or sends all.
-fn left_out(out: bool, v: u16) -> bool
-    ensures { λ r. ⌜ r ≡ leftOut out v ⌝ }
+fn left_out(all: bool, v: u16) -> bool
+    ensures { λ r. ⌜ r ≡ leftOut (leavesOut all) v ⌝ }
 {
-    if out { is_protected(v) } else { false }
+    if all { false } else { is_protected(v) }
 }
 
-// How many bytes a cell of a text gives.
-fn place_length(out: bool, after: bool, v: u16) -> u16
-    ensures { λ r. ⌜ r ≡ length (cellPlace out after v) ⌝ }
+// The end, or as many cells from `from` on as there is room for.
+fn cut(from: usize, end: usize, room: usize) -> usize
+    requires { ⌜ (from ≤ end) × (end ≤ wideCells) ⌝ }
+    ensures { λ r. ⌜ (from ≤ r) × ((r ≤ end) × ((r ≤ from + room) × (r < end → r ≡ from + room))) ⌝ }
 {
-    if left_out(out, v) {
-        if after {
-            return 0;
-        }
-    }
-    1
+    if end - from <= room { end } else { from + room }
 }
 
-// How many bytes the cells of a row give. (A narrow count makes the loop four times as fast.)
-fn row_length(part: &[u16], out: bool) -> u16
-    requires { ⌜ length (now part) ≤ wideCells ⌝ }
-    ensures { λ r. ⌜ r ≡ length (rowText out false (now (part .entry))) ⌝ }
-{
-    let mut n: u16 = 0;
-    let mut after = false;
-    let mut i = 0;
-    while i < part.len() {
-        n += place_length(out, after, part[i]);
-        after = left_out(out, part[i]);
-        i += 1;
-    }
-    n
-}
-
-// How many bytes a send of the cells `from`, the first of a row, up to `to` gives; `out` says that protected cells are left out.
-fn text_length(page: &[u16], width: usize, out: bool, from: usize, to: usize) -> usize
-    requires { ⌜ Width width × ((from ≤ to) × ((to ≤ length (now page)) × (length (now page) ≡ 24 * width))) ⌝ }
-    ensures { λ r. ⌜ r ≡ length (bytesOf (textOf width out (now (page .entry)) from to)) ⌝ }
-{
-    let mut at = from;
-    let mut n = 0;
-    while width < to - at {
-        let end = at + width;
-        n += row_length(&page[at..end], out) as usize + 1;
-        at = end;
-    }
-    n + row_length(&page[at..to], out) as usize + 1
-}
-
-// Whether so much room is enough for it. A byte for each cell and 24 more are; only with less it is counted.
-pub fn text_fits(page: &[u16], width: usize, out: bool, from: usize, to: usize, room: usize) -> bool
-    requires { ⌜ Width width × ((from ≤ to) × ((to ≤ length (now page)) × (length (now page) ≡ 24 * width))) ⌝ }
-    ensures { λ r. ⌜ r ≡ leb (length (bytesOf (textOf width out (now (page .entry)) from to))) room ⌝ }
-{
-    if to - from + 24 <= room {
-        return true;
-    }
-    text_length(page, width, out, from, to) <= room
-}
-
-// The cells from `from` on that are sent, up to the first that is left out, into the room from place n on; where they end.
-fn put_stretch(room: &mut [u8], n: usize, part: &[u16], out: bool, from: usize) -> usize
-    requires { ⌜ (from ≤ length (now part)) × ((length (now part) ≤ wideCells) × (n + length (rowText out false (drop from (now part))) ≤ length (now room))) ⌝ }
-    ensures { λ r. ⌜ Stretch out (now (part .entry)) from n r (now (room .entry)) (now (room .exit)) ⌝ }
+// The cells from `from` on that are sent, up to the first that is left out or `end`, into the room from place n on; where they end.
+fn send_stretch(
+    room: &mut [u8],
+    n: usize,
+    page: &[u16],
+    all: bool,
+    from: usize,
+    end: usize,
+) -> usize
+    requires { ⌜ (from ≤ end) × ((end ≤ length (now page)) × ((length (now page) ≤ wideCells) × (n + (end - from) ≤ length (now room)))) ⌝ }
+    ensures { λ r. ⌜ Stretch (now (page .entry)) all from end n (now (room .entry)) r (now (room .exit)) ⌝ }
 {
     let mut k = n;
     let mut i = from;
-    while i < part.len() {
-        if left_out(out, part[i]) {
+    while i < end {
+        if left_out(all, page[i]) {
             return i;
         }
-        room[k] = sent_code(part[i]);
+        room[k] = sent_code(page[i]);
         k += 1;
         i += 1;
     }
     i
 }
 
-// The first cell from `from` on that is sent, behind one that is left out; or the end.
-fn stretch_end(part: &[u16], out: bool, from: usize) -> usize
-    requires { ⌜ (from ≤ length (now part)) × (length (now part) ≤ wideCells) ⌝ }
-    ensures { λ r. ⌜ (from ≤ r) × ((r ≤ length (now (part .entry))) × (rowText out true (drop from (now (part .entry))) ≡ rowText out false (drop r (now (part .entry))))) ⌝ }
+// The first cell from `from` on that is sent, where the one before it is left out; or the end.
+fn stretch_end(page: &[u16], all: bool, after: bool, from: usize, end: usize) -> usize
+    requires { ⌜ (from ≤ end) × ((end ≤ length (now page)) × (length (now page) ≤ wideCells)) ⌝ }
+    ensures { λ r. ⌜ Skipped (now (page .entry)) all after from end r ⌝ }
 {
     let mut i = from;
-    while i < part.len() {
-        if !left_out(out, part[i]) {
+    if !after {
+        return i;
+    }
+    while i < end {
+        if !left_out(all, page[i]) {
             return i;
         }
         i += 1;
@@ -126,45 +122,150 @@ fn stretch_end(part: &[u16], out: bool, from: usize) -> usize
     i
 }
 
-// The cells of a row into the room from place `start` on, FS for each stretch that is left out; the place after them.
-fn put_row(room: &mut [u8], start: usize, part: &[u16], out: bool) -> usize
-    requires { ⌜ (length (now part) ≤ wideCells) × (start + length (rowText out false (now part)) ≤ length (now room)) ⌝ }
-    ensures { λ r. ⌜ (r ≡ start + length (rowText out false (now (part .entry)))) × (now (room .exit) ≡ stored start (rowText out false (now (part .entry))) (now (room .entry))) ⌝ }
-{
-    let mut i = put_stretch(room, start, part, out, 0);
-    let mut n = start + i;
-    while i < part.len() {
-        room[n] = 0x1c;
-        let next = stretch_end(part, out, i + 1);
-        let end = put_stretch(room, n + 1, part, out, next);
-        n = n + 1 + (end - next);
-        i = end;
-    }
-    n
+// Where a row's cells stand: the next cell, and its place in the room.
+struct RowResult {
+    n: usize,
+    at: usize,
 }
 
-// The text of the cells `from`, the first of a row, up to `to` at the front of the room; its length.
-pub fn put_text(
+// The cells of a row from `from` up to `end` into the room from place `start` on, as far as there is room: FS for the first cell of each
+// stretch that is left out. `follows` says that the cell before them is left out.
+fn send_row(
+    room: &mut [u8],
+    start: usize,
+    page: &[u16],
+    all: bool,
+    follows: bool,
+    from: usize,
+    end: usize,
+) -> RowResult
+    requires { ⌜ (from ≤ end) × ((end ≤ length (now page)) × ((length (now page) ≤ wideCells) × (start ≤ length (now room)))) ⌝ }
+    ensures { λ r. ⌜ RowSent (now (page .entry)) all follows from end start (now (room .entry)) (r .at) (r .n) (now (room .exit)) ⌝ }
+{
+    let mut n = start;
+    let mut at = from;
+    let mut after = follows;
+    while n < room.len() {
+        let first = stretch_end(page, all, after, at, end);
+        let stop = cut(first, end, room.len() - n);
+        let next = send_stretch(room, n, page, all, first, stop);
+        n += next - first;
+        if next == stop {
+            return RowResult { n: n, at: next };
+        }
+        room[n] = 0x1c;
+        n += 1;
+        at = next + 1;
+        after = true;
+    }
+    RowResult { n: n, at: at }
+}
+
+// Whether the cell before this one in its row is left out.
+fn follows_left_out(page: &[u16], width: usize, all: bool, at: usize) -> bool
+    requires { ⌜ Width width × ((at < length (now page)) × (length (now page) ≤ wideCells)) ⌝ }
+    ensures { λ r. ⌜ r ≡ followsLeftOut width all (now (page .entry)) at ⌝ }
+{
+    if at % width == 0 {
+        return false;
+    }
+    left_out(all, page[at - 1])
+}
+
+// What stands behind the last cell of a row in the text before `to`.
+fn row_place(end: usize, to: usize) -> Place
+    requires { ⌜ end ≤ wideCells ⌝ }
+    ensures { λ r. ⌜ r ≡ pick (eqb end to) Place.Return (Place.Break end) ⌝ }
+{
+    if end == to {
+        Place::Return
+    } else {
+        Place::Break(end as u16)
+    }
+}
+
+// A send that stops at a place of its text.
+fn stop_at(n: usize, all: bool, segment: bool, at: Place) -> Sent
+    ensures { λ r. ⌜ (r .replied ≡ n) × (r .left ≡ Sending.Text all segment at) ⌝ }
+{
+    Sent {
+        replied: n,
+        left: Sending::Text {
+            all: all,
+            segment: segment,
+            at: at,
+        },
+    }
+}
+
+// The rows of the text before `to` from the cell `from` on, into the room from place `start` on: a US before each further row, and the CR.
+fn send_rows(
+    room: &mut [u8],
+    start: usize,
+    page: &[u16],
+    width: usize,
+    to: usize,
+    all: bool,
+    segment: bool,
+    from: usize,
+) -> Sent
+    requires { ⌜ Width width × ((from < to) × ((to ≤ length (now page)) × ((length (now page) ≡ 24 * width) × (start ≤ length (now room))))) ⌝ }
+    ensures { λ r. ⌜ stands (now (room .exit)) (r .replied) (r .left) ≡ gone (textAt width (now (page .entry)) to all segment (Place.Cell from)) start (now (room .entry)) ⌝ }
+{
+    let mut replied = start;
+    let mut at = from;
+    let mut after = follows_left_out(page, width, all, from);
+    let mut end = cut(at, to, row_end(width, from) - from);
+    while replied < room.len() {
+        let row = send_row(room, replied, page, all, after, at, end);
+        replied = row.n;
+        at = row.at;
+        if at < end {
+            return stop_at(replied, all, segment, Place::Cell(at as u16));
+        }
+        if replied == room.len() {
+            return stop_at(replied, all, segment, row_place(end, to));
+        }
+        if end == to {
+            room[replied] = 0x0d;
+            return Sent {
+                replied: replied + 1,
+                left: Sending::Nothing,
+            };
+        }
+        room[replied] = 0x1f;
+        replied += 1;
+        after = false;
+        end = cut(at, to, width);
+    }
+    stop_at(replied, all, segment, Place::Cell(at as u16))
+}
+
+// The text before `to` from one of its places on, at the front of the room, as much as fits.
+pub fn send_text(
     room: &mut [u8],
     page: &[u16],
     width: usize,
-    out: bool,
-    from: usize,
     to: usize,
-) -> usize
-    requires { ⌜ Width width × ((from ≤ to) × ((to ≤ length (now page)) × ((length (now page) ≡ 24 * width) × (length (bytesOf (textOf width out (now page) from to)) ≤ length (now room))))) ⌝ }
-    ensures { λ r. ⌜ (r ≡ length (bytesOf (textOf width out (now (page .entry)) from to))) × (now (room .exit) ≡ stored 0 (bytesOf (textOf width out (now (page .entry)) from to)) (now (room .entry))) ⌝ }
+    all: bool,
+    segment: bool,
+    at: Place,
+) -> Sent
+    requires { ⌜ Width width × (GoodAt width to at × ((to ≤ length (now page)) × ((length (now page) ≡ 24 * width) × (0 < length (now room))))) ⌝ }
+    ensures { λ r. ⌜ stands (now (room .exit)) (r .replied) (r .left) ≡ gone (textAt width (now (page .entry)) to all segment at) 0 (now (room .entry)) ⌝ }
 {
-    let mut at = from;
-    let mut n = 0;
-    while width < to - at {
-        let end = at + width;
-        n = put_row(room, n, &page[at..end], out);
-        room[n] = 0x1f;
-        n += 1;
-        at = end;
+    match at {
+        Place::Cell(i) => send_rows(room, 0, page, width, to, all, segment, i as usize),
+        Place::Break(i) => {
+            room[0] = 0x1f;
+            send_rows(room, 1, page, width, to, all, segment, i as usize)
+        }
+        Place::Return => {
+            room[0] = 0x0d;
+            Sent {
+                replied: 1,
+                left: Sending::Nothing,
+            }
+        }
     }
-    n = put_row(room, n, &page[at..to], out);
-    room[n] = 0x0d;
-    n + 1
 }

@@ -1,5 +1,5 @@
 -- Where the cursor and the searches from it may be: in the page.
---     cursor-below, row-below                   the cursor of a possible screen, and its row of the segment
+--     cursor-below                              the cursor of a possible screen
 --     below-top                                 a cursor that is not in the segment's top row
 --     open-range                                08h: where the search back ends
 --     next-field-range, previous-field-range    09h and ESC I with protect on
@@ -12,24 +12,16 @@ use native.Mathlib.Omega.{arith}
 use borrow.Author.Tests.{ltb-false}
 use lib.ListN.{length}
 use Rattle.rules.specs.declared.Screen.{Screen}
-use Rattle.rules.specs.Row.{height}
 use Rattle.rules.specs.Search.{guardedAt, previousOpen, nextField, previousField}
 use Rattle.rules.specs.State.{widthOf, pageLength, segmentStart, segmentEnd, cursorOf, Inside}
 use Rattle.rules.specs.Possible.{screenOk}
-use Rattle.rules.specs.Plan.{atTop, cursorRow, cursorColumn}
+use Rattle.rules.specs.Plan.{atTop}
 use Rattle.rules.proofs.Marks.{length-guards}
 use Rattle.rules.proofs.Screens.{screen-inside}
 use Rattle.rules.proofs.Places.{in-back, in-next-field, in-previous-field}
 
-module _ (x : Screen) (ok : screenOk x ≡ true) {n : ℕ} where
-  pub cursor-below : n ≡ cursorOf x → (n < pageLength x) × (n < 3168)
-  cursor-below h = omega (arith, screen-inside x ok)
-
-  pub column-below : n ≡ cursorColumn x → n < 132
-  column-below h = omega (arith, screen-inside x ok)
-
-  pub row-below : n ≡ cursorRow x → n < height
-  row-below h = omega (arith, screen-inside x ok)
+pub cursor-below : (x : Screen) → screenOk x ≡ true → {n : ℕ} → n ≡ cursorOf x → (n < pageLength x) × (n < 3168)
+cursor-below x ok h = omega (arith, screen-inside x ok)
 
 pub below-top : (x : Screen) {t : Bool} → t ≡ atTop x → t ≡ false → segmentStart x + widthOf x ≤ cursorOf x
 unfolding atTop

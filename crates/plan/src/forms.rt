@@ -5,7 +5,7 @@ use rules::Answer;
 use rules::Core;
 use rules::Land;
 use rules::Plan;
-use rules::Reply;
+use rules::Sending;
 use rules::SetupChange;
 use rules::Write;
 
@@ -17,7 +17,7 @@ pub fn refusing(c: Core, a: Answer) -> Plan
         first: Write::Nothing,
         second: Write::Nothing,
         change: SetupChange::Nothing,
-        reply: Reply::Nothing,
+        reply: Sending::Nothing,
         next: c,
         land: Land::Stay,
     }
@@ -37,7 +37,7 @@ pub fn writing_two(c: Core, w: Write, v: Write, l: Land) -> Plan
         first: w,
         second: v,
         change: SetupChange::Nothing,
-        reply: Reply::Nothing,
+        reply: Sending::Nothing,
         next: c,
         land: l,
     }
@@ -55,7 +55,7 @@ pub fn settling(c: Core, i: u16) -> Plan
     writing(c, Write::Nothing, Land::Settle(i))
 }
 
-pub fn replying(c: Core, x: Reply) -> Plan
+pub fn replying(c: Core, x: Sending) -> Plan
     ensures { λ r. ⌜ r ≡ replyingOf c x ⌝ }
 {
     Plan {
@@ -77,7 +77,7 @@ pub fn changing(c: Core, x: SetupChange) -> Plan
         first: Write::Nothing,
         second: Write::Nothing,
         change: x,
-        reply: Reply::Nothing,
+        reply: Sending::Nothing,
         next: c,
         land: Land::Stay,
     }

@@ -3,9 +3,9 @@ ghost use mathlib.Core.Path.{_≡_};
 ghost use mathlib.Core.Bool.{true};
 ghost use lib.ListN.{length};
 ghost use Rattle.rules.specs.Search.{guardedAt};
-ghost use Rattle.rules.specs.State.{Inside, pageLength};
+ghost use Rattle.rules.specs.State.{pageLength};
 ghost use Rattle.rules.specs.Possible.{screenOk};
-ghost use Rattle.rules.specs.Plan.{settingPlan, cursorRow, cursorColumn, sendPlan, clearAll as clearAllOf, protectOff as protectOffOf, excludedPlan};
+ghost use Rattle.rules.specs.Plan.{settingPlan, short as shortOf, text as textOf, sendPlan, clearAll as clearAllOf, protectOff as protectOffOf, excludedPlan};
 use super::forms::changing;
 use super::forms::plain;
 use super::forms::refusing;
@@ -19,31 +19,28 @@ use rules::Answer;
 use rules::Core;
 use rules::Excluded;
 use rules::Land;
+use rules::Place;
 use rules::Plan;
-use rules::Reply;
-use rules::Screen;
 use rules::Send;
+use rules::Sending;
 use rules::Setting;
 use rules::SetupChange;
+use rules::Short;
 use rules::Write;
 use state::core::with_modes;
 use state::core::with_protect;
 use state::possible::feature_place;
-use state::screen;
+use state::screen::cursor_column;
 use state::screen::cursor_of;
-use state::screen::row_start;
 use state::screen::segment_end;
 use state::screen::segment_start;
-use state::screen::segment_top;
+use state::screen::text_start;
 
 pub fn plan_setting(core: Core, s: Setting) -> Plan
     ensures { λ r. ⌜ r ≡ settingPlan core s ⌝ }
 {
     match s {
-        Setting::Tab(b) => changing(
-            core,
-            SetupChange::Tab(screen::cursor_column(core.screen), b),
-        ),
+        Setting::Tab(b) => changing(core, SetupChange::Tab(cursor_column(core.screen), b)),
         Setting::ClearTabs => changing(core, SetupChange::ClearTabs),
         Setting::Attribute(n, a) => changing(core, SetupChange::Attribute(n, a)),
         Setting::Feature(f) => changing(core, SetupChange::Feature(feature_place(f), f)),
@@ -51,59 +48,42 @@ pub fn plan_setting(core: Core, s: Setting) -> Plan
     }
 }
 
-// The text of the cells `from` up to `to`, guarded cells left out or not.
-fn text(all: bool, from: u16, to: u16) -> Reply
-    ensures { λ r. ⌜ r ≡ Reply.Text all from to ⌝ }
+// A short reply, and a text, from their first place.
+fn short(core: Core, x: Short) -> Plan
+    ensures { λ r. ⌜ r ≡ shortOf core x ⌝ }
 {
-    Reply::Text {
+    replying(core, Sending::Short(x, 0))
+}
+
+fn text(core: Core, all: bool, segment: bool) -> Plan
+    ensures { λ r. ⌜ r ≡ textOf core all segment ⌝ }
+{
+    let x = Sending::Text {
         all: all,
-        from: from,
-        to: to,
-    }
-}
-
-// The cursor's row from the segment's top, and its column, from 0.
-fn cursor_row(x: Screen) -> u8
-    requires { ⌜ Inside x ⌝ }
-    ensures { λ r. ⌜ r ≡ cursorRow x ⌝ }
-{
-    (screen::cursor_row(x) - segment_top(x)) as u8
-}
-
-fn cursor_column(x: Screen) -> u8
-    ensures { λ r. ⌜ r ≡ cursorColumn x ⌝ }
-{
-    screen::cursor_column(x) as u8
+        segment: segment,
+        at: Place::Cell(text_start(core.screen, segment)),
+    };
+    replying(core, x)
 }
 
 pub fn plan_send(page: &[u16], core: Core, s: Send) -> Plan
     requires { ⌜ (length (now page) ≡ pageLength (core .screen)) × (screenOk (core .screen) ≡ true) ⌝ }
     ensures { λ r. ⌜ r ≡ sendPlan (guardedAt (core .modes .protect) (now (page .entry))) core s ⌝ }
 {
-    let x = core.screen;
-    let at = cursor_of(x);
-    let row = cursor_row(x);
-    let column = cursor_column(x);
     match s {
-        Send::Acknowledge => replying(core, Reply::Acknowledge),
-        Send::Identity => {
-            let m = core.personality;
-            replying(core, Reply::Identity(m))
-        }
-        Send::Cursor => replying(core, Reply::Address(0x20 + row, 0x20 + column)),
-        Send::SegmentCursor => replying(
-            core,
-            Reply::SegmentAddress(0x30 + x.active, 0x20 + row, 0x20 + column),
-        ),
-        Send::DecimalCursor => replying(core, Reply::Decimal(row + 1, column + 1)),
+        Send::Acknowledge => short(core, Short::Acknowledge),
+        Send::Identity => short(core, Short::Identity),
+        Send::Cursor => short(core, Short::Cursor),
+        Send::SegmentCursor => short(core, Short::SegmentCursor),
+        Send::DecimalCursor => short(core, Short::DecimalCursor),
         Send::Cell => {
-            if guarded_at(page, core.modes.protect, at) {
+            if guarded_at(page, core.modes.protect, cursor_of(core.screen)) {
                 return refusing(core, Answer::Barred);
             }
-            replying(core, Reply::Cell(at))
+            short(core, Short::Cell)
         }
-        Send::OpenRow => replying(core, text(false, row_start(x), at + 1)),
-        Send::OpenSegment => replying(core, text(false, segment_start(x), at + 1)),
+        Send::OpenRow => text(core, false, false),
+        Send::OpenSegment => text(core, false, true),
     }
 }
 
@@ -122,18 +102,15 @@ fn clear_all(c: Core, v: u16) -> Plan
 }
 
 pub fn plan_excluded(core: Core, e: Excluded) -> Plan
-    requires { ⌜ Inside (core .screen) ⌝ }
     ensures { λ r. ⌜ r ≡ excludedPlan core e ⌝ }
 {
-    let x = core.screen;
-    let at = cursor_of(x);
     let off = with_modes(core, with_protect(core.modes, false));
     match e {
         Excluded::ProtectOff => plain(off),
         Excluded::ClearNulls => clear_all(core, NULL),
         Excluded::ClearSpaces => clear_all(core, SPACE),
         Excluded::ClearProtected => clear_all(off, PROTECTED_SPACE),
-        Excluded::SendRow => replying(core, text(true, row_start(x), at + 1)),
-        Excluded::SendSegment => replying(core, text(true, segment_start(x), at + 1)),
+        Excluded::SendRow => text(core, true, false),
+        Excluded::SendSegment => text(core, true, true),
     }
 }

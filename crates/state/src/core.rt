@@ -1,7 +1,7 @@
-// Setters of the core.
+// Whether a sequence is under way, and setters of the core.
 ghost use mathlib.Core.Path.{_≡_};
 ghost use Prim.Native.Nat.{_+_, _%_};
-ghost use Rattle.rules.specs.State.{withScreen, withModes, withBells, withAttribute, awaiting, idle, withProtect, withMode};
+ghost use Rattle.rules.specs.State.{withScreen, withModes, withBells, withAttribute, awaiting, idle, isIdle, withProtect, withMode};
 use rules::Core;
 use rules::Mode;
 use rules::Modes;
@@ -61,6 +61,24 @@ pub fn idle(c: Core) -> Core
     ensures { λ r. ⌜ r ≡ idle c ⌝ }
 {
     awaiting(c, Pending::Idle)
+}
+
+pub fn is_idle(q: Pending) -> bool
+    ensures { λ r. ⌜ r ≡ isIdle q ⌝ }
+{
+    match q {
+        Pending::Idle => true,
+        Pending::Escape => false,
+        Pending::Awaits(_) => false,
+        Pending::AddressRow(_) => false,
+        Pending::SegmentNumber(_) => false,
+        Pending::SegmentRow(_, _) => false,
+        Pending::DecimalRow(_, _) => false,
+        Pending::DecimalColumn(_, _, _) => false,
+        Pending::FieldNumber(_) => false,
+        Pending::Text(_, _) => false,
+        Pending::Spoilt(_) => false,
+    }
 }
 
 // One bell more, modulo 256.

@@ -6,6 +6,7 @@ pub mod core; // the other parts of the core
 pub mod texts; // slots, the bytes gathered, and texts
 pub mod keys; // function keys and labels
 pub mod setup; // changes of the set-up and of the gathered bytes
+pub mod sending; // the send under way
 pub mod possible; // which states are possible
 pub mod decode; // what a byte comes to after the sequence under way
 
@@ -18,6 +19,7 @@ use rules::Modes;
 use rules::Pending;
 use rules::Personality;
 use rules::Screen;
+use rules::Sending;
 use rules::Setup;
 use rules::State;
 
@@ -64,6 +66,7 @@ pub fn power_on_state(m: Personality) -> State
             personality: m,
             attribute: 0,
         },
+        sending: Sending::Nothing,
         gathered: [0; 46],
         setup: Setup {
             tabs: [false; 132],

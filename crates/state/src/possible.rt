@@ -10,6 +10,7 @@ ghost use Rattle.rules.specs.Slot.{slotMost, slotLow, allText, textOk, textsOk}
 use crate::logic::among;
 use crate::logic::and;
 use crate::logic::or;
+use crate::sending::sending_ok;
 use crate::texts::is_text;
 use crate::texts::slot_low;
 use crate::texts::slot_most;
@@ -280,10 +281,11 @@ pub fn possible(s: State) -> bool
     ensures { λ r. ⌜ r ≡ possible s ⌝ }
 {
     let core = s.core;
+    let pending = core.pending;
+    let sending = s.sending;
     let gathered = s.gathered;
     let setup = s.setup;
-    and(
-        core_ok(core, gathered),
-        setup_ok(setup, columns(core.screen.wide)),
-    )
+    let send = sending_ok(core.screen, pending, sending);
+    let rest = and(send, setup_ok(setup, columns(core.screen.wide)));
+    and(core_ok(core, gathered), rest)
 }

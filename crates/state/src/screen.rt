@@ -1,7 +1,7 @@
 // The active segment and its cursor.
 ghost use mathlib.Core.Path.{_≡_};
 ghost use Rattle.rules.specs.Row.{rowOf, columnOf, rowStart};
-ghost use Rattle.rules.specs.State.{widthOf, segmentTop, segmentBottom, segmentStart, segmentEnd, cursorOf, withCursor, activated};
+ghost use Rattle.rules.specs.State.{widthOf, segmentTop, segmentBottom, segmentStart, segmentEnd, cursorOf, withCursor, textStart, activated};
 use crate::width::cells;
 use crate::width::column_of;
 use crate::width::columns;
@@ -77,6 +77,17 @@ pub fn row_start(x: Screen) -> u16
 {
     let at = cursor_of(x);
     at - column_of(x.wide, at)
+}
+
+// The first cell of a text that is sent: the segment's, or that of the cursor's row.
+pub fn text_start(x: Screen, segment: bool) -> u16
+    ensures { λ r. ⌜ r ≡ textStart x segment ⌝ }
+{
+    if segment {
+        segment_start(x)
+    } else {
+        row_start(x)
+    }
 }
 
 pub fn with_cursor(x: Screen, n: u16) -> Screen

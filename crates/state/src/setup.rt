@@ -122,6 +122,7 @@ pub fn gathered_after(x: Change, gathered: [u8; 46]) -> [u8; 46]
         Change::Gather(n, b) => gather(gathered, n, b),
         Change::Take(_, _) => gathered,
         Change::Set(_) => gathered,
+        Change::Send(_) => gathered,
     }
 }
 
@@ -132,5 +133,6 @@ pub fn setup_after(x: Change, gathered: [u8; 46], u: Setup) -> Setup
         Change::Gather(_, _) => u,
         Change::Take(slot, n) => stored(slot, gathered, n, u),
         Change::Set(d) => changed(d, u),
+        Change::Send(_) => u,
     }
 }

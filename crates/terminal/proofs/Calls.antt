@@ -1,45 +1,57 @@
 -- The public calls: from what the functions below them promise to the rules.
 --     powered-on, power-on-refused, step-refused, run-refused     power-on; a bad page or state
+--     step-none, step-sent, run-none, run-sent, run-on     inside a send, without room, where it is not over, and where the bytes come behind it
+--     quiet-state, same-core     a state outside a send; a call that leaves the core
 --     one-byte         the loop over one byte is the single step
 --     text-sent, text-refused     a text put to the front of the room
 --     unprogrammed, programmed     what a key sends
---     press-bad, press-locked, press-unknown, press-sends, key-size     the key press
+--     press-bad, press-locked, press-unknown, press-waits, press-sends, key-size     the key press
 --     copied-suc       a turn of the loop that copies a text to the front of the room
 -- Assumes nothing.
-use mathlib.Core.Path.{_≡_, refl, sym, ap, _∙_}
+use mathlib.Core.Path.{_≡_, refl, sym, ap, ap₂, subst, _∙_}
 use mathlib.Core.Bool.{Bool, true, false}
-use mathlib.Core.List.{List, [], _∷_, _++_, append-nil}
-use Prim.Native.Nat.{ℕ, suc, _<_, _≤_}
-use native.Mathlib.Nat.{le-of-lt}
+use mathlib.Core.List.{List, [], _∷_, _++_, append-nil, append-assoc}
+use Prim.Native.Nat.{ℕ, suc, _+_, _-_, _<_, _≤_}
+use native.Mathlib.Nat.{le-of-lt, sub-zero}
 use native.Mathlib.Omega.{arith}
-use lib.Dec.{leb, eqb}
-use lib.ListN.{length, getD, take, drop, set, replicate, drop-of-length-le}
-use lib.Seq.{take-all, drop-cons, set-at, take-suc, append-snoc, length-take-le}
-use borrow.Author.Tests.{eqb-true, leb-true, ne-eqb}
+use lib.Dec.{leb, ltb, eqb}
+use lib.ListN.{length, getD, take, drop, set, replicate, length-append, length-drop, drop-of-length-le}
+use lib.Seq.{take-all, take-nil, take-at, drop-at, drop-drop, drop-cons, set-at, take-suc, append-snoc, length-take-le}
+use borrow.Author.Tests.{eqb-true, eqb-false, leb-true, ne-eqb}
 use Rattle.rules.specs.declared.Answer.{Answer}
 use Rattle.rules.specs.declared.Answer.the-variants as Answer
 use Rattle.rules.specs.declared.ShortText.{ShortText}
 use Rattle.rules.specs.declared.State.{State}
+use Rattle.rules.specs.declared.Core.{Core}
+use Rattle.rules.specs.declared.Sending.{Sending}
+use Rattle.rules.specs.declared.Sending.the-variants as Sending
 use Rattle.rules.specs.declared.Personality.{Personality}
 use Rattle.rules.specs.declared.RunResult.{RunResult}
 use Rattle.rules.specs.declared.PressResult.{PressResult}
-use Rattle.rules.specs.Cell.{pick}
+use Rattle.rules.specs.Cell.{pick, both}
 use Rattle.rules.specs.Change.{within, filled}
-use Rattle.rules.specs.State.{number, shortBytes, keyPlace}
+use Rattle.rules.specs.Search.{guardedAt}
+use Rattle.rules.specs.RowList.{Beside}
+use Rattle.rules.specs.State.{number, widthOf, pageLength, shortBytes, keyPlace, sends, withSending}
 use Rattle.rules.specs.Arguments.{isKey}
 use Rattle.rules.specs.Slot.{allText, textOk}
-use Rattle.rules.specs.Possible.{powerOn, blank, good}
-use Rattle.rules.specs.Step.{Outcome, stepRule}
-use Rattle.rules.specs.Calls.{powerOnRule, Ran, runRule, pressed, joined, repeated, keySends, keyAt, pressRule}
+use Rattle.rules.specs.Possible.{powerOn, blank, screenOk, sendingOk, good}
+use Rattle.rules.specs.Good.{GoodSend}
+use Rattle.rules.specs.Send.{places, bytesOf, beyond, standing, sentFrom, leftFrom}
+use Rattle.rules.specs.Step.{Outcome, goesOn, stepInside, stepRule}
+use Rattle.rules.specs.Calls.{powerOnRule, Ran, behind, runInside, runRule, pressed, joined, repeated, keySends, keyAt, pressRule}
 use Rattle.rules.specs.Left.{leaves}
 use Rattle.rules.specs.Room.{over}
 use Rattle.rules.proofs.Tests.{pick-if}
 use Rattle.rules.proofs.Texts.{text-parts, texts-at}
-use Rattle.rules.proofs.Kept.{good-parts, possible-parts}
+use Rattle.rules.proofs.Kept.{good-parts, good-whole, possible-parts, possible-whole}
 use Rattle.rules.proofs.Left.{step-left}
-use Rattle.terminal.specs.Promise.{PoweredOn, Stepped, Completed, sending, Sent}
-use Rattle.terminal.specs.Loop.{lastAnswer}
+use Rattle.rules.proofs.Sends.{ok-good, not-sending, sent-fits}
+use Rattle.carry.specs.Went.{Went}
+use Rattle.terminal.specs.Promise.{PoweredOn, Stepped, Completed, sending, KeySent}
+use Rattle.terminal.specs.Loop.{stateWith, stateOf, lastAnswer}
 use Rattle.terminal.proofs.Carrying.{over-none}
+use Rattle.terminal.proofs.Loop.{run-rests, lentTail, backTail, tail-lent, tail-back}
 
 -- ---- power-on
 
@@ -66,9 +78,9 @@ power-on-refused m p s n e = rw (ne-eqb (length p) 1920 n) (record { answer = re
 -- ---- a bad page or state: 7, and nothing changes
 
 module _ (p : List ℕ) (s : State) (g : good p s ≡ false) where
-  pub step-refused : (b : ℕ) (w : List ℕ) → Stepped (stepRule p s b (length w)) (record { answer = Answer.BadCall; replied = 0; state = s }) p w w
+  pub step-refused : (b : ℕ) (w : List ℕ) → Stepped (stepRule p s b (length w)) (record { answer = Answer.BadCall; taken = false; replied = 0; state = s }) p w w
   unfolding stepRule
-  step-refused b w = rw g (record { answer = refl; state = refl; replied = refl; page = refl; room = over-none w; fits = omega arith })
+  step-refused b w = rw g (record { answer = refl; taken = refl; state = refl; replied = refl; page = refl; room = over-none w; fits = omega arith })
 
   pub run-refused : (l w : List ℕ)
       → Completed (runRule p s l (length w)) (record { answer = Answer.BadCall; taken = 0; replied = 0; refused = 0; state = s }) l p w w
@@ -87,11 +99,204 @@ module _ (p : List ℕ) (s : State) (g : good p s ≡ false) where
         within = omega arith;
       })
 
--- a good one: the repeated step
-pub run-good : (p : List ℕ) (s : State) → good p s ≡ true → {r : RunResult} {l p′ w w′ : List ℕ} → Completed (repeated l p s (length w)) r l p′ w w′
-    → Completed (runRule p s l (length w)) r l p′ w w′
-unfolding runRule
-run-good p s g h = rw g h
+-- ---- inside a send
+
+module _ (p : List ℕ) (s : State) (g : good p s ≡ true) where
+  -- where the send comes to with a room
+  abbrev sentBy : ℕ → List ℕ
+  sentBy room = sentFrom p (s .core) (s .sending) room
+
+  abbrev leftBy : ℕ → Sending
+  leftBy room = leftFrom p (s .core) (s .sending) room
+
+  module _ (u : sends (s .sending) ≡ true) where
+    pub step-none : (b : ℕ) (w : List ℕ) → length w ≡ 0
+        → Stepped (stepRule p s b (length w)) (record { answer = Answer.NoRoom; taken = false; replied = 0; state = s }) p w w
+    unfolding stepRule stepInside
+    step-none b w e =
+        rw (g, u, e) (record { answer = refl; taken = refl; state = refl; replied = refl; page = refl; room = over-none w; fits = omega arith })
+
+    pub step-sent : (b n : ℕ) (y : Sending) (w w′ : List ℕ) → 0 < length w → Went p (s .core) (s .sending) w n y w′
+        → Stepped (stepRule p s b (length w)) (record { answer = Answer.Done; taken = false; replied = n; state = withSending s y }) p w w′
+    unfolding stepRule stepInside goesOn
+    step-sent b n y w w′ h x =
+        rw (g, u, ne-eqb (length w) 0 (omega arith)) (record {
+          answer = refl;
+          taken = refl;
+          state = ap (withSending s) (x .left);
+          replied = x .replied;
+          page = refl;
+          room = x .room;
+          fits = omega (arith, x .replied, sent-fits p (s .core) (s .sending) (length w));
+        })
+
+    pub run-none : (a : Answer) (l w : List ℕ) → eqb (length w) 0 ≡ true → number a ≡ pick (eqb (length l) 0) 0 6
+        → Completed (runRule p s l (length w)) (record { answer = a; taken = 0; replied = 0; refused = 0; state = s }) l p w w
+    unfolding runRule runInside
+    run-none a l w z e =
+        rw (g, u, z) (record {
+          answer = e;
+          taken = refl;
+          replied = refl;
+          refused = refl;
+          rest = refl;
+          state = refl;
+          page = refl;
+          room = over-none w;
+          fits = omega arith;
+          within = omega arith;
+        })
+
+  -- what sending asks, and a state with no send in place of this one
+  pub send-ready : (w : List ℕ) → 0 < length w
+      → (length p ≡ pageLength (s .core .screen)) × ((screenOk (s .core .screen) ≡ true) × (GoodSend (s .core .screen) (s .sending) × (0 < length w)))
+  send-ready w h =
+      let r = good-parts p s g in
+      let k = possible-parts s (r .1) in
+      (r .0, (k .core .screen, (ok-good (s .core .screen) (s .core .pending) (s .sending) (k .sending), h)))
+
+  pub good-quiet : good p (stateOf (s .core) (s .gathered) (s .setup)) ≡ true
+  unfolding sendingOk
+  good-quiet =
+      let r = good-parts p s g in
+      let k = possible-parts s (r .1) in
+      good-whole p (stateOf (s .core) (s .gathered) (s .setup)) (r .0)
+      (possible-whole (stateOf (s .core) (s .gathered) (s .setup)) record { narrow = k .narrow; core = k .core; sending = refl; setup = k .setup })
+
+  -- with room, or outside a send: what is left of it is sent, and then the bytes come
+  behind-room : (l : List ℕ) (room : ℕ) → sends (s .sending) ≡ true → 0 < room
+      → runRule p s l room ≡ behind (sentBy room) (repeated l p (withSending s (leftBy room)) (room - length (sentBy room)))
+  unfolding runRule runInside goesOn
+  behind-room l room u h = rw (g, u, ne-eqb room 0 (omega arith))
+
+  none-sent : (room : ℕ) → s .sending ≡ Sending.Nothing → sentBy room ≡ []
+  unfolding sentFrom places bytesOf
+  none-sent room e = subst (λ (y : Sending). sentFrom p (s .core) y room ≡ []) (sym e) (take-nil room)
+
+  none-left : (room : ℕ) → s .sending ≡ Sending.Nothing → leftBy room ≡ s .sending
+  unfolding leftFrom places beyond standing
+  none-left room e = subst (λ (y : Sending). leftFrom p (s .core) y room ≡ y) (sym e) refl
+
+  behind-none : (l : List ℕ) (room : ℕ) → sends (s .sending) ≡ false
+      → runRule p s l room ≡ behind (sentBy room) (repeated l p (withSending s (leftBy room)) (room - length (sentBy room)))
+  unfolding runRule behind
+  behind-none l room u =
+      let e = not-sending (s .sending) u in
+      rw (g, u, none-sent room e, none-left room e, sub-zero)
+
+  run-behind : (l : List ℕ) (room : ℕ) → (sends (s .sending) ≡ true → 0 < room)
+      → runRule p s l room ≡ behind (sentBy room) (repeated l p (withSending s (leftBy room)) (room - length (sentBy room)))
+  run-behind l room h = by (sends (s .sending)) refl
+    where
+      by : (t : Bool) → sends (s .sending) ≡ t
+          → runRule p s l room ≡ behind (sentBy room) (repeated l p (withSending s (leftBy room)) (room - length (sentBy room)))
+      by true u = behind-room l room u (h u)
+      by false u = behind-none l room u
+
+  module _ {n : ℕ} {y : Sending} {w w₁ : List ℕ} (x : Went p (s .core) (s .sending) w n y w₁) (h : sends (s .sending) ≡ true → 0 < length w) where
+    went-size : length (sentBy (length w)) ≡ n
+    went-size = sym (x .replied)
+
+    pub went-fits : n ≤ length w
+    went-fits = omega (arith, x .replied, sent-fits p (s .core) (s .sending) (length w))
+
+    went-long : length w₁ ≡ length w
+    unfolding over
+    went-long =
+        ap length (x .room)
+        ∙ (length-append (sentBy (length w)) (drop (length (sentBy (length w))) w) ∙ omega (arith, x .replied, went-fits, length-drop (length (sentBy (length w))) w))
+
+    -- the send is not over
+    pub run-sent : (l : List ℕ) → sends y ≡ true
+        → Completed (runRule p s l (length w)) (record { answer = Answer.Done; taken = 0; replied = n; refused = 0; state = withSending s y }) l p w w₁
+    unfolding behind
+    run-sent l under =
+        rw (run-behind l (length w) h, ← (x .left), run-rests l p (withSending s y) (length w - length (sentBy (length w))) under, append-nil) (record {
+          answer = refl;
+          taken = refl;
+          replied = x .replied;
+          refused = refl;
+          rest = refl;
+          state = refl;
+          page = refl;
+          room = x .room;
+          fits = went-fits;
+          within = omega arith;
+        })
+
+    pub back-long : (part : List ℕ) → length part ≡ length (lentTail n w₁) → length (backTail n w₁ part) ≡ length w
+    unfolding over
+    back-long part e =
+        ap length (tail-back n w₁ part) ∙ (length-append (take n w₁) part
+        ∙ omega (arith, length-take-le n w₁ (omega (arith, went-fits, went-long)), length-drop n w₁, e ∙ ap length (tail-lent n w₁), went-long, went-fits))
+
+    -- it is: the bytes come behind it
+    front-is : take n w₁ ≡ sentBy (length w)
+    unfolding over
+    front-is = ap (take n) (x .room) ∙ take-at (sentBy (length w)) _ n went-size
+
+    rest-is : drop n w₁ ≡ drop n w
+    unfolding over
+    rest-is = ap (drop n) (x .room) ∙ (drop-at (sentBy (length w)) _ n went-size ∙ ap (λ (k : ℕ). drop k w) went-size)
+
+    lent-size : length (lentTail n w₁) ≡ length w - length (sentBy (length w))
+    lent-size = ap length (tail-lent n w₁ ∙ rest-is) ∙ (length-drop n w ∙ ap (λ (k : ℕ). length w - k) (x .replied))
+
+    pub run-on : {r : RunResult} {l p′ part : List ℕ} → sends y ≡ false
+        → Completed (repeated l p (stateOf (s .core) (s .gathered) (s .setup)) (length (lentTail n w₁))) r l p′ (lentTail n w₁) part
+        → Completed (runRule p s l (length w)) (record { answer = r .answer; taken = r .taken; replied = n + r .replied; refused = r .refused; state = r .state }) l
+        p′ w (backTail n w₁ part)
+    unfolding behind over
+    run-on {r} {l} {p′} {part} done k =
+        let z : leftBy (length w) ≡ Sending.Nothing = sym (x .left) ∙ not-sending y done in
+        let o = repeated l p (stateOf (s .core) (s .gathered) (s .setup)) (length w - length (sentBy (length w))) in
+        let q : Completed o r l p′ (lentTail n w₁) part =
+        subst (λ (m : ℕ). Completed (repeated l p (stateOf (s .core) (s .gathered) (s .setup)) m) r l p′ (lentTail n w₁) part) lent-size k in
+        let put : part ≡ o .reply ++ drop (length (o .reply)) (drop n w) = q .room ∙ ap (λ (v : List ℕ). o .reply ++ drop (length (o .reply)) v) (tail-lent n w₁ ∙ rest-is) in
+        let m : n + length (o .reply) ≡ length (sentBy (length w) ++ o .reply) = omega (arith, x .replied, length-append (sentBy (length w)) (o .reply)) in
+        rw (run-behind l (length w) h, z) (record {
+          answer = q .answer;
+          taken = q .taken;
+          replied = omega (arith, x .replied, q .replied, length-append (sentBy (length w)) (o .reply));
+          refused = q .refused;
+          rest = q .rest;
+          state = q .state;
+          page = q .page;
+          room = tail-back n w₁ part ∙ (ap₂ (λ (a b : List ℕ). a ++ b) front-is put ∙ (sym (append-assoc (sentBy (length w)) (o .reply) _)
+              ∙ ap (λ (v : List ℕ). (sentBy (length w) ++ o .reply) ++ v)
+              (drop-drop (length (o .reply)) n w ∙ ap (λ (k : ℕ). drop k w) m)));
+          fits = omega (arith, q .fits, lent-size, went-fits, x .replied);
+          within = q .within;
+        })
+
+-- outside a send nothing is sent
+pub none-went : (p : List ℕ) (s : State) (w : List ℕ) → s .sending ≡ Sending.Nothing → Went p (s .core) (s .sending) w 0 Sending.Nothing w
+unfolding sentFrom leftFrom places bytesOf beyond standing
+none-went p s w e =
+    subst (λ (y : Sending). Went p (s .core) y w 0 Sending.Nothing w) (sym e)
+    (record { replied = ap length (sym (take-nil (length w))); room = over-none w ∙ ap (λ (l : List ℕ). over l w) (sym (take-nil (length w))); left = refl })
+
+-- a state or a result by another name
+pub sent-is : {o : Outcome} {a : Answer} {n : ℕ} {z z′ : State} {p w w′ : List ℕ} → z ≡ z′
+    → Stepped o (record { answer = a; taken = false; replied = n; state = z′ }) p w w′ → Stepped o (record { answer = a; taken = false; replied = n; state = z }) p w w′
+sent-is {o} {a} {n} {p = p} {w = w} {w′ = w′} e h =
+    subst (λ (x : State). Stepped o (record { answer = a; taken = false; replied = n; state = x }) p w w′) (sym e) h
+
+pub ran-is : {o : Ran} {r r′ : RunResult} {l p w w′ : List ℕ} → r ≡ r′ → Completed o r′ l p w w′ → Completed o r l p w w′
+ran-is {o} {l = l} {p = p} {w = w} {w′ = w′} e h = subst (λ (x : RunResult). Completed o x l p w w′) (sym e) h
+
+-- past the test for a send without room there is room in a send
+pub has-room : (t : Bool) (n : ℕ) → both t (eqb n 0) ≡ false → t ≡ true → 0 < n
+has-room t n e u = omega (arith, eqb-false n 0 (ap (λ (z : Bool). both z (eqb n 0)) (sym u) ∙ e))
+
+-- with no send under way
+pub quiet-state : (s : State) → sends (s .sending) ≡ false → stateOf (s .core) (s .gathered) (s .setup) ≡ s
+quiet-state s u = ap (λ (y : Sending). stateWith (s .core) y (s .gathered) (s .setup)) (sym (not-sending (s .sending) u))
+
+-- the row list beside the page where the core is the one before
+pub same-core : (r s : State) (p : List ℕ) {l : List ℕ} → r .core ≡ s .core → Beside (widthOf (s .core .screen)) (guardedAt (s .core .modes .protect) p) l
+    → Beside (widthOf (r .core .screen)) (guardedAt (r .core .modes .protect) p) l
+same-core r s p {l} e b = subst (λ (d : Core). Beside (widthOf (d .screen)) (guardedAt (d .modes .protect) p) l) (sym e) b
 
 -- ---- the single step
 
@@ -101,35 +306,46 @@ record Same (o : Outcome) (x : Ran) : Type 0 where
   page : x .page ≡ o .page
   reply : x .reply ≡ o .reply
 
-one-same : (b : ℕ) (p : List ℕ) (s : State) (room : ℕ) → Same (stepRule p s b room) (repeated (b ∷ []) p s room)
+one-same : (b : ℕ) (p : List ℕ) (s : State) (room : ℕ) → sends (s .sending) ≡ false → Same (stepRule p s b room) (repeated (b ∷ []) p s room)
 unfolding repeated joined
-one-same b p s room =
+one-same b p s room u =
     let o = stepRule p s b room in
-    pick-if (Same o) (eqb (o .answer) 6)
+    rw u (pick-if (Same o) (eqb (o .answer) 6)
     (λ e.
     let six : o .answer ≡ 6 = eqb-true _ _ e in
     let k = step-left p s b room (λ z. absurd (omega (arith, z, six))) in
     record { state = sym (k .state ∙ ap (λ (n : ℕ). leaves n s) six); page = sym (k .page); reply = sym (k .reply) })
-    (λ e. record { state = refl; page = refl; reply = append-nil (o .reply) })
+    (λ e. record { state = refl; page = refl; reply = append-nil (o .reply) }))
 
-one-last : (b : ℕ) (p : List ℕ) (s : State) (room a : ℕ) → lastAnswer (b ∷ []) p s room a ≡ stepRule p s b room .answer
+one-last : (b : ℕ) (p : List ℕ) (s : State) (room a : ℕ) → sends (s .sending) ≡ false → lastAnswer (b ∷ []) p s room a ≡ stepRule p s b room .answer
 unfolding lastAnswer
-one-last b p s room a = by (eqb (stepRule p s b room .answer) 6) refl
+one-last b p s room a u = by (eqb (stepRule p s b room .answer) 6) refl
   where
     by : (t : Bool) → eqb (stepRule p s b room .answer) 6 ≡ t → lastAnswer (b ∷ []) p s room a ≡ stepRule p s b room .answer
-    by true e = rw e (sym (eqb-true _ _ e))
-    by false e = rw e
+    by true e = rw (u, e) (sym (eqb-true _ _ e))
+    by false e = rw (u, e)
+
+-- the byte is taken as its answer says
+one-taken : (b : ℕ) (p : List ℕ) (s : State) (room : ℕ) → good p s ≡ true → sends (s .sending) ≡ false
+    → stepRule p s b room .taken ≡ ltb (stepRule p s b room .answer) 6
+unfolding stepRule
+one-taken b p s room g u = rw (g, u)
 
 module _ (b : ℕ) (p : List ℕ) (s : State) (p′ w w′ : List ℕ) (a : Answer) (r : RunResult)
-    (h : Completed (repeated (b ∷ []) p s (length w)) r (b ∷ []) p′ w w′) (l : number a ≡ lastAnswer (b ∷ []) p s (length w) 0) where
+    (h : Completed (repeated (b ∷ []) p s (length w)) r (b ∷ []) p′ w w′) (l : number a ≡ lastAnswer (b ∷ []) p s (length w) 0) (g : good p s ≡ true)
+    (u : sends (s .sending) ≡ false) where
   abbrev o : Outcome
   o = stepRule p s b (length w)
 
-  pub one-byte : Stepped o (record { answer = a; replied = r .replied; state = r .state }) p′ w w′
-  one-byte =
-      let m = one-same b p s (length w) in
+  answered : number a ≡ o .answer
+  answered = l ∙ one-last b p s (length w) 0 u
+
+  pub one-byte : (t : Bool) → t ≡ ltb (number a) 6 → Stepped o (record { answer = a; taken = t; replied = r .replied; state = r .state }) p′ w w′
+  one-byte t e =
+      let m = one-same b p s (length w) u in
       record {
-        answer = l ∙ one-last b p s (length w) 0;
+        answer = answered;
+        taken = e ∙ ap (λ (n : ℕ). ltb n 6) answered ∙ sym (one-taken b p s (length w) g u);
         state = h .state ∙ m .state;
         replied = h .replied ∙ ap length (m .reply);
         page = h .page ∙ m .page;
@@ -141,50 +357,54 @@ module _ (b : ℕ) (p : List ℕ) (s : State) (p′ w w′ : List ℕ) (a : Answ
 
 -- a text that was put, and one that does not fit
 pub text-sent : (l w w′ : List ℕ) (t : Bool) → t ≡ leb (length l) (length w) → w′ ≡ pick t (over l w) w → t ≡ true
-    → Sent (sending l (length w)) (record { answer = Answer.Done; replied = length l }) w w′
+    → KeySent (sending l (length w)) (record { answer = Answer.Done; replied = length l }) w w′
 text-sent l w w′ t e r h =
     let fit : leb (length l) (length w) ≡ true = sym e ∙ h in
     rw fit (record { answer = refl; replied = refl; room = r ∙ rw h; fits = leb-true _ _ fit })
 
 pub text-refused : (l w w′ : List ℕ) (t : Bool) → t ≡ leb (length l) (length w) → w′ ≡ pick t (over l w) w → t ≡ false
-    → Sent (sending l (length w)) (record { answer = Answer.NoRoom; replied = 0 }) w w′
+    → KeySent (sending l (length w)) (record { answer = Answer.NoRoom; replied = 0 }) w w′
 text-refused l w w′ t e r h =
     let fit : leb (length l) (length w) ≡ false = sym e ∙ h in
     rw fit (record { answer = refl; replied = refl; room = r ∙ rw h (over-none w); fits = omega arith })
 
 -- an unprogrammed key, and any other
 module _ (k : ShortText) (v : ℕ) {r : PressResult} {w w′ : List ℕ} where
-  pub unprogrammed : k .len ≡ 0 → Sent (sending (0x01 ∷ v ∷ 0x0d ∷ []) (length w)) r w w′ → Sent (sending (keySends k v) (length w)) r w w′
+  pub unprogrammed : k .len ≡ 0 → KeySent (sending (0x01 ∷ v ∷ 0x0d ∷ []) (length w)) r w w′ → KeySent (sending (keySends k v) (length w)) r w w′
   unfolding keySends
   unprogrammed e h = rw e h
 
-  pub programmed : (k .len ≡ 0 → ⊥) → Sent (sending (shortBytes k) (length w)) r w w′ → Sent (sending (keySends k v) (length w)) r w w′
+  pub programmed : (k .len ≡ 0 → ⊥) → KeySent (sending (shortBytes k) (length w)) r w w′ → KeySent (sending (keySends k v) (length w)) r w w′
   unfolding keySends
   programmed e h = rw (ne-eqb (k .len) 0 e) h
 
 -- a press that replies nothing
-press-refused : (a : Answer) (w : List ℕ) → Sent (pressed (number a) []) (record { answer = a; replied = 0 }) w w
+press-refused : (a : Answer) (w : List ℕ) → KeySent (pressed (number a) []) (record { answer = a; replied = 0 }) w w
 press-refused a w = record { answer = refl; replied = refl; room = over-none w; fits = omega arith }
 
 module _ (p : List ℕ) (s : State) (v : ℕ) (w : List ℕ) where
-  pub press-bad : good p s ≡ false → Sent (pressRule p s v (length w)) (record { answer = Answer.BadCall; replied = 0 }) w w
+  pub press-bad : good p s ≡ false → KeySent (pressRule p s v (length w)) (record { answer = Answer.BadCall; replied = 0 }) w w
   unfolding pressRule
   press-bad g = rw g (press-refused Answer.BadCall w)
 
   module _ (g : good p s ≡ true) where
-    pub press-locked : s .core .modes .locked ≡ true → Sent (pressRule p s v (length w)) (record { answer = Answer.Locked; replied = 0 }) w w
+    pub press-locked : s .core .modes .locked ≡ true → KeySent (pressRule p s v (length w)) (record { answer = Answer.Locked; replied = 0 }) w w
     unfolding pressRule
     press-locked l = rw (g, l) (press-refused Answer.Locked w)
 
     module _ (l : s .core .modes .locked ≡ false) where
-      pub press-unknown : isKey v ≡ false → Sent (pressRule p s v (length w)) (record { answer = Answer.BadArgument; replied = 0 }) w w
+      pub press-unknown : isKey v ≡ false → KeySent (pressRule p s v (length w)) (record { answer = Answer.BadArgument; replied = 0 }) w w
       unfolding pressRule
       press-unknown i = rw (g, l, i) (press-refused Answer.BadArgument w)
 
-      pub press-sends : isKey v ≡ true → {k : ShortText} → k ≡ keyAt s v → {r : PressResult} {w′ : List ℕ}
-          → Sent (sending (keySends k v) (length w)) r w w′ → Sent (pressRule p s v (length w)) r w w′
+      pub press-waits : isKey v ≡ true → sends (s .sending) ≡ true → KeySent (pressRule p s v (length w)) (record { answer = Answer.NoRoom; replied = 0 }) w w
       unfolding pressRule
-      press-sends i e h = rw (g, l, i, sym e) h
+      press-waits i u = rw (g, l, i, u) (press-refused Answer.NoRoom w)
+
+      pub press-sends : isKey v ≡ true → sends (s .sending) ≡ false → {k : ShortText} → k ≡ keyAt s v → {r : PressResult} {w′ : List ℕ}
+          → KeySent (sending (keySends k v) (length w)) r w w′ → KeySent (pressRule p s v (length w)) r w w′
+      unfolding pressRule
+      press-sends i u e h = rw (g, l, i, u, sym e) h
 
 -- a key of a good state holds 8 bytes at most
 pub key-size : (p : List ℕ) (s : State) (v : ℕ) → good p s ≡ true → {k : ShortText} → k ≡ keyAt s v → k .len ≤ 8

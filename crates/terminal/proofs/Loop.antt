@@ -1,8 +1,8 @@
 -- The loop over host bytes: what holds at its head, and what a turn does.
 --     step-made     the step of the rules, by the inner step
---     nothing-made     a change of nothing
+--     nothing-made, send-made     a change of nothing, and a reply that is not over
 --     tail-lent, tail-none, tail-back     the rest of the room, as it is lent and when it is back
---     begin, stop, go, finish     the loop's start, a byte that answers 6, any other byte, the end of the input
+--     begin, stop, go, halt, finish     the loop's start, a byte that answers 6, any other byte, one whose reply is not over, the end of the input
 --     ready     what the loop hands to the inner step meets what that asks
 --     page-size, room-size, back-size     the page and the room keep their lengths
 --     stop-beside, go-beside, ended-beside     the row list after a byte, and after the loop
@@ -18,7 +18,7 @@ use native.Mathlib.Omega.{arith}
 use lib.Dec.{eqb}
 use lib.ListN.{length, getD, take, drop, length-append, length-drop, take-append-drop, drop-of-length-le}
 use lib.Seq.{take-all, drop-cons, take-at, drop-at, drop-drop, length-take-le}
-use borrow.Author.Tests.{eqb-true}
+use borrow.Author.Tests.{eqb-true, not-true}
 use Rattle.rules.specs.declared.Answer.{Answer}
 use Rattle.rules.specs.declared.Answer.the-variants as Answer
 use Rattle.rules.specs.declared.Core.{Core}
@@ -27,12 +27,14 @@ use Rattle.rules.specs.declared.Change.{Change}
 use Rattle.rules.specs.declared.Change.the-variants as Change
 use Rattle.rules.specs.declared.Setup.{Setup}
 use Rattle.rules.specs.declared.State.{State}
+use Rattle.rules.specs.declared.Sending.{Sending}
+use Rattle.rules.specs.declared.Sending.the-variants as Sending
 use Rattle.rules.specs.declared.SetupChange.the-variants as SetupChange
 use Rattle.rules.specs.Cell.{among}
 use Rattle.rules.specs.Row.{columns}
 use Rattle.rules.specs.Search.{guardedAt}
 use Rattle.rules.specs.RowList.{Beside}
-use Rattle.rules.specs.State.{number, widthOf, pageLength, changed, gatheredAfter, setupAfter}
+use Rattle.rules.specs.State.{number, widthOf, pageLength, sends, changed, sendingAfter, gatheredAfter, setupAfter}
 use Rattle.rules.specs.Possible.{screenOk, pendingOk, good}
 use Rattle.rules.specs.Carry.{Effect}
 use Rattle.rules.specs.Step.{Outcome, innerRule, stepRule}
@@ -44,13 +46,14 @@ use Rattle.rules.proofs.Tests.{pick-if}
 use Rattle.rules.proofs.Kept.{good-parts, possible-parts, step-keeps, step-good}
 use Rattle.rules.proofs.Left.{step-left}
 use Rattle.rules.proofs.Numbers.{remembered-below}
-use Rattle.rules.proofs.Run.{run-stop, run-go, run-done, preceded-none, preceded-joined}
+use Rattle.rules.proofs.Sends.{not-sending}
+use Rattle.rules.proofs.Run.{run-waits, run-stop, run-go, run-done, preceded-none, preceded-joined}
 use Rattle.page.proofs.RowList.{beside-is}
 use Rattle.carry.specs.Carried.{Carried}
 use Rattle.carry.specs.Rows.{BesideAfter}
 use Rattle.terminal.specs.declared.bytes.Ended.{Ended}
 use Rattle.terminal.specs.Promise.{Completed}
-use Rattle.terminal.specs.Loop.{isNothing, stateOf, lastAnswer, Looped}
+use Rattle.terminal.specs.Loop.{isNothing, stateWith, stateOf, lastAnswer, Looped}
 use Rattle.terminal.proofs.Carrying.{over-none}
 
 -- ---- the step of the rules, by the effect of the inner step
@@ -58,6 +61,7 @@ use Rattle.terminal.proofs.Carrying.{over-none}
 pub record Made (g : List ℕ) (u : Setup) (e : Effect) (o : Outcome) : Type 0 where
   pub answer : o .answer ≡ e .answer
   pub core : o .state .core ≡ e .core
+  pub sending : o .state .sending ≡ sendingAfter (e .change) Sending.Nothing
   pub gathered : o .state .gathered ≡ gatheredAfter (e .change) g
   pub setup : o .state .setup ≡ setupAfter (e .change) g u
   pub page : o .page ≡ e .page
@@ -66,19 +70,29 @@ pub record Made (g : List ℕ) (u : Setup) (e : Effect) (o : Outcome) : Type 0 w
 pub step-made : (p : List ℕ) (c : Core) (g : List ℕ) (u : Setup) (b room : ℕ) → good p (stateOf c g u) ≡ true
     → Made g u (innerRule p c (u .tabs) b room) (stepRule p (stateOf c g u) b room)
 unfolding stepRule
-step-made p c g u b room h = rw h (record { answer = refl; core = refl; gathered = refl; setup = refl; page = refl; reply = refl })
+step-made p c g u b room h = rw h (record { answer = refl; core = refl; sending = refl; gathered = refl; setup = refl; page = refl; reply = refl })
 
--- a change of nothing leaves the gathered bytes and the set-up
-pub nothing-made : (x : Change) (g : List ℕ) (u : Setup) → isNothing x ≡ true → (g ≡ gatheredAfter x g) × (u ≡ setupAfter x g u)
-unfolding gatheredAfter setupAfter changed
+-- a change of nothing leaves the gathered bytes and the set-up, and no send
+pub nothing-made : (x : Change) (g : List ℕ) (u : Setup) → isNothing x ≡ true
+    → (g ≡ gatheredAfter x g) × ((u ≡ setupAfter x g u) × (sendingAfter x Sending.Nothing ≡ Sending.Nothing))
+unfolding sendingAfter gatheredAfter setupAfter changed
 nothing-made (Change.Gather n b) g u e = absurd (false≢true e)
 nothing-made (Change.Take x n) g u e = absurd (false≢true e)
-nothing-made (Change.Set SetupChange.Nothing) g u e = (refl, refl)
+nothing-made (Change.Set SetupChange.Nothing) g u e = (refl, (refl, refl))
+nothing-made (Change.Send x) g u e = (refl, (refl, not-sending x (not-true (sends x) e)))
 nothing-made (Change.Set (SetupChange.Tab i b)) g u e = absurd (false≢true e)
 nothing-made (Change.Set SetupChange.ClearTabs) g u e = absurd (false≢true e)
 nothing-made (Change.Set (SetupChange.Attribute i a)) g u e = absurd (false≢true e)
 nothing-made (Change.Set (SetupChange.Feature i f)) g u e = absurd (false≢true e)
 nothing-made (Change.Set SetupChange.HideLine) g u e = absurd (false≢true e)
+
+-- so does a reply that is not over
+pub send-made : (x : Change) (g : List ℕ) (u : Setup) → sends (sendingAfter x Sending.Nothing) ≡ true → (g ≡ gatheredAfter x g) × (u ≡ setupAfter x g u)
+unfolding sendingAfter gatheredAfter setupAfter
+send-made (Change.Gather n b) g u e = absurd (false≢true e)
+send-made (Change.Take x n) g u e = absurd (false≢true e)
+send-made (Change.Set x) g u e = absurd (false≢true e)
+send-made (Change.Send x) g u e = (refl, refl)
 
 refusal-one : (n : ℕ) → refusal n ≤ 1
 refusal-one n = pick-if (λ (k : ℕ). k ≤ 1) (among 1 4 n) (λ e. omega arith) (λ e. omega arith)
@@ -88,10 +102,20 @@ module _ (b : ℕ) (bs p : List ℕ) (s : State) (room a : ℕ) where
   abbrev stepped : Outcome
   stepped = stepRule p s b room
 
-  last-go : eqb (stepped .answer) 6 ≡ false
+  last-go : sends (s .sending) ≡ false → eqb (stepped .answer) 6 ≡ false
       → lastAnswer (b ∷ bs) p s room a ≡ lastAnswer bs (stepped .page) (stepped .state) (room - length (stepped .reply)) (stepped .answer)
   unfolding lastAnswer
-  last-go e = rw e
+  last-go u e = rw (u, e)
+
+-- inside a send no byte is looked at
+last-waits : (bs p : List ℕ) (s : State) (room a : ℕ) → sends (s .sending) ≡ true → lastAnswer bs p s room a ≡ a
+unfolding lastAnswer
+last-waits [] p s room a u = refl
+last-waits (b ∷ bs) p s room a u = rw u
+
+pub run-rests : (bs p : List ℕ) (s : State) (room : ℕ) → sends (s .sending) ≡ true → repeated bs p s room ≡ ended p s 0 bs
+run-rests [] p s room u = run-done p s room
+run-rests (b ∷ bs) p s room u = run-waits b bs p s room u
 
 -- ---- the room
 
@@ -203,7 +227,8 @@ module _ {p₀ : List ℕ} {s₀ : State} {input w₀ p w : List ℕ} {c : Core}
       })
 
   pub finish : {z : Ended} → length input ≤ i
-      → z ≡ record { answer = Answer.Done; last = a; taken = i; replied = n; refused = f; core = c; gathered = g; setup = u } → Looped p₀ s₀ input w₀ z p w
+      → z ≡ record { answer = Answer.Done; last = a; taken = i; replied = n; refused = f; core = c; sending = Sending.Nothing; gathered = g; setup = u }
+      → Looped p₀ s₀ input w₀ z p w
   unfolding lastAnswer
   finish h result =
       let e : drop i input ≡ [] = drop-of-length-le input h in
@@ -244,7 +269,7 @@ module _ {p₀ : List ℕ} {s₀ : State} {input w₀ p w : List ℕ} {c : Core}
 
     -- it answers 6: the loop stops before it
     pub stop : {z : Ended} → eqb (number (r .answer)) 6 ≡ true
-        → z ≡ record { answer = Answer.NoRoom; last = r .answer; taken = i; replied = n; refused = f; core = c; gathered = g; setup = u }
+        → z ≡ record { answer = Answer.NoRoom; last = r .answer; taken = i; replied = n; refused = f; core = c; sending = Sending.Nothing; gathered = g; setup = u }
         → Looped p₀ s₀ input w₀ z p′ w′
     unfolding lastAnswer
     stop t result =
@@ -255,7 +280,7 @@ module _ {p₀ : List ℕ} {s₀ : State} {input w₀ p w : List ℕ} {c : Core}
         S .room ∙ ap (λ (x : List ℕ). over x (drop n w)) (sym (made .reply) ∙ l .reply) ∙ sym (over-none (drop n w)) in
         let room : w′ ≡ w = back ∙ ap (λ (x : List ℕ). take n w ++ x) none ∙ take-append-drop n w in
         looped-is result (rw (page, room) (record {
-          run = ending Answer.NoRoom (b ∷ drop (suc i) input) cons (run-stop b (drop (suc i) input) p s (length w₀ - n) a6);
+          run = ending Answer.NoRoom (b ∷ drop (suc i) input) cons (run-stop b (drop (suc i) input) p s (length w₀ - n) refl a6);
           last = eqb-true _ _ t ∙ sym (R .last ∙ rw (cons, a6));
         }))
 
@@ -291,21 +316,23 @@ module _ {p₀ : List ℕ} {s₀ : State} {input w₀ p w : List ℕ} {c : Core}
         back ∙ ap (λ (x : List ℕ). take n w ++ x) (S .room ∙ ap (λ (x : List ℕ). over x (drop n w)) (sym (made .reply)))
         ∙ sym (append-assoc (take n w) (o .reply) (drop (length (o .reply)) (drop n w)))
 
-    -- any other answer: the loop goes on. k are the gathered bytes and v is the set-up after the change
-    module _ {k : List ℕ} {v : Setup} {m : ℕ} (t : eqb (number (r .answer)) 6 ≡ false) (ek : k ≡ gatheredAfter (r .change) g)
-        (ev : v ≡ setupAfter (r .change) g u) (eg : m ≡ refusal (number (r .answer))) where
+    -- any other answer. k are the gathered bytes and v is the set-up after the change, y the send that it leaves under way
+    module _ {k : List ℕ} {v : Setup} {y : Sending} {m : ℕ} (t : eqb (number (r .answer)) 6 ≡ false) (ek : k ≡ gatheredAfter (r .change) g)
+        (ev : v ≡ setupAfter (r .change) g u) (ey : y ≡ sendingAfter (r .change) Sending.Nothing) (eg : m ≡ refusal (number (r .answer))) where
       answered : o .answer ≡ number (r .answer)
       answered = made .answer ∙ sym (S .answer)
 
       not-six : eqb (o .answer) 6 ≡ false
       not-six = rw answered t
 
-      reached : o .state ≡ stateOf (r .core) k v
+      reached : o .state ≡ stateWith (r .core) y k v
       reached =
           let core : o .state .core ≡ r .core = made .core ∙ sym (S .core (rw (sym (S .answer)) t)) in
+          let sending : o .state .sending ≡ y = made .sending ∙ rw (sym (S .change)) (sym ey) in
           let gathered : o .state .gathered ≡ k = made .gathered ∙ rw (sym (S .change)) (sym ek) in
           let setup : o .state .setup ≡ v = made .setup ∙ rw (sym (S .change)) (sym ev) in
-          ap₂ (λ (x : Core) (y : List ℕ). stateOf x y (o .state .setup)) core gathered ∙ ap (stateOf (r .core) k) setup
+          ap₂ (λ (x : Core) (z : Sending). stateWith x z (o .state .gathered) (o .state .setup)) core sending
+          ∙ ap₂ (stateWith (r .core) y) gathered setup
 
       turned : o .page ≡ p′
       turned = made .page ∙ sym (S .page)
@@ -319,24 +346,87 @@ module _ {p₀ : List ℕ} {s₀ : State} {input w₀ p w : List ℕ} {c : Core}
       count : refusal (o .answer) ≡ m
       count = ap refusal answered ∙ sym eg
 
-      pub go : Running p₀ s₀ input w₀ p′ w′ (r .core) k v (r .answer) (i + 1) (n + r .replied) (f + m)
-      go = record {
+      used′ : n + r .replied ≤ length w₀
+      used′ = omega (arith, S .fits, left, R .used)
+
+      size′ : length w′ ≡ length w₀
+      size′ =
+          ap length put ∙ length-append (take n w ++ o .reply) _
+          ∙ omega (arith, sum, length-drop (length (o .reply)) (drop n w), S .replied, ap length (made .reply), S .fits, left, R .used)
+
+      untouched′ : drop (n + r .replied) w′ ≡ drop (n + r .replied) w₀
+      untouched′ =
+          ap (drop (n + r .replied)) put ∙ drop-at (take n w ++ o .reply) _ (n + r .replied) sum
+          ∙ ap (drop (length (o .reply))) (R .untouched) ∙ drop-drop (length (o .reply)) n w₀
+          ∙ ap (λ (j : ℕ). drop (n + j) w₀) (ap length (made .reply) ∙ sym (S .replied))
+
+      same′ : repeated input p₀ s₀ (length w₀)
+          ≡ preceded (i + 1) (f + m) (take (n + r .replied) w′) (repeated (drop (i + 1) input) p′ (stateWith (r .core) y k v) (length w₀ - (n + r .replied)))
+      same′ =
+          R .same ∙ ap (λ (l : List ℕ). preceded i f (take n w) (repeated l p s (length w₀ - n))) cons
+          ∙ ap (preceded i f (take n w)) (run-go b (drop (suc i) input) p s (length w₀ - n) refl not-six)
+          ∙ preceded-joined i f (take n w) o _ ∙ cc (turned, reached, room-left, reply, count, add-one i)
+
+      last′ : lastAnswer input p₀ s₀ (length w₀) 0
+          ≡ lastAnswer (drop (i + 1) input) p′ (stateWith (r .core) y k v) (length w₀ - (n + r .replied)) (number (r .answer))
+      last′ =
+          R .last ∙ ap (λ (l : List ℕ). lastAnswer l p s (length w₀ - n) (number a)) cons
+          ∙ last-go b (drop (suc i) input) p s (length w₀ - n) (number a) refl not-six ∙ cc (turned, reached, room-left, answered, add-one i)
+
+      -- no send is left: the loop goes on
+      pub go : y ≡ Sending.Nothing → Running p₀ s₀ input w₀ p′ w′ (r .core) k v (r .answer) (i + 1) (n + r .replied) (f + m)
+      go none = record {
         within = omega (arith, h);
-        used = omega (arith, S .fits, left, R .used);
+        used = used′;
         few = omega (arith, R .few, refusal-one (number (r .answer)), eg);
-        fine = subst₂ (λ (q : List ℕ) (z : State). good q z ≡ true) turned reached (step-good p s b (length w₀ - n) (R .fine));
+        fine = subst₂ (λ (q : List ℕ) (z : State). good q z ≡ true) turned (reached ∙ ap (λ (x : Sending). stateWith (r .core) x k v) none)
+            (step-good p s b (length w₀ - n) (R .fine));
         long = ap length (sym turned) ∙ step-keeps p s b (length w₀ - n) .size ∙ R .long;
-        size = ap length put ∙ length-append (take n w ++ o .reply) _
-            ∙ omega (arith, sum, length-drop (length (o .reply)) (drop n w), S .replied, ap length (made .reply), S .fits, left, R .used);
-        untouched = ap (drop (n + r .replied)) put ∙ drop-at (take n w ++ o .reply) _ (n + r .replied) sum
-            ∙ ap (drop (length (o .reply))) (R .untouched) ∙ drop-drop (length (o .reply)) n w₀
-            ∙ ap (λ (j : ℕ). drop (n + j) w₀) (ap length (made .reply) ∙ sym (S .replied));
-        same = R .same ∙ ap (λ (l : List ℕ). preceded i f (take n w) (repeated l p s (length w₀ - n))) cons
-            ∙ ap (preceded i f (take n w)) (run-go b (drop (suc i) input) p s (length w₀ - n) not-six)
-            ∙ preceded-joined i f (take n w) o _ ∙ cc (turned, reached, room-left, reply, count, add-one i);
-        last = R .last ∙ ap (λ (l : List ℕ). lastAnswer l p s (length w₀ - n) (number a)) cons
-            ∙ last-go b (drop (suc i) input) p s (length w₀ - n) (number a) not-six ∙ cc (turned, reached, room-left, answered, add-one i);
+        size = size′;
+        untouched = untouched′;
+        same = same′
+            ∙ ap (λ (x : Sending). preceded (i + 1) (f + m) (take (n + r .replied) w′) (repeated (drop (i + 1) input) p′ (stateWith (r .core) x k v) (length w₀ - (n + r .replied))))
+            none;
+        last = last′ ∙ ap (λ (x : Sending). lastAnswer (drop (i + 1) input) p′ (stateWith (r .core) x k v) (length w₀ - (n + r .replied)) (number (r .answer))) none;
       }
+
+      -- one is: it stops behind the byte
+      pub halt : sends y ≡ true → {z : Ended}
+          → z ≡ record {
+            answer = Answer.Done;
+            last = r .answer;
+            taken = i + 1;
+            replied = n + r .replied;
+            refused = f + m;
+            core = r .core;
+            sending = y;
+            gathered = k;
+            setup = v;
+          }
+          → Looped p₀ s₀ input w₀ z p′ w′
+      halt under {z} result =
+          let q = stateWith (r .core) y k v in
+          let l = n + r .replied in
+          let rest = drop (i + 1) input in
+          let room = length w₀ - l in
+          let size : length (take l w′) ≡ l = length-take-le l w′ (omega (arith, used′, size′)) in
+          looped-is result (record {
+            run = subst (λ (x : Ran). Completed x (record { answer = Answer.Done; taken = i + 1; replied = l; refused = f + m; state = q }) input p′ w₀ w′)
+                (sym (same′ ∙ ap (preceded (i + 1) (f + m) (take l w′)) (run-rests rest p′ q room under)))
+                (record {
+                  answer = refl;
+                  taken = sym (add-zero (i + 1));
+                  replied = sym (ap length (append-nil (take l w′)) ∙ size);
+                  refused = sym (add-zero (f + m));
+                  rest = refl;
+                  state = refl;
+                  page = refl;
+                  room = front l w′ w₀ (omega (arith, used′, size′)) untouched′ ∙ ap (λ (x : List ℕ). over x w₀) (sym (append-nil (take l w′)));
+                  fits = used′;
+                  within = omega (arith, h);
+                });
+            last = sym (last′ ∙ last-waits rest p′ q room (number (r .answer)) under);
+          })
 
 -- the row list of the core that the loop ends with
 pub ended-beside : (z : Ended) {c : Core} (p : List ℕ) {l : List ℕ} → z .core ≡ c → Beside (widthOf (c .screen)) (guardedAt (c .modes .protect) p) l

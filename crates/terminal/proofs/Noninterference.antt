@@ -20,7 +20,7 @@ front l w w′ n e h = rw (e, h) (take-append-seam l _)
 pub made-is : {p p′ : List ℕ} {s : State} {c : Call} {g : Given} → Made p s c g p′ → callRule p s c ≡ record { given = g; page = p′ }
 unfolding callRule ofStep ofRun ofPress
 made-is {p} {p′} {s} (stepped {b = b} {w = w} {w′ = w′} {r = r} h) =
-    cc (h .answer, h .state, h .replied, h .page, front _ w w′ (r .replied) (h .replied) (h .room))
+    cc (h .answer, h .taken, h .state, h .replied, h .page, front _ w w′ (r .replied) (h .replied) (h .room))
 made-is {p} {p′} {s} (ran {l = l} {w = w} {w′ = w′} {r = r} h) =
     cc (h .answer, h .taken, h .replied, h .refused, h .rest, h .state, h .page, front _ w w′ (r .replied) (h .replied) (h .room))
 made-is {p} {p′} {s} (sent {v = v} {w = w} {w′ = w′} {r = r} h) = cc (h .answer, h .replied, front _ w w′ (r .replied) (h .replied) (h .room))
@@ -32,5 +32,5 @@ performed-is none = refl
 performed-is (next {g = g} {r = r} m h) = rw (made-is m) (ap (after g) (performed-is h))
 
 pub code-noninterference : CodeDemand3
-code-noninterference p q s t calls a b on alike free f g =
-    subst₂ (Indistinguishable p q) (performed-is f) (performed-is g) (noninterference p q s t calls on alike free)
+code-noninterference p q s t calls a b on conceals alike free f g =
+    subst₂ (Indistinguishable p q) (performed-is f) (performed-is g) (noninterference p q s t calls on conceals alike free)

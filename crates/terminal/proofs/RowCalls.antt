@@ -22,7 +22,7 @@ use Rattle.rules.specs.Cell.{pick, both}
 use Rattle.rules.specs.Search.{guardedAt}
 use Rattle.rules.specs.State.{number, widthOf, pageLength}
 use Rattle.rules.specs.Possible.{good}
-use Rattle.rules.specs.Step.{stepRule}
+use Rattle.rules.specs.Step.{unheard, stepRule}
 use Rattle.rules.specs.Calls.{ended, runRule}
 use Rattle.rules.specs.RowList.{Beside, rowsOf, agrees}
 use Rattle.rules.specs.RowCalls.{stepRowsRule, runRowsRule, rowsAfter, canRebuild, rebuildAnswer, rebuilt}
@@ -41,14 +41,14 @@ bad-page false e = refl
 module _ (p l : List ℕ) (s : State) where
   module _ (bad : both (good p s) (agrees l p s) ≡ false) where
     pub step-unlisted : (b : ℕ) (w : List ℕ)
-        → Stepped (stepRowsRule p l s b (length w)) (record { answer = Answer.BadCall; replied = 0; state = s }) p w w
+        → Stepped (stepRowsRule p l s b (length w)) (record { answer = Answer.BadCall; taken = false; replied = 0; state = s }) p w w
     unfolding stepRowsRule
     step-unlisted b w = by (agrees l p s) refl
       where
-        by : (t : Bool) → agrees l p s ≡ t → Stepped (pick t (stepRule p s b (length w)) (record { answer = 7; state = s; page = p; reply = [] }))
-            (record { answer = Answer.BadCall; replied = 0; state = s }) p w w
+        by : (t : Bool) → agrees l p s ≡ t → Stepped (pick t (stepRule p s b (length w)) (unheard 7 p s))
+            (record { answer = Answer.BadCall; taken = false; replied = 0; state = s }) p w w
         by true e = step-refused p s (bad-page (good p s) (rw e at bad)) b w
-        by false e = record { answer = refl; state = refl; replied = refl; page = refl; room = over-none w; fits = omega arith }
+        by false e = record { answer = refl; taken = refl; state = refl; replied = refl; page = refl; room = over-none w; fits = omega arith }
 
     pub run-unlisted : (i w : List ℕ)
         → Completed (runRowsRule p l s i (length w)) (record { answer = Answer.BadCall; taken = 0; replied = 0; refused = 0; state = s }) i p w w

@@ -14,7 +14,7 @@ row-made-is : {x : Session} {p′ l′ : List ℕ} {c : RowCall} {g : Given} →
 unfolding rowCallRule ofStep ofRun
 row-made-is {x} (bare m) = ap (λ (r : Called). record { called = r; rows = x .rows }) (made-is m)
 row-made-is (listStepped {w = w} {w′ = w′} {r = r} h e) =
-    cc (h .answer, h .state, h .replied, h .page, front _ w w′ (r .replied) (h .replied) (h .room), e)
+    cc (h .answer, h .taken, h .state, h .replied, h .page, front _ w w′ (r .replied) (h .replied) (h .room), e)
 row-made-is (listRan {w = w} {w′ = w′} {r = r} h e) =
     cc (h .answer, h .taken, h .replied, h .refused, h .rest, h .state, h .page, front _ w w′ (r .replied) (h .replied) (h .room), e)
 row-made-is (rebuiltRows a h e) = cc (h, e)
@@ -25,5 +25,5 @@ row-performed-is none = refl
 row-performed-is (next {g = g} {r = r} m h) = rw (row-made-is m) (ap (rowAfter _) (row-performed-is h))
 
 pub code-row-noninterference : CodeRowDemand3
-code-row-noninterference p q l s calls a b on alike free f g =
-    subst₂ (RowIndistinguishable p q) (row-performed-is f) (row-performed-is g) (row-noninterference p q l s calls on alike free)
+code-row-noninterference p q l s calls a b on conceals alike free f g =
+    subst₂ (RowIndistinguishable p q) (row-performed-is f) (row-performed-is g) (row-noninterference p q l s calls on conceals alike free)

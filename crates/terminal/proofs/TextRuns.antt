@@ -25,7 +25,7 @@ use Rattle.rules.specs.declared.Setup.{Setup}
 use Rattle.rules.specs.declared.State.{State}
 use Rattle.rules.specs.Cell.{pick, written}
 use Rattle.rules.specs.Search.{guardedAt}
-use Rattle.rules.specs.State.{unchanged, number, segmentStart, segmentEnd, segmentTop, segmentBottom, cursorOf, withCursor, withScreen, awaiting, idle}
+use Rattle.rules.specs.State.{unchanged, number, segmentStart, segmentEnd, segmentTop, segmentBottom, cursorOf, withCursor, withScreen, awaiting, idle, sends}
 use Rattle.rules.specs.declared.Argument.the-variants as Argument
 use Rattle.rules.specs.Step.{innerRule}
 use Rattle.rules.specs.Decode.{argumentRule, decodeRule, idleRule, escapeRule, lookup}
@@ -81,11 +81,10 @@ module _ {on : Bool} {base : ℕ} {wide : Bool} {home end : ℕ} {l : List ℕ} 
 -- ---- a turn of the loop that changes the core and the page alone
 
 -- where a byte is still to come, the last answer is its
-last-any : (l : List ℕ) (i : ℕ) → i < length l → (p : List ℕ) (s : State) (room a a′ : ℕ)
+last-any : (l : List ℕ) (i : ℕ) → i < length l → (p : List ℕ) (s : State) → sends (s .sending) ≡ false → (room a a′ : ℕ)
     → lastAnswer (drop i l) p s room a ≡ lastAnswer (drop i l) p s room a′
 unfolding lastAnswer
-last-any l i h p s room a a′ =
-    ap (λ (x : List ℕ). lastAnswer x p s room a) (drop-cons l i 0 h) ∙ sym (ap (λ (x : List ℕ). lastAnswer x p s room a′) (drop-cons l i 0 h))
+last-any l i h p s u room a a′ = rw (drop-cons l i 0 h, u)
 
 same-room : (n : ℕ) (w : List ℕ) → backTail n w (lentTail n w) ≡ w
 same-room n w = tail-back n w (lentTail n w) ∙ ap (λ (l : List ℕ). take n w ++ l) (tail-lent n w) ∙ take-append-drop n w
@@ -98,7 +97,7 @@ module _ {p₀ : List ℕ} {s₀ : State} {input w₀ : List ℕ} {g : List ℕ}
       let q = lentTail n w in
       let m = nothing-made unchanged g u refl in
       let k = carried-is (E (length q)) (quiet-carried Answer.Done c′ unchanged p′ q) in
-      let G = go R (omega arith) k refl (m .0) (m .1) refl in
+      let G = go R (omega arith) k refl (m .0) (m .1 .0) (sym (m .1 .1)) refl refl in
       let H : Running p₀ s₀ input w₀ p′ w c′ g u Answer.Done j n f = rw (same-room n w, add-zero n, add-zero f, sym e) at G in
       record {
         within = H .within;
@@ -109,7 +108,7 @@ module _ {p₀ : List ℕ} {s₀ : State} {input w₀ : List ℕ} {g : List ℕ}
         size = H .size;
         untouched = H .untouched;
         same = H .same;
-        last = H .last ∙ last-any input j h p′ (stateOf c′ g u) (length w₀ - n) 0 (number a);
+        last = H .last ∙ last-any input j h p′ (stateOf c′ g u) refl (length w₀ - n) 0 (number a);
       }
 
   -- a byte that is awaited, and leaves q under way

@@ -4,7 +4,7 @@
 use mathlib.Core.Path.{_≡_, refl, sym, ap, _∙_}
 use mathlib.Core.Bool.{Bool, true, false, not}
 use mathlib.Core.List.{List, []}
-use Prim.Native.Nat.{ℕ, zero-le, _+_, _-_, _*_, _<_, _≤_}
+use Prim.Native.Nat.{ℕ, _+_, _-_, _*_, _<_, _≤_}
 use native.Mathlib.Omega.{arith}
 use lib.ListN.{length, getD, set, length-set}
 use lib.Seq.{getD-set-other}
@@ -27,7 +27,6 @@ use Rattle.rules.specs.State.{unchanged, widthOf, pageLength, segmentTop, segme
 use Rattle.rules.specs.Possible.{screenOk}
 use Rattle.rules.specs.Decode.{decodeRule, idleRule}
 use Rattle.rules.specs.Plan.{writing, unlessGuarded, storing, advancing, storePlan, addressPlan, movePlan, planRule}
-use Rattle.rules.specs.Send.{places as replyPlaces, bytesOf, replied}
 use Rattle.rules.specs.Carry.{effect, applied, landed, done, carried}
 use Rattle.rules.specs.Step.{obeyed, innerRule}
 use Rattle.rules.proofs.Tests.{both-true}
@@ -59,15 +58,14 @@ module _ (p : List ℕ) (c : Core) (size : length p ≡ pageLength (c .screen)) 
   -- a plan that writes, and then settles from an open cell of the segment
   carried-writing : (x : Write) (i : ℕ) → i < segmentEnd (c .screen) → getD (guardedAt on (applied w on x p)) i false ≡ false
       → carried p c (writing (idle c) x (Land.Settle i)) room ≡ effect 0 (textCore c i) unchanged (applied w on x p) []
-  unfolding carried done replyPlaces bytesOf replied landed applied
+  unfolding carried done landed applied
   carried-writing x i h e =
       let q = applied w on x p in
       let g = guardedAt on q in
       let most = screen-inside (c .screen) ok .placed .page in
       let k : segmentEnd (c .screen) ≤ length g = omega (arith, length-guards on q, length-applied w on x p, size, most) in
-      rw (le-leb 0 room zero-le)
-      (ap (λ (n : ℕ). effect 0 (withScreen (idle c) (withCursor (c .screen) n)) unchanged q [])
-      (settled-open g (segmentStart (c .screen)) (segmentEnd (c .screen)) i h k e))
+      ap (λ (n : ℕ). effect 0 (withScreen (idle c) (withCursor (c .screen) n)) unchanged q [])
+      (settled-open g (segmentStart (c .screen)) (segmentEnd (c .screen)) i h k e)
 
   -- ---- a byte that is stored
 

@@ -8,15 +8,16 @@ use Rattle.rules.specs.declared.State.{State}
 use Rattle.rules.specs.declared.StepResult.{StepResult}
 use Rattle.rules.specs.declared.RunResult.{RunResult}
 use Rattle.rules.specs.declared.PressResult.{PressResult}
+use Rattle.rules.specs.Cell.{pick}
 use Rattle.rules.specs.State.{number}
 use Rattle.rules.specs.Step.{stepRule}
 use Rattle.rules.specs.Calls.{runRule, pressRule, Call, Step, Run, Press, Given, Played, after}
-use Rattle.rules.specs.Noninterference.{Alike, anyCompleted, Indistinguishable}
-use Rattle.terminal.specs.Promise.{Stepped, Completed, Sent}
+use Rattle.rules.specs.Noninterference.{Alike, revealing, anyCompleted, Indistinguishable}
+use Rattle.terminal.specs.Promise.{Stepped, Completed, KeySent}
 
 -- what the caller of a step sees: the numbers of its result, the reply at the front of the room w, and the state
 abbrev pub stepSeen : StepResult → List ℕ → Given
-stepSeen r w = record { answer = number (r .answer); counts = r .replied ∷ []; reply = take (r .replied) w; rest = []; state = r .state }
+stepSeen r w = record { answer = number (r .answer); counts = pick (r .taken) 1 0 ∷ r .replied ∷ []; reply = take (r .replied) w; rest = []; state = r .state }
 
 -- of a run over the input l; `rest` hands back what was not taken
 abbrev pub runSeen : RunResult → List ℕ → List ℕ → Given
@@ -38,7 +39,7 @@ pub data Made (p : List ℕ) (s : State) : Call → Given → List ℕ → Type 
       → Made p s (Step b (length w)) (stepSeen r w′) p′
   ran : {l w w′ p′ : List ℕ} {r : RunResult} → Completed (runRule p s l (length w)) r l p′ w w′
       → Made p s (Run l (length w)) (runSeen r l w′) p′
-  sent : {v : ℕ} {w w′ : List ℕ} {r : PressResult} → Sent (pressRule p s v (length w)) r w w′
+  sent : {v : ℕ} {w w′ : List ℕ} {r : PressResult} → KeySent (pressRule p s v (length w)) r w w′
       → Made p s (Press v (length w)) (pressSeen s r w′) p
 
 -- a list of calls, each made on the page and the state that the last one left
@@ -50,5 +51,5 @@ pub data Performed : List ℕ → State → List Call → Played → Type 0 wher
 -- demand 3, of terminals that run the code
 abbrev pub CodeDemand3 : Type 0
 CodeDemand3 =
-    (p q : List ℕ) (s t : State) (calls : List Call) (a b : Played) → s .core .modes .protect ≡ true → Alike p q s t → anyCompleted calls p s ≡ false
+    (p q : List ℕ) (s t : State) (calls : List Call) (a b : Played) → s .core .modes .protect ≡ true → revealing (s .sending) ≡ false → Alike p q s t → anyCompleted calls p s ≡ false
     → Performed p s calls a → Performed q t calls b → Indistinguishable p q a b

@@ -23,6 +23,7 @@ pub record PoweredOn (o : Outcome) (r : PowerOn) (p : List ℕ) : Type 0 where
 -- w is the room before the call, and w′ after it
 pub record Stepped (o : Outcome) (r : StepResult) (p w w′ : List ℕ) : Type 0 where
   pub answer : number (r .answer) ≡ o .answer
+  pub taken : r .taken ≡ o .taken
   pub state : r .state ≡ o .state
   pub replied : r .replied ≡ length (o .reply)
   pub page : p ≡ o .page
@@ -47,7 +48,7 @@ pub record Completed (o : Ran) (r : RunResult) (l p w w′ : List ℕ) : Type 0 
 abbrev pub sending : List ℕ → ℕ → Pressed
 sending l room = pick (leb (length l) room) (pressed 0 l) (pressed 6 [])
 
-pub record Sent (o : Pressed) (r : PressResult) (w w′ : List ℕ) : Type 0 where
+pub record KeySent (o : Pressed) (r : PressResult) (w w′ : List ℕ) : Type 0 where
   pub answer : number (r .answer) ≡ o .answer
   pub replied : r .replied ≡ length (o .reply)
   pub room : w′ ≡ over (o .reply) w

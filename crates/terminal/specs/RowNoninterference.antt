@@ -10,7 +10,7 @@ use Rattle.rules.specs.declared.StepResult.{StepResult}
 use Rattle.rules.specs.declared.RunResult.{RunResult}
 use Rattle.rules.specs.State.{number}
 use Rattle.rules.specs.Calls.{Call, Given}
-use Rattle.rules.specs.Noninterference.{AlikePages, anyCompleted}
+use Rattle.rules.specs.Noninterference.{AlikePages, revealing, anyCompleted}
 use Rattle.rules.specs.RowCalls.{stepRowsRule, runRowsRule, rowsAfter, rebuildAnswer, rebuilt, Session, RowCall, Bare, ListStep, ListRun, Rebuild, RowPlayed, rowAfter, bareCalls, RowIndistinguishable}
 use Rattle.terminal.specs.Promise.{Stepped, Completed}
 use Rattle.terminal.specs.Noninterference.{stepSeen, runSeen, Made}
@@ -35,7 +35,7 @@ pub data RowPerformed : Session → List RowCall → RowPlayed → Type 0 where
 -- demand 3, of terminals that run the code
 abbrev pub CodeRowDemand3 : Type 0
 CodeRowDemand3 =
-    (p q l : List ℕ) (s : State) (calls : List RowCall) (a b : RowPlayed) → s .core .modes .protect ≡ true → AlikePages p q
+    (p q l : List ℕ) (s : State) (calls : List RowCall) (a b : RowPlayed) → s .core .modes .protect ≡ true → revealing (s .sending) ≡ false → AlikePages p q
     → anyCompleted (bareCalls calls (record { page = p; rows = l; state = s })) p s ≡ false
     → RowPerformed (record { page = p; rows = l; state = s }) calls a → RowPerformed (record { page = q; rows = l; state = s }) calls b
     → RowIndistinguishable p q a b

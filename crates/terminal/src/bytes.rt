@@ -20,10 +20,13 @@ use page::rows::rebuild;
 use rules::Answer;
 use rules::Change;
 use rules::Core;
+use rules::Sending;
 use rules::Setup;
 use rules::SetupChange;
 use state::logic::and;
 use state::logic::or;
+use state::sending::is_sending;
+use state::sending::sending_after;
 use state::setup::gathered_after;
 use state::setup::setup_after;
 use state::width::columns;
@@ -36,6 +39,7 @@ pub struct Ended {
     pub replied: usize,
     pub refused: usize,
     pub core: Core,
+    pub sending: Sending,
     pub gathered: [u8; 46],
     pub setup: Setup,
 }
@@ -91,6 +95,7 @@ fn is_nothing(x: Change) -> bool
         Change::Gather(_, _) => false,
         Change::Take(_, _) => false,
         Change::Set(d) => keeps_setup(d),
+        Change::Send(s) => !is_sending(s),
     }
 }
 
@@ -101,10 +106,11 @@ fn finished(
     replied: usize,
     refused: usize,
     core: Core,
+    sending: Sending,
     gathered: [u8; 46],
     setup: Setup,
 ) -> Ended
-    ensures { λ r. ⌜ r ≡ record { answer = answer; last = last; taken = taken; replied = replied; refused = refused; core = core; gathered = gathered; setup = setup } ⌝ }
+    ensures { λ r. ⌜ r ≡ record { answer = answer; last = last; taken = taken; replied = replied; refused = refused; core = core; sending = sending; gathered = gathered; setup = setup } ⌝ }
 {
     Ended {
         answer: answer,
@@ -113,6 +119,7 @@ fn finished(
         replied: replied,
         refused: refused,
         core: core,
+        sending: sending,
         gathered: gathered,
         setup: setup,
     }
@@ -133,8 +140,8 @@ fn follow_text(rows: &mut [u16], page: &[u16], wide: bool, protect: bool, mark: 
     rebuild(rows, page, width as usize, protect);
 }
 
-// The single step repeated, each with the room that is left; it stops before the first byte that answers 6. A row
-// list beside the page follows it.
+// The single step repeated, each with the room that is left; it stops before the first byte that answers 6, and behind one whose reply has used
+// the room up and is not over. A row list beside the page follows it.
 pub fn repeat(
     page: &mut [u16],
     rows: &mut [u16],
@@ -171,7 +178,17 @@ pub fn repeat(
         let t = inner(page, rows, &u.tabs, c, input[taken], &mut room[replied..]);
         let a = t.answer;
         if is_no_room(a) {
-            return finished(Answer::NoRoom, a, taken, replied, refused, c, g, u);
+            return finished(
+                Answer::NoRoom,
+                a,
+                taken,
+                replied,
+                refused,
+                c,
+                Sending::Nothing,
+                g,
+                u,
+            );
         }
         let next = t.core;
         c = next;
@@ -183,10 +200,24 @@ pub fn repeat(
         if is_nothing(x) {
             continue;
         }
+        let left = sending_after(x, Sending::Nothing);
+        if is_sending(left) {
+            return finished(Answer::Done, last, taken, replied, refused, c, left, g, u);
+        }
         let v = setup_after(x, g, u);
         u = v;
         let h = gathered_after(x, g);
         g = h;
     }
-    finished(Answer::Done, last, taken, replied, refused, c, g, u)
+    finished(
+        Answer::Done,
+        last,
+        taken,
+        replied,
+        refused,
+        c,
+        Sending::Nothing,
+        g,
+        u,
+    )
 }

@@ -6,7 +6,7 @@ ghost use lib.ListN.{length};
 ghost use Rattle.rules.specs.Cell.{pick};
 ghost use Rattle.rules.specs.Calls.{keySends};
 ghost use Rattle.rules.specs.Room.{over};
-ghost use Rattle.terminal.specs.Promise.{Sent, sending};
+ghost use Rattle.terminal.specs.Promise.{KeySent, sending};
 use rules::Answer;
 use rules::PressResult;
 use rules::ShortText;
@@ -27,7 +27,7 @@ fn put(room: &mut [u8], text: &[u8]) -> bool
 }
 
 fn send(text: &[u8], room: &mut [u8]) -> PressResult
-    ensures { λ r. ⌜ Sent (sending (now (text .entry)) (length (now (room .entry)))) r (now (room .entry)) (now (room .exit)) ⌝ }
+    ensures { λ r. ⌜ KeySent (sending (now (text .entry)) (length (now (room .entry)))) r (now (room .entry)) (now (room .exit)) ⌝ }
 {
     if put(room, text) {
         PressResult {
@@ -45,7 +45,7 @@ fn send(text: &[u8], room: &mut [u8]) -> PressResult
 // The key's bytes; an unprogrammed key sends 01h value 0Dh.
 pub fn press_key(key: ShortText, v: u8, room: &mut [u8]) -> PressResult
     requires { ⌜ key .len ≤ 8 ⌝ }
-    ensures { λ r. ⌜ Sent (sending (keySends key v) (length (now (room .entry)))) r (now (room .entry)) (now (room .exit)) ⌝ }
+    ensures { λ r. ⌜ KeySent (sending (keySends key v) (length (now (room .entry)))) r (now (room .entry)) (now (room .exit)) ⌝ }
 {
     let n = key.len as usize;
     let bytes = key.bytes;

@@ -6,18 +6,22 @@ mod key; // what a key sends
 mod text; // runs of text
 
 ghost use mathlib.Core.Path.{_≡_};
-ghost use mathlib.Core.Bool.{true};
+ghost use mathlib.Core.Bool.{true, false};
+ghost use Prim.Native.Nat.{_<_};
+ghost use lib.Dec.{eqb, ltb};
 ghost use lib.ListN.{length, drop};
-ghost use Rattle.rules.specs.Cell.{both};
+ghost use Rattle.rules.specs.Cell.{pick, both};
 ghost use Rattle.rules.specs.Search.{guardedAt};
-ghost use Rattle.rules.specs.State.{number, widthOf};
+ghost use Rattle.rules.specs.State.{number, widthOf, sends, withSending};
 ghost use Rattle.rules.specs.Possible.{good};
 ghost use Rattle.rules.specs.Step.{stepRule};
 ghost use Rattle.rules.specs.Calls.{powerOnRule, runRule, pressRule};
 ghost use Rattle.rules.specs.RowList.{Beside, agrees};
 ghost use Rattle.rules.specs.RowCalls.{stepRowsRule, runRowsRule, rowsAfter, rebuildAnswer, rebuilt};
-ghost use Rattle.terminal.specs.Promise.{PoweredOn, Stepped, Completed, Sent};
+ghost use Rattle.terminal.specs.Promise.{PoweredOn, Stepped, Completed, KeySent};
+ghost use Rattle.carry.specs.Went.{Went};
 use bytes::repeat;
+use carry::replies::send;
 use key::press_key;
 use page::cell::NULL;
 pub use page::cell::attribute_of;
@@ -28,11 +32,13 @@ pub use page::cell::sent_code;
 use page::change::fill_cells;
 use page::rows::is_row_list;
 use page::rows::rebuild;
+use page::text::Sent;
 use rules::Answer;
 use rules::Personality;
 use rules::PowerOn;
 use rules::PressResult;
 use rules::RunResult;
+use rules::Sending;
 use rules::State;
 use rules::StepResult;
 pub use state::answer_number;
@@ -41,6 +47,7 @@ use state::logic::and;
 use state::possible::possible;
 use state::power_on_state;
 use state::screen::width_of;
+use state::sending::is_sending;
 use state::texts::is_key;
 use state::width::NARROW_CELLS;
 use state::width::cells;
@@ -71,7 +78,88 @@ pub fn power_on(page: &mut [u16], personality: Personality) -> PowerOn
     }
 }
 
-// The single step on a good page and state, beside a row list or none.
+fn with_sending(state: State, sending: Sending) -> State
+    ensures { λ r. ⌜ r ≡ withSending state sending ⌝ }
+{
+    let core = state.core;
+    let gathered = state.gathered;
+    let setup = state.setup;
+    State {
+        core: core,
+        sending: sending,
+        gathered: gathered,
+        setup: setup,
+    }
+}
+
+// No room inside a send: 6, or 0 over no bytes.
+fn no_room(bytes: usize) -> Answer
+    ensures { λ r. ⌜ number r ≡ pick (eqb bytes 0) 0 6 ⌝ }
+{
+    if bytes == 0 {
+        Answer::Done
+    } else {
+        Answer::NoRoom
+    }
+}
+
+// Whether an answer takes the step's byte: 0 to 4.
+fn is_taken(a: Answer) -> bool
+    ensures { λ r. ⌜ r ≡ ltb (number a) 6 ⌝ }
+{
+    match a {
+        Answer::Done => true,
+        Answer::HighByte => true,
+        Answer::Unknown => true,
+        Answer::BadArgument => true,
+        Answer::Barred => true,
+        Answer::NoRoom => false,
+        Answer::BadCall => false,
+        Answer::Locked => false,
+    }
+}
+
+// The send under way goes on, on a good page and state; outside a send there is none, and none is left.
+fn resume(page: &[u16], state: State, reply: &mut [u8]) -> Sent
+    requires { ⌜ (good (now page) state ≡ true) × (sends (state .sending) ≡ true → 0 < length (now reply)) ⌝ }
+    ensures { λ r. ⌜ Went (now (page .entry)) (state .core) (state .sending) (now (reply .entry)) (r .replied) (r .left) (now (reply .exit)) ⌝ }
+{
+    let sending = state.sending;
+    if !is_sending(sending) {
+        return Sent {
+            replied: 0,
+            left: Sending::Nothing,
+        };
+    }
+    let core = state.core;
+    send(page, core, sending, reply)
+}
+
+// The single step inside a send: its byte waits. Without room 6.
+fn step_inside(page: &[u16], state: State, byte: u8, reply: &mut [u8]) -> StepResult
+    requires { ⌜ (good (now page) state ≡ true) × (sends (state .sending) ≡ true) ⌝ }
+    ensures { λ r. ⌜ Stepped (stepRule (now (page .entry)) state byte (length (now (reply .entry)))) r (now (page .entry)) (now (reply .entry)) (now (reply .exit)) × (r .state .core ≡ state .core) ⌝ }
+{
+    if reply.len() == 0 {
+        return StepResult {
+            answer: Answer::NoRoom,
+            taken: false,
+            replied: 0,
+            state: state,
+        };
+    }
+    let sent = resume(page, state, reply);
+    let left = sent.left;
+    let next = with_sending(state, left);
+    StepResult {
+        answer: Answer::Done,
+        taken: false,
+        replied: sent.replied,
+        state: next,
+    }
+}
+
+// The single step outside a send, on a good page and state, beside a row list or none.
 fn step_beside(
     page: &mut [u16],
     rows: &mut [u16],
@@ -79,7 +167,7 @@ fn step_beside(
     byte: u8,
     reply: &mut [u8],
 ) -> StepResult
-    requires { ⌜ (good (now page) state ≡ true) × Beside (widthOf (state .core .screen)) (guardedAt (state .core .modes .protect) (now page)) (now rows) ⌝ }
+    requires { ⌜ (good (now page) state ≡ true) × ((sends (state .sending) ≡ false) × Beside (widthOf (state .core .screen)) (guardedAt (state .core .modes .protect) (now page)) (now rows)) ⌝ }
     ensures { λ r. ⌜ Stepped (stepRule (now (page .entry)) state byte (length (now (reply .entry)))) r (now (page .exit)) (now (reply .entry)) (now (reply .exit)) × Beside (widthOf (r .state .core .screen)) (guardedAt (r .state .core .modes .protect) (now (page .exit))) (now (rows .exit)) ⌝ }
 {
     let core = state.core;
@@ -88,22 +176,38 @@ fn step_beside(
     let one = [byte];
     let t = repeat(page, rows, core, gathered, setup, &one, reply);
     let c = t.core;
+    let y = t.sending;
     let g = t.gathered;
     let u = t.setup;
     let last = t.last;
     let next = State {
         core: c,
+        sending: y,
         gathered: g,
         setup: u,
     };
     StepResult {
         answer: last,
+        taken: is_taken(last),
         replied: t.replied,
         state: next,
     }
 }
 
-// The run over many bytes, in the same way.
+// A run that takes no byte: inside a send, without room or with too little.
+fn waiting(answer: Answer, replied: usize, state: State) -> RunResult
+    ensures { λ r. ⌜ r ≡ record { answer = answer; taken = 0; replied = replied; refused = 0; state = state } ⌝ }
+{
+    RunResult {
+        answer: answer,
+        taken: 0,
+        replied: replied,
+        refused: 0,
+        state: state,
+    }
+}
+
+// The run over many bytes, in the same way: a send under way goes on first.
 fn run_beside(
     page: &mut [u16],
     rows: &mut [u16],
@@ -114,23 +218,44 @@ fn run_beside(
     requires { ⌜ (good (now page) state ≡ true) × Beside (widthOf (state .core .screen)) (guardedAt (state .core .modes .protect) (now page)) (now rows) ⌝ }
     ensures { λ r. ⌜ Completed (runRule (now (page .entry)) state (now (input .entry)) (length (now (reply .entry)))) r (now (input .entry)) (now (page .exit)) (now (reply .entry)) (now (reply .exit)) × Beside (widthOf (r .state .core .screen)) (guardedAt (r .state .core .modes .protect) (now (page .exit))) (now (rows .exit)) ⌝ }
 {
+    let sending = state.sending;
+    if and(is_sending(sending), reply.len() == 0) {
+        return waiting(no_room(input.len()), 0, state);
+    }
+    let sent = resume(page, state, reply);
+    let start = sent.replied;
+    let left = sent.left;
+    if is_sending(left) {
+        let next = with_sending(state, left);
+        return waiting(Answer::Done, start, next);
+    }
     let core = state.core;
     let gathered = state.gathered;
     let setup = state.setup;
-    let t = repeat(page, rows, core, gathered, setup, input, reply);
+    let t = repeat(
+        page,
+        rows,
+        core,
+        gathered,
+        setup,
+        input,
+        &mut reply[start..],
+    );
     let c = t.core;
+    let y = t.sending;
     let g = t.gathered;
     let u = t.setup;
     let answer = t.answer;
     let next = State {
         core: c,
+        sending: y,
         gathered: g,
         setup: u,
     };
     RunResult {
         answer: answer,
         taken: t.taken,
-        replied: t.replied,
+        replied: start + t.replied,
         refused: t.refused,
         state: next,
     }
@@ -143,9 +268,14 @@ pub fn step(page: &mut [u16], state: State, byte: u8, reply: &mut [u8]) -> StepR
     if !is_good(page, state) {
         return StepResult {
             answer: Answer::BadCall,
+            taken: false,
             replied: 0,
             state: state,
         };
+    }
+    let sending = state.sending;
+    if is_sending(sending) {
+        return step_inside(page, state, byte, reply);
     }
     let mut none: [u16; 0] = [0; 0];
     step_beside(page, &mut none, state, byte, reply)
@@ -192,9 +322,14 @@ pub fn step_rows(
     if !is_listed(page, rows, state) {
         return StepResult {
             answer: Answer::BadCall,
+            taken: false,
             replied: 0,
             state: state,
         };
+    }
+    let sending = state.sending;
+    if is_sending(sending) {
+        return step_inside(page, state, byte, reply);
     }
     step_beside(page, rows, state, byte, reply)
 }
@@ -245,9 +380,9 @@ pub fn rest(input: &[u8], taken: usize) -> &[u8]
     &input[taken..]
 }
 
-// The key press. Ruled out: one that works while the keyboard is locked, or sends the bytes of the key beside.
+// The key press. Ruled out: one that works while the keyboard is locked or a send is under way, or sends the bytes of the key beside.
 pub fn press(page: &[u16], state: State, key: u8, reply: &mut [u8]) -> PressResult
-    ensures { λ r. ⌜ Sent (pressRule (now (page .entry)) state key (length (now (reply .entry)))) r (now (reply .entry)) (now (reply .exit)) ⌝ }
+    ensures { λ r. ⌜ KeySent (pressRule (now (page .entry)) state key (length (now (reply .entry)))) r (now (reply .entry)) (now (reply .exit)) ⌝ }
 {
     if !is_good(page, state) {
         return PressResult {
@@ -264,6 +399,13 @@ pub fn press(page: &[u16], state: State, key: u8, reply: &mut [u8]) -> PressResu
     if !is_key(key) {
         return PressResult {
             answer: Answer::BadArgument,
+            replied: 0,
+        };
+    }
+    let sending = state.sending;
+    if is_sending(sending) {
+        return PressResult {
+            answer: Answer::NoRoom,
             replied: 0,
         };
     }

@@ -2,7 +2,7 @@
 use mathlib.Core.Path.{sym}
 use denote.Ref.{now}
 use lib.Seq.{length-take-le}
-use Rattle.counter.proofs.Questions.{few-bytes, replied-within, asks}
+use Rattle.counter.proofs.Questions.{replied-within, asks}
 use borrow.Author.Needs.{needs}
 use Rattle.counter.proofs.count_alert.Statement.{statement}
 use Rattle.counter.proofs.count_alert.Tie as tie
@@ -13,23 +13,19 @@ count-alert-spec =
     (tie.spec
     -- has-length-requires
     (λ c κs. search needs)
-    -- is-idle-requires
+    -- is-ready-requires
     (λ c κs. search needs)
-    -- question-length-requires
-    (λ c κs. search needs)
-    -- array-share-prefix-question
-    (λ c. few-bytes (c .before .before .is-idle .result) (c .before .question-length .ensures))
-    -- slice-aggregate-run
-    (λ c. sym (length-take-le _ _ (few-bytes (c .before .before .before .is-idle .result) (c .before .before .question-length .ensures))))
-    -- run-requires
+    -- ask-requires
     (λ c κs. search needs)
     -- slice-reshare-prefix-count
     (λ c. search needs)
     -- slice-aggregate-count
-    (λ c. sym (length-take-le _ _ (replied-within (c .before .before .before .before .before .run .ensures))))
+    (λ c. sym (length-take-le _ _ (replied-within (c .before .before .before .before .before .before .ask .ensures))))
     -- count-requires
     (λ c κs. search needs)
     -- answer-number-requires
+    (λ c κs. search needs)
+    -- is-cut-requires
     (λ c κs. search needs)
     -- tell-requires
     (λ c κs. search needs)
@@ -39,6 +35,6 @@ count-alert-spec =
     (λ c. search needs)
     -- returns
     (λ c.
-    let x = c .before .before .before .before .before .before .before .before .before .before .before .before .before .before .before .before .before .before .before .args in
-    asks (now (x .page)) (x .state) (x .first) (x .last) (c .before .before .before .before .before .before .before .before .run .last .0) (now (x .room)) (c .before .before .before .before .before .before .before .before .run .last .1 .1 .1 .0) (c .before .before .before .before .before .before .before .before .before .before .before .before .before .before .before .has-length .ensures)
-    (c .before .before .before .before .before .before .before .before .before .before .before .before .before .is-idle .ensures) (c .before .before .before .before .before .before .before .before .before .before .before .before .question-length .ensures) (c .before .before .before .before .before .before .before .before .run .ensures) (c .before .before .count .ensures) (c .before .answer-number .ensures) (c .tell .ensures)))
+    let x = c .before .before .before .before .before .before .before .before .before .before .before .before .before .before .before .before .before .before .args in
+    asks (now (x .page)) (x .state) (x .first) (x .last) (c .before .before .before .before .before .before .before .before .before .before .ask .last .0) (now (x .room)) (c .before .before .before .before .before .before .before .before .before .before .ask .last .1 .1 .1 .0) (c .before .before .before .before .before .before .before .before .before .before .before .before .before .before .has-length .ensures)
+    (c .before .before .before .before .before .before .before .before .before .before .before .before .before .is-ready .ensures) (c .before .before .before .before .before .before .before .before .before .before .ask .ensures) (c .before .before .before .count .ensures) (c .before .before .answer-number .ensures) (c .before .is-cut .ensures) (c .tell .ensures)))

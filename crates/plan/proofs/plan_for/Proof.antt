@@ -76,7 +76,7 @@ plan-for-spec =
     -- enum-known-d-10
     (λ c. search needs)
     -- plan-excluded-requires
-    (λ c κs. screen-inside _ (c .before .before .before .before .pre .1 .0))
+    (λ c κs. search needs)
     -- returns
     (λ c. c .plain .ensures ∙ rw (c .before .enum-told .given .1))
     -- returns-2

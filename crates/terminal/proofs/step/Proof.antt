@@ -1,11 +1,21 @@
 -- `terminal::step` meets its contract.
 use mathlib.Core.Logic.{inl}
-use mathlib.Core.Path.{refl, sym, _∙_}
+use mathlib.Core.Path.{_≡_, refl, sym, _∙_}
+use mathlib.Core.Bool.{true}
 use borrow.Author.Tests.{not-true, not-false}
+use denote.Ref.{now}
+use Rattle.rules.specs.Possible.{good}
 use Rattle.terminal.proofs.Calls.{step-refused}
 use borrow.Author.Needs.{needs}
 use Rattle.terminal.proofs.step.Statement.{statement}
 use Rattle.terminal.proofs.step.Tie as tie
+
+abbrev start : tie.Else1 → tie.Start
+start e = e .before .before .before .before .before
+
+-- past the first test the page and the state are good
+fine : (e : tie.Else1) → good (now (start e .args .page)) (start e .args .state) ≡ true
+fine e = sym (e .before .is-good .ensures) ∙ not-false _ (e .if1 .left)
 
 pub step-spec : {M : Type 1} → statement M
 step-spec =
@@ -17,13 +27,25 @@ step-spec =
     (λ c. search needs)
     -- returns
     (λ c. step-refused _ _ (sym (c .before .is-good .ensures) ∙ not-true _ (c .if1 .taken)) _ _)
-    -- slice-aggregate-step-beside
-    (λ c. search needs)
-    -- step-beside-requires
-    (λ c κs. let x = c .before .before .before in (sym (x .before .is-good .ensures) ∙ not-false _ (x .if1 .left), inl refl))
+    -- is-sending-requires
+    (λ c κs. search needs)
+    -- step-inside-requires
+    (λ c κs. let t = c .before .before in (fine (t .before .before), sym (t .before .is-sending .ensures) ∙ t .if2 .taken))
     -- same-length-2
     (λ c. search needs)
     -- same-length-3
     (λ c. search needs)
     -- returns-2
+    (λ c. c .before .before .step-inside .ensures .0)
+    -- slice-aggregate-step-beside
+    (λ c. search needs)
+    -- step-beside-requires
+    (λ c κs.
+    let e = c .before .before .before in
+    (fine (e .before .before), (sym (e .before .is-sending .ensures) ∙ e .if2 .left, inl refl)))
+    -- same-length-4
+    (λ c. search needs)
+    -- same-length-5
+    (λ c. search needs)
+    -- returns-3
     (λ c. c .before .before .before .before .before .step-beside .ensures .0))

@@ -10,6 +10,6 @@ left-out-spec =
     -- is-protected-requires
     (λ c κs. search needs)
     -- returns
-    (λ c. rw (c .before .if1 .taken) (c .is-protected .ensures))
+    (λ c. rw (c .if1 .taken))
     -- returns-2
-    (λ c. search needs))
+    (λ c. rw (c .before .if1 .left) (c .is-protected .ensures)))

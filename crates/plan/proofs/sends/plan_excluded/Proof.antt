@@ -10,8 +10,6 @@ unfolding excludedPlan
 plan-excluded-spec =
     tie.close
     (tie.spec
-    -- cursor-of-requires
-    (λ c κs. search needs)
     -- with-protect-requires
     (λ c κs. search needs)
     -- with-modes-requires
@@ -34,23 +32,11 @@ plan-excluded-spec =
     (λ c κs. search needs)
     -- enum-told-5
     (λ c. search needs)
-    -- row-start-requires
-    (λ c κs. search needs)
-    -- add-text
-    (λ c. search needs)
     -- text-requires
-    (λ c κs. search needs)
-    -- replying-requires
     (λ c κs. search needs)
     -- enum-told-6
     (λ c. search needs)
-    -- segment-start-requires
-    (λ c κs. search needs)
-    -- add-text-2
-    (λ c. search needs)
     -- text-requires-2
-    (λ c κs. search needs)
-    -- replying-requires-2
     (λ c κs. search needs)
     -- returns
     (λ c. c .plain .ensures ∙ rw (c .before .before .before .with-modes .ensures, c .before .before .before .before .with-protect .ensures, c .before .enum-told .given .1))
@@ -61,6 +47,6 @@ plan-excluded-spec =
     -- returns-4
     (λ c. c .clear-all3 .ensures ∙ rw (c .before .before .before .with-modes .ensures, c .before .before .before .before .with-protect .ensures, c .before .enum-told4 .given .1))
     -- returns-5
-    (λ c. c .replying .ensures ∙ rw (c .before .text .ensures, c .before .before .row-start .ensures, c .before .before .before .before .before .before .before .cursor-of .ensures, c .before .before .before .enum-told5 .given .1))
+    (λ c. c .text .ensures ∙ rw (c .before .enum-told5 .given .1))
     -- returns-6
-    (λ c. c .replying2 .ensures ∙ rw (c .before .text2 .ensures, c .before .before .before .before .before .before .before .cursor-of .ensures, c .before .before .segment-start .ensures, c .before .before .before .enum-told6 .given .1)))
+    (λ c. c .text2 .ensures ∙ rw (c .before .enum-told6 .given .1)))

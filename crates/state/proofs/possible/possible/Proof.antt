@@ -10,7 +10,7 @@ unfolding possible
 possible-spec =
     tie.close
     (tie.spec
-    -- core-ok-requires
+    -- sending-ok-requires
     (λ c κs. search needs)
     -- columns-requires
     (λ c κs. search needs)
@@ -18,5 +18,9 @@ possible-spec =
     (λ c κs. search needs)
     -- and-requires
     (λ c κs. search needs)
+    -- core-ok-requires
+    (λ c κs. search needs)
+    -- and-requires-2
+    (λ c κs. search needs)
     -- returns
-    (λ c. c .and .ensures ∙ rw (c .before .before .before .core-ok .ensures, c .before .setup-ok .ensures, c .before .before .columns .ensures)))
+    (λ c. c .and2 .ensures ∙ rw (c .before .core-ok .ensures, c .before .before .and .ensures, c .before .before .before .before .before .sending-ok .ensures, c .before .before .before .setup-ok .ensures, c .before .before .before .before .columns .ensures)))

@@ -1,5 +1,5 @@
 -- `state::setup::gathered_after` meets its contract.
-use mathlib.Core.Path.{_≡_, sym, ap, _∙_}
+use mathlib.Core.Path.{_∙_}
 use Rattle.rules.specs.State.{gatheredAfter}
 use borrow.Author.Needs.{needs}
 use Rattle.state.proofs.setup.gathered_after.Statement.{statement}
@@ -18,9 +18,13 @@ gathered-after-spec =
     (λ c. search needs)
     -- enum-told-2
     (λ c. search needs)
+    -- enum-told-3
+    (λ c. search needs)
     -- returns
     (λ c. c .gather .ensures ∙ rw (c .before .before .x .given .1))
     -- returns-2
     (λ c. rw (c .enum-told .given .1))
     -- returns-3
-    (λ c. rw (c .enum-told2 .given .1)))
+    (λ c. rw (c .enum-told2 .given .1))
+    -- returns-4
+    (λ c. rw (c .enum-told3 .given .1)))

@@ -1,5 +1,5 @@
 -- `state::setup::setup_after` meets its contract.
-use mathlib.Core.Path.{_≡_, sym, ap, _∙_}
+use mathlib.Core.Path.{_∙_}
 use Rattle.rules.specs.State.{setupAfter}
 use borrow.Author.Needs.{needs}
 use Rattle.state.proofs.setup.setup_after.Statement.{statement}
@@ -20,9 +20,13 @@ setup-after-spec =
     (λ c. search needs)
     -- changed-requires
     (λ c κs. search needs)
+    -- enum-told-2
+    (λ c. search needs)
     -- returns
     (λ c. rw (c .enum-told .given .1))
     -- returns-2
     (λ c. c .stored .ensures ∙ rw (c .before .before .x .given .1))
     -- returns-3
-    (λ c. c .changed .ensures ∙ rw (c .before .before .x2 .given .1)))
+    (λ c. c .changed .ensures ∙ rw (c .before .before .x2 .given .1))
+    -- returns-4
+    (λ c. rw (c .enum-told2 .given .1)))

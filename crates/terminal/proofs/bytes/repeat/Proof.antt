@@ -6,12 +6,13 @@ use native.Mathlib.Omega.{arith}
 use denote.Ref.{now}
 use lib.Dec.{eqb}
 use lib.ListN.{length}
-use Rattle.rules.specs.State.{number, widthOf}
+use Rattle.rules.specs.State.{number, widthOf, sends}
+use Rattle.rules.proofs.Sends.{not-sending}
 use Rattle.rules.specs.Search.{guardedAt}
 use Rattle.rules.specs.RowList.{Beside}
 use Rattle.terminal.specs.declared.bytes.Ended.{Ended}
 use Rattle.terminal.specs.Loop.{stateOf}
-use Rattle.terminal.proofs.Loop.{Running, begin, stop, go, finish, ready, room-size, back-size, more-replied, more-refused, nothing-made, stop-beside, go-beside, ended-beside}
+use Rattle.terminal.proofs.Loop.{Running, begin, stop, go, halt, finish, ready, room-size, back-size, more-replied, more-refused, nothing-made, send-made, stop-beside, go-beside, ended-beside}
 use Rattle.terminal.proofs.TextRuns.{Resumed, resumed, text-fits}
 use Rattle.terminal.proofs.RowRuns.{text-behind, moved-behind}
 use borrow.Author.Needs.{needs}
@@ -52,6 +53,13 @@ turn m = text m .before .before
 
 abbrev start : Moved → tie.Start Inv-loop μ-loop
 start m = turn m .before .before .before .before .before .before
+
+-- back from the test of the send that a byte leaves to the test of its answer
+abbrev answered : tie.Then3 Inv-loop μ-loop → tie.After-is-no-room Inv-loop μ-loop
+answered t = t .before .before .before .before .before .before .before .before .before
+
+abbrev answered-not : tie.Else3 Inv-loop μ-loop → tie.After-is-no-room Inv-loop μ-loop
+answered-not t = t .before .before .before .before .before .before .before .before .before
 
 -- the loop after the run of text
 run : (m : Moved)
@@ -151,8 +159,37 @@ repeat-spec =
     let r = run (moved (followed i)) in
     let n = nothing-made _ _ _ (sym (c .before .is-nothing .ensures) ∙ c .if2 .taken) in
     let other = sym (a .is-no-room .ensures) ∙ c .before .before .before .before .before .if1 .left in (
-      go (r .running) (r .left) (i .inner .ensures .0) other (n .0) (n .1) (c .before .before .refusals .ensures),
+      go (r .running) (r .left) (i .inner .ensures .0) other (n .0) (n .1 .0) (sym (n .1 .1)) (c .before .before .refusals .ensures) refl,
       (go-beside (r .running) (r .left) (i .inner .ensures .0) other (i .inner .ensures .1), sized i),
+    ))
+    -- sending-after-requires
+    (λ c κs. search needs)
+    -- is-sending-requires
+    (λ c κs. search needs)
+    -- finished-requires-2
+    (λ c κs. search needs)
+    -- same-length-4
+    (λ c. let i = called (answered (c .before)) in i .inner .kept .0 ∙ run (moved (followed i)) .running .long)
+    -- same-length-5
+    (λ c. sized (called (answered (c .before))))
+    -- same-length-6
+    (λ c.
+    let i = called (answered (c .before)) in
+    back-size (run (moved (followed i)) .running) (i .inner .last .1 .1 .1 .1 .1 .0) (i .inner .kept .1 .1 .1 .1 .1 .0))
+    -- returns-2
+    (λ c.
+    let t = c .before in
+    let y = t .before .before in
+    let a = answered t in
+    let i = called a in
+    let r = run (moved (followed i)) in
+    let under = sym (t .before .is-sending .ensures) ∙ t .if3 .taken in
+    let n = send-made _ _ _ (sym (ap sends (y .sending-after .ensures)) ∙ under) in
+    let other = sym (a .is-no-room .ensures) ∙ y .before .before .before .before .before .before .if1 .left in (
+      halt (r .running) (r .left) (i .inner .ensures .0) other (n .0) (n .1) (y .sending-after .ensures) (y .before .before .before .refusals .ensures) under
+          (c .finished2 .ensures),
+      ended-beside (c .finished2 .result) (i .inner .last .0) (ap (λ (z : Ended). z .core) (c .finished2 .ensures))
+          (go-beside (r .running) (r .left) (i .inner .ensures .0) other (i .inner .ensures .1)),
     ))
     -- setup-after-requires
     (λ c κs. search needs)
@@ -160,29 +197,31 @@ repeat-spec =
     (λ c κs. search needs)
     -- loop-less-2
     (λ c.
-    let r = run (moved (followed (called (c .before .before .before .before .before .before .before .before)))) in
+    let r = run (moved (followed (called (answered-not (c .before .before))))) in
     omega (arith, r .from, r .left))
     -- loop-again-2
     (λ c.
-    let a = c .before .before .before .before .before .before .before .before in
+    let f = c .before .before in
+    let y = f .before .before in
+    let a = answered-not f in
     let i = called a in
     let r = run (moved (followed i)) in
-    let other = sym (a .is-no-room .ensures) ∙ c .before .before .before .before .before .before .before .if1 .left in (
-      go (r .running) (r .left) (i .inner .ensures .0) other (c .gathered-after .ensures) (c .before .setup-after .ensures)
-          (c .before .before .before .before .refusals .ensures),
+    let other = sym (a .is-no-room .ensures) ∙ y .before .before .before .before .before .before .if1 .left in (
+      go (r .running) (r .left) (i .inner .ensures .0) other (c .gathered-after .ensures) (c .before .setup-after .ensures) (y .sending-after .ensures)
+          (y .before .before .before .refusals .ensures) (not-sending _ (sym (f .before .is-sending .ensures) ∙ f .if3 .left)),
       (go-beside (r .running) (r .left) (i .inner .ensures .0) other (i .inner .ensures .1), sized i),
     ))
-    -- finished-requires-2
+    -- finished-requires-3
     (λ c κs. search needs)
-    -- same-length-4
+    -- same-length-7
     (λ c. c .before .before .loop .inv .0 .long)
-    -- same-length-5
+    -- same-length-8
     (λ c. c .before .before .loop .inv .1 .1)
-    -- same-length-6
+    -- same-length-9
     (λ c. c .before .before .loop .inv .0 .size)
-    -- returns-2
+    -- returns-3
     (λ c.
     let l = c .before .before .loop in (
-      finish (l .inv .0) (c .before .loop-test .left) (c .finished2 .ensures),
-      ended-beside (c .finished2 .result) (l .page) (ap (λ (z : Ended). z .core) (c .finished2 .ensures)) (l .inv .1 .0),
+      finish (l .inv .0) (c .before .loop-test .left) (c .finished3 .ensures),
+      ended-beside (c .finished3 .result) (l .page) (ap (λ (z : Ended). z .core) (c .finished3 .ensures)) (l .inv .1 .0),
     )))

@@ -1,0 +1,88 @@
+// The send under way.
+ghost use mathlib.Core.Path.{_≡_};
+ghost use Rattle.rules.specs.State.{sends, sendingAfter};
+ghost use Rattle.rules.specs.Possible.{shortLength, inText, placeOk, sendingOk};
+use crate::core::is_idle;
+use crate::logic::and;
+use crate::screen::cursor_of;
+use crate::screen::text_start;
+use crate::width::column_of;
+use rules::Change;
+use rules::Pending;
+use rules::Place;
+use rules::Screen;
+use rules::Sending;
+use rules::Short;
+
+pub fn is_sending(sending: Sending) -> bool
+    ensures { λ r. ⌜ r ≡ sends sending ⌝ }
+{
+    match sending {
+        Sending::Nothing => false,
+        Sending::Short(_, _) => true,
+        Sending::Text {
+            all: _,
+            segment: _,
+            at: _,
+        } => true,
+    }
+}
+
+// The send under way after a byte's change.
+pub fn sending_after(x: Change, sending: Sending) -> Sending
+    ensures { λ r. ⌜ r ≡ sendingAfter x sending ⌝ }
+{
+    match x {
+        Change::Gather(_, _) => sending,
+        Change::Take(_, _) => sending,
+        Change::Set(_) => sending,
+        Change::Send(left) => left,
+    }
+}
+
+// How many bytes a short reply has.
+pub fn short_length(r: Short) -> u8
+    ensures { λ n. ⌜ n ≡ shortLength r ⌝ }
+{
+    match r {
+        Short::Acknowledge => 1,
+        Short::Cell => 1,
+        Short::Identity => 3,
+        Short::Cursor => 3,
+        Short::SegmentCursor => 4,
+        Short::DecimalCursor => 7,
+    }
+}
+
+// Cell i is in the text that is sent, and not its first.
+fn in_text(x: Screen, segment: bool, i: u16) -> bool
+    ensures { λ r. ⌜ r ≡ inText x segment i ⌝ }
+{
+    and(text_start(x, segment) < i, i <= cursor_of(x))
+}
+
+// A place of a text but its first: a US stands before a row's first cell.
+fn place_ok(x: Screen, segment: bool, at: Place) -> bool
+    ensures { λ r. ⌜ r ≡ placeOk x segment at ⌝ }
+{
+    match at {
+        Place::Cell(i) => in_text(x, segment, i),
+        Place::Break(i) => and(column_of(x.wide, i) == 0, in_text(x, segment, i)),
+        Place::Return => true,
+    }
+}
+
+// No sequence is under way, and the send stands at any place of its reply but the first.
+pub fn sending_ok(x: Screen, q: Pending, sending: Sending) -> bool
+    ensures { λ r. ⌜ r ≡ sendingOk x q sending ⌝ }
+{
+    match sending {
+        Sending::Nothing => true,
+        Sending::Short(r, n) => and(is_idle(q), and(1 <= n, n < short_length(r))),
+        Sending::Text {
+            all: _,
+            segment,
+            at,
+        } => and(is_idle(q), place_ok(x, segment, at)),
+    }
+}
