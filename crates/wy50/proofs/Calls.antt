@@ -23,24 +23,24 @@ use Rattle.rules.specs.declared.RunResult.{RunResult}
 use Rattle.rules.specs.declared.PressResult.{PressResult}
 use Rattle.rules.specs.Cell.{both}
 use Rattle.rules.specs.Room.{over}
-use Rattle.rules.specs.State.{number}
-use Rattle.rules.specs.Step.{Outcome, stepRule}
+use Rattle.rules.specs.State.{number, sends}
+use Rattle.rules.specs.Step.{Outcome, goesOn, stepInside, stepRule}
 use Rattle.rules.specs.Possible.{powerOn, good}
 use Rattle.rules.specs.Carry.{Effect}
-use Rattle.rules.specs.Calls.{Ran, joined, repeated, powerOnRule, runRule, pressRule}
+use Rattle.rules.specs.Calls.{Ran, joined, repeated, behind, runInside, powerOnRule, runRule, pressRule}
 use Rattle.rules.proofs.Tests.{pick-if, among-parts}
 use Rattle.rules.proofs.Kept.{possible-parts, good-parts}
 use Rattle.rules.proofs.Left.{Ended, ends, clears, keeps, inner-ends}
 use Rattle.state.proofs.Tests.{both-left, both-right}
 use Rattle.terminal.specs.Promise as terminal
 use Rattle.wy50.specs.declared.raw.RawState.{RawState}
-use Rattle.wy50.specs.Raw.{allBelow, isPersonality, personalityAt, areFlags, isSequence, packed, unpacked, named}
+use Rattle.wy50.specs.Raw.{allBelow, flag, isPersonality, personalityAt, areFlags, isSequence, isSending, packed, unpacked, named}
 use Rattle.wy50.specs.Promise.{rawGood, rawPowerOn, rawStep, rawRun, rawPress, PoweredOn, Stepped, Completed, Sent}
 
 pub named-bells : (x : RawState) → named x ≡ true → x .bells < 256
 unfolding named
 named-bells x h =
-    let r = both (isSequence (x .sequence)) (both (allBelow 2 (x .tabs)) (both (ltb (x .shifted) 2) (isPersonality (x .personality)))) in
+    let r = both (isSequence (x .sequence)) (both (isSending (x .sending)) (both (allBelow 2 (x .tabs)) (both (ltb (x .shifted) 2) (isPersonality (x .personality))))) in
     ltb-true (x .bells) 256 (both-left (ltb (x .bells) 256) r (both-right (areFlags (x .modes)) (both (ltb (x .bells) 256) r) h))
 
 -- ---- a good page and state answer no 7
@@ -51,9 +51,12 @@ ended-seven (clears m a) h = omega (arith, among-parts 2 3 m a, h)
 ended-seven (keeps m a l) h = omega (arith, l .0, h)
 
 pub good-step : (p : List ℕ) (s : State) (b room : ℕ) → good p s ≡ true → stepRule p s b room .answer ≡ 7 → ⊥
-unfolding stepRule
+unfolding stepRule stepInside goesOn
 good-step p s b room g e =
-    ended-seven (inner-ends p (s .core) (s .setup .tabs) (s .gathered) room b (possible-parts s (good-parts p s g .1) .core .pending)) (rw g at e)
+    pick-if (λ (o : Outcome). o .answer ≡ 7 → ⊥) (sends (s .sending))
+    (λ u. pick-if (λ (o : Outcome). o .answer ≡ 7 → ⊥) (eqb room 0) (λ t z. omega (arith, z)) (λ t z. omega (arith, z)))
+    (λ u. ended-seven (inner-ends p (s .core) (s .setup .tabs) (s .gathered) room b (possible-parts s (good-parts p s g .1) .core .pending)))
+    (rw g at e)
 
 pub bad-seven : (p : List ℕ) (s : State) (b room : ℕ) → good p s ≡ false → stepRule p s b room .answer ≡ 7
 unfolding stepRule
@@ -63,12 +66,21 @@ repeated-seven : (bytes p : List ℕ) (s : State) (room : ℕ) → repeated byte
 unfolding repeated joined
 repeated-seven [] p s room e = omega (arith, e)
 repeated-seven (b ∷ bytes) p s room z =
-    pick-if (λ (r : Ran). r .answer ≡ 7 → ⊥) (eqb (stepRule p s b room .answer) 6) (λ t e. omega (arith, e))
-    (λ t. repeated-seven bytes (stepRule p s b room .page) (stepRule p s b room .state) (room - length (stepRule p s b room .reply))) z
+    pick-if (λ (r : Ran). r .answer ≡ 7 → ⊥) (sends (s .sending)) (λ u e. omega (arith, e))
+    (λ u. pick-if (λ (r : Ran). r .answer ≡ 7 → ⊥) (eqb (stepRule p s b room .answer) 6) (λ t e. omega (arith, e))
+    (λ t. repeated-seven bytes (stepRule p s b room .page) (stepRule p s b room .state) (room - length (stepRule p s b room .reply)))) z
+
+inside-seven : (p : List ℕ) (s : State) (l : List ℕ) (room : ℕ) → runInside p s l room .answer ≡ 7 → ⊥
+unfolding runInside behind
+inside-seven p s l room z =
+    pick-if (λ (r : Ran). r .answer ≡ 7 → ⊥) (eqb room 0)
+    (λ t. pick-if (λ (n : ℕ). n ≡ 7 → ⊥) (eqb (length l) 0) (λ u e. omega (arith, e)) (λ u e. omega (arith, e)))
+    (λ t. repeated-seven l p (goesOn p s room .state) (room - length (goesOn p s room .reply))) z
 
 pub good-run : (p : List ℕ) (s : State) (l : List ℕ) (room : ℕ) → good p s ≡ true → runRule p s l room .answer ≡ 7 → ⊥
 unfolding runRule
-good-run p s l room g e = repeated-seven l p s room (rw g at e)
+good-run p s l room g e =
+    pick-if (λ (r : Ran). r .answer ≡ 7 → ⊥) (sends (s .sending)) (λ u. inside-seven p s l room) (λ u. repeated-seven l p s room) (rw g at e)
 
 pub bad-run-seven : (p : List ℕ) (s : State) (l : List ℕ) (room : ℕ) → good p s ≡ false → runRule p s l room .answer ≡ 7
 unfolding runRule
@@ -102,14 +114,22 @@ module _ {n : ℕ} {y : RawState} where
   unfolding rawPowerOn
   powered-on m p on e h a s = rw (on, ← e) (record { answer = a ∙ h .answer; state = rw (s, h .state); page = h .page })
 
-  pub stepped : (p : List ℕ) (x : RawState) (b : ℕ) (w : List ℕ) {s : State} {t : StepResult} {p′ w′ : List ℕ} → named x ≡ true → s ≡ unpacked x
-      → terminal.Stepped (stepRule p s b (length w)) t p′ w w′ → n ≡ number (t .answer) → (n ≡ 7 → ⊥) → y ≡ packed (t .state)
-      → Stepped (rawStep p x b (length w)) (record { answer = n; replied = t .replied; state = y }) p′ w w′
+  pub stepped : (p : List ℕ) (x : RawState) (b : ℕ) (w : List ℕ) {k : ℕ} {s : State} {t : StepResult} {p′ w′ : List ℕ} → named x ≡ true
+      → s ≡ unpacked x → terminal.Stepped (stepRule p s b (length w)) t p′ w w′ → n ≡ number (t .answer) → (n ≡ 7 → ⊥) → k ≡ flag (t .taken)
+      → y ≡ packed (t .state) → Stepped (rawStep p x b (length w)) (record { answer = n; taken = k; replied = t .replied; state = y }) p′ w w′
   unfolding rawStep
-  stepped p x b w {s} on e h a z v =
+  stepped p x b w {s = s} on e h a z f v =
       let g : good p s ≡ true = not-bad (good p s) (λ k. z (a ∙ h .answer ∙ bad-seven p s b (length w) k)) in
       rw (raw-good p x on (ap (good p) (sym e) ∙ g), ← e)
-      (record { answer = a ∙ h .answer; state = rw (v, h .state); replied = h .replied; page = h .page; room = h .room; fits = h .fits })
+      (record {
+        answer = a ∙ h .answer;
+        taken = f ∙ ap flag (h .taken);
+        state = rw (v, h .state);
+        replied = h .replied;
+        page = h .page;
+        room = h .room;
+        fits = h .fits;
+      })
 
   pub completed : (p : List ℕ) (x : RawState) (l w : List ℕ) {s : State} {t : RunResult} {p′ w′ : List ℕ} → named x ≡ true → s ≡ unpacked x
       → terminal.Completed (runRule p s l (length w)) t l p′ w w′ → n ≡ number (t .answer) → (n ≡ 7 → ⊥) → y ≡ packed (t .state)
@@ -131,16 +151,16 @@ module _ {n : ℕ} {y : RawState} where
       })
 
 pub sent : (p : List ℕ) (x : RawState) (v : ℕ) (w : List ℕ) {n : ℕ} {s : State} {t : PressResult} {w′ : List ℕ} → named x ≡ true → s ≡ unpacked x
-    → terminal.Sent (pressRule p s v (length w)) t w w′ → n ≡ number (t .answer)
+    → terminal.KeySent (pressRule p s v (length w)) t w w′ → n ≡ number (t .answer)
     → Sent (rawPress p x v (length w)) (record { answer = n; replied = t .replied }) w w′
 unfolding rawPress
 sent p x v w on e h a = rw (on, ← e) (record { answer = a ∙ h .answer; replied = h .replied; room = h .room; fits = h .fits })
 
 -- a bad call: numbers that name no state, or a 7 of the terminal's, which changed nothing
 module _ (p : List ℕ) (x : RawState) (bad : rawGood p x ≡ false) (w : List ℕ) where
-  pub step-refused : (b : ℕ) → Stepped (rawStep p x b (length w)) (record { answer = 7; replied = 0; state = x }) p w w
+  pub step-refused : (b : ℕ) → Stepped (rawStep p x b (length w)) (record { answer = 7; taken = 0; replied = 0; state = x }) p w w
   unfolding rawStep over
-  step-refused b = rw bad (record { answer = refl; state = refl; replied = refl; page = refl; room = refl; fits = omega arith })
+  step-refused b = rw bad (record { answer = refl; taken = refl; state = refl; replied = refl; page = refl; room = refl; fits = omega arith })
 
   pub run-refused : (l : List ℕ) → Completed (rawRun p x l (length w)) (record { answer = 7; taken = 0; replied = 0; refused = 0; state = x }) l p w w
   unfolding rawRun over
@@ -182,7 +202,7 @@ module _ (p : List ℕ) (x : RawState) (w : List ℕ) {n : ℕ} {s : State} {p�
   step-bad b h a z = not-good (good p s) (λ k. good-step p s b (length w) k (sym (a ∙ h .answer) ∙ z))
 
   pub step-seven : (b : ℕ) {t : StepResult} → terminal.Stepped (stepRule p s b (length w)) t p′ w w′ → n ≡ number (t .answer) → n ≡ 7
-      → Stepped (rawStep p x b (length w)) (record { answer = 7; replied = 0; state = x }) p′ w w′
+      → Stepped (rawStep p x b (length w)) (record { answer = 7; taken = 0; replied = 0; state = x }) p′ w w′
   step-seven b h a z =
       let g = step-bad b h a z in
       let k = step-left p s b w g in

@@ -20,7 +20,7 @@ use Rattle.wy50.specs.declared.raw.RawState.{RawState}
 use Rattle.wy50.specs.Raw.{packed, unpacked, named}
 use Rattle.wy50.specs.Promise.{raw, rawGood, badStep, badRun, rawStep, rawRun, rawPress}
 use Rattle.wy50.proofs.Zeros.{zeroed-possible}
-use Rattle.wy50.proofs.RoundTrip.{packed-named, retabbed, retabbed-stops, unpacked-packed}
+use Rattle.wy50.proofs.RoundTrip.{possible-fits, packed-named, retabbed, retabbed-stops, unpacked-packed}
 
 -- a bad call gives the numbers back as they were
 module _ (p : List ℕ) (x : RawState) (bad : rawGood p x ≡ false) where
@@ -56,8 +56,9 @@ packed-good p s h =
     record { screen = w .core .screen; bells = w .core .bells; remembered = w .core .remembered; pending = zeroed-possible (s .core .pending) (s .gathered) (w .core .pending) } in
     let setup : PossibleSetup (widthOf (s .core .screen)) (retabbed s .setup) =
     record { tabs = stops; keys = u .keys; labels = u .labels; message = u .message; attributes = u .attributes; features = u .features } in
-    rw (packed-named s (w .core .bells), unpacked-packed s (w .narrow))
-    (good-whole p (retabbed s) (g .0) (possible-whole (retabbed s) (w .narrow) core setup))
+    let fits = possible-fits (s .core .screen) (s .core .pending) (s .sending) (w .sending) in
+    rw (packed-named s (w .core .bells) fits, unpacked-packed s (w .narrow) fits)
+    (good-whole p (retabbed s) (g .0) (possible-whole (retabbed s) record { narrow = w .narrow; core = core; sending = w .sending; setup = setup }))
 
 pub power-on-good : (m : Personality) (p : List ℕ) → length p ≡ 1920 → rawGood (powerOnRule m p .page) (raw (powerOnRule m p) .state) ≡ true
 power-on-good m p h = packed-good (powerOnRule m p .page) (powerOnRule m p .state) (powerOn-good m p h)

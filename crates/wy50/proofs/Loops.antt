@@ -1,7 +1,7 @@
--- Laws of the loops that translate an array, and of the table of sequences.
+-- Laws of the loops that translate an array, and of the tables of sequences and sends.
 --     begin, go, finish     such a loop's start, a turn, its end
 --     shown-length, shown-at, stop-go, stop-finish     C's tab stops and a state's
---     not-found     a kind that is none of the table's
+--     not-found     a number that is none of the table's
 -- Assumes nothing.
 use mathlib.Core.Path.{_≡_, refl, sym, subst, _∙_}
 use mathlib.Core.Bool.{Bool, false}
@@ -12,8 +12,6 @@ use native.Mathlib.Numerals.{add-one}
 use lib.ListN.{length, take, drop, getD, set, replicate, length-set, length-map, take-append-drop, List·getD-map}
 use lib.Seq.{take-all, take-suc, take-suc-set, length-take-le, drop-set-lt}
 use borrow.Author.Tests.{ne-eqb}
-use Rattle.rules.specs.declared.Pending.{Pending}
-use Rattle.rules.specs.declared.Pending.the-variants as Pending
 use Rattle.wy50.specs.Raw.{isOn, shown, unshown, find}
 
 -- an array t that is written element by element: its first i are those of the map
@@ -79,13 +77,13 @@ module _ (l : List ℕ) (n : length l ≡ 80) (t : List Bool) where
       sym (take-append-drop 80 t) ∙ rw (front, x .beyond)
 
 -- what the last arm of a match on a number knows: the number is none of the keys, the last key outermost
-abbrev pub NoneOf : Type 0 → ℕ → List (ℕ × Pending) → Type 0
+abbrev pub NoneOf : {A : Type 0} → Type 0 → ℕ → List (ℕ × A) → Type 0
 NoneOf acc k [] = acc
 NoneOf acc k (r ∷ t) = NoneOf (acc × (k ≡ r .0 → ⊥)) k t
 
-pub not-found : (acc : Type 0) (k : ℕ) (t : List (ℕ × Pending)) → NoneOf acc k t → acc × (find t k ≡ Pending.Idle)
+pub not-found : {A : Type 0} (x : A) (acc : Type 0) (k : ℕ) (t : List (ℕ × A)) → NoneOf acc k t → acc × (find x t k ≡ x)
 unfolding find
-not-found acc k [] h = (h, refl)
-not-found acc k (r ∷ t) h =
-    let p = not-found (acc × (k ≡ r .0 → ⊥)) k t h in
+not-found x acc k [] h = (h, refl)
+not-found x acc k (r ∷ t) h =
+    let p = not-found x (acc × (k ≡ r .0 → ⊥)) k t h in
     (p .0 .0, rw (ne-eqb k (r .0) (p .0 .1), p .1))

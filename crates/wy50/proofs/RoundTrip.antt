@@ -1,16 +1,17 @@
 -- There and back: a state's numbers name that state, and the state that numbers name has those numbers.
 --     packed-named, unpacked-packed     a state's numbers name a state, and a narrow state with no stop beyond what C holds is that state,
---         but for what means nothing
+--         but for what means nothing; both where a byte counts what of a short reply went
+--     possible-fits     as it does in a possible state
 --     retabbed-stops     a possible state's stops stay possible
 --     packed-unpacked     numbers that name a state are that state's, but for what means nothing
 -- Assumes nothing.
 use mathlib.Core.Path.{_≡_, refl, sym, ap, ap₂, _∙_}
 use mathlib.Core.Bool.{Bool, true, false, not, false≢true}
 use mathlib.Core.List.{List, [], _∷_, _++_, map}
-use Prim.Native.Nat.{ℕ, zero, suc, _-_, _<_}
+use Prim.Native.Nat.{ℕ, zero, suc, _-_, _<_, _≤_}
 use native.Mathlib.Omega.{arith}
 use borrow.Author.Tests.{lt-ltb, ltb-true, eq-eqb, eqb-true, eqb-false}
-use lib.Dec.{ltb, eqb}
+use lib.Dec.{ltb, leb, eqb}
 use lib.ListN.{length, take, drop, replicate, length-append, length-replicate}
 use lib.Seq.{take-append-seam}
 use Rattle.rules.specs.declared.Argument.the-variants as Argument
@@ -18,17 +19,26 @@ use Rattle.rules.specs.declared.Slot.the-variants as Slot
 use Rattle.rules.specs.declared.Pending.{Pending}
 use Rattle.rules.specs.declared.Pending.the-variants as Pending
 use Rattle.rules.specs.declared.Modes.{Modes}
+use Rattle.rules.specs.declared.Short.{Short}
+use Rattle.rules.specs.declared.Short.the-variants as Short
+use Rattle.rules.specs.declared.Place.{Place}
+use Rattle.rules.specs.declared.Place.the-variants as Place
+use Rattle.rules.specs.declared.Screen.{Screen}
+use Rattle.rules.specs.declared.Sending.{Sending}
+use Rattle.rules.specs.declared.Sending.the-variants as Sending
 use Rattle.rules.specs.declared.State.{State}
 use Rattle.rules.specs.declared.Personality.{Personality}
 use Rattle.rules.specs.declared.Personality.the-variants as Personality
 use Rattle.rules.specs.Cell.{pick, both, either}
-use Rattle.rules.specs.State.{withTabs}
-use Rattle.rules.specs.Possible.{noStops, tabsOk}
+use Rattle.rules.specs.State.{isIdle, withTabs}
+use Rattle.rules.specs.Possible.{noStops, tabsOk, shortLength, sendingOk}
 use Rattle.state.proofs.Tests.{both-left, both-right}
 use Rattle.wy50.specs.declared.raw.RawModes.{RawModes}
 use Rattle.wy50.specs.declared.raw.RawSequence.{RawSequence}
+use Rattle.wy50.specs.declared.raw.RawSending.{RawSending}
 use Rattle.wy50.specs.declared.raw.RawState.{RawState}
 use Rattle.wy50.specs.Raw.{allBelow, flag, isOn, personalityNumber, isPersonality, personalityAt, sequenceOf, find, pendingOf, sameSequence, isSequence, rawModes, modesOf, areFlags}
+use Rattle.wy50.specs.Raw.{small, rawSending, sendingOf, sameSending, isSending}
 use Rattle.wy50.specs.Raw.{rawKey, keyOf, shown, unshown, gatheredIn, zeroed, packed, unpacked, tidied, named}
 
 -- a flag
@@ -136,6 +146,76 @@ sequence-back : (q : RawSequence) → isSequence q ≡ true → sequenceOf (pend
 unfolding isSequence
 sequence-back q h = same-equal (sequenceOf (pendingOf q)) q h
 
+-- the send under way: of a short reply a byte counts what went
+abbrev pub sendingFits : Sending → Bool
+sendingFits Sending.Nothing = true
+sendingFits (Sending.Short r n) = ltb n 256
+sendingFits (Sending.Text all segment k) = true
+
+short-most : (r : Short) → shortLength r ≤ 7
+short-most Short.Acknowledge = omega arith
+short-most Short.Cell = omega arith
+short-most Short.Identity = omega arith
+short-most Short.Cursor = omega arith
+short-most Short.SegmentCursor = omega arith
+short-most Short.DecimalCursor = omega arith
+
+-- so it is in a possible state
+pub possible-fits : (x : Screen) (q : Pending) (y : Sending) → sendingOk x q y ≡ true → sendingFits y ≡ true
+unfolding sendingOk
+possible-fits x q Sending.Nothing h = refl
+possible-fits x q (Sending.Short r n) h =
+    let b = both-right (isIdle q) (both (leb 1 n) (ltb n (shortLength r))) h in
+    let l = ltb-true n (shortLength r) (both-right (leb 1 n) (ltb n (shortLength r)) b) in
+    lt-ltb n 256 (omega (arith, l, short-most r))
+possible-fits x q (Sending.Text all segment k) h = refl
+
+sending-back : (y : Sending) → sendingFits y ≡ true → sendingOf (rawSending y) ≡ y
+unfolding find
+sending-back Sending.Nothing h = refl
+sending-back (Sending.Short Short.Acknowledge n) h = rw h
+sending-back (Sending.Short Short.Cell n) h = rw h
+sending-back (Sending.Short Short.Identity n) h = rw h
+sending-back (Sending.Short Short.Cursor n) h = rw h
+sending-back (Sending.Short Short.SegmentCursor n) h = rw h
+sending-back (Sending.Short Short.DecimalCursor n) h = rw h
+sending-back (Sending.Text false false (Place.Cell i)) h = refl
+sending-back (Sending.Text false false (Place.Break i)) h = refl
+sending-back (Sending.Text false false Place.Return) h = refl
+sending-back (Sending.Text false true (Place.Cell i)) h = refl
+sending-back (Sending.Text false true (Place.Break i)) h = refl
+sending-back (Sending.Text false true Place.Return) h = refl
+sending-back (Sending.Text true false (Place.Cell i)) h = refl
+sending-back (Sending.Text true false (Place.Break i)) h = refl
+sending-back (Sending.Text true false Place.Return) h = refl
+sending-back (Sending.Text true true (Place.Cell i)) h = refl
+sending-back (Sending.Text true true (Place.Break i)) h = refl
+sending-back (Sending.Text true true Place.Return) h = refl
+
+same-send-self : (y : RawSending) → sameSending y y ≡ true
+same-send-self y = rw (self (y .command), self (y .kind), self (y .place)) where
+  self : (n : ℕ) → eqb n n ≡ true
+  self n = eq-eqb n n refl
+
+same-send-equal : (a b : RawSending) → sameSending a b ≡ true → a ≡ b
+same-send-equal a b h =
+    let c = eqb (a .command) (b .command) in
+    let k = eqb (a .kind) (b .kind) in
+    let n = eqb (a .place) (b .place) in
+    let r = both-right c (both k n) h in
+    let command = eqb-true (a .command) (b .command) (both-left c (both k n) h) in
+    let kind = eqb-true (a .kind) (b .kind) (both-left k n r) in
+    let place = eqb-true (a .place) (b .place) (both-right k n r) in
+    λ i. record { command = command i; kind = kind i; place = place i }
+
+sending-named : (y : Sending) → sendingFits y ≡ true → isSending (rawSending y) ≡ true
+unfolding isSending
+sending-named y h = ap (λ (z : Sending). sameSending (rawSending z) (rawSending y)) (sending-back y h) ∙ same-send-self (rawSending y)
+
+raw-sending-back : (y : RawSending) → isSending y ≡ true → rawSending (sendingOf y) ≡ y
+unfolding isSending
+raw-sending-back y h = same-send-equal (rawSending (sendingOf y)) y h
+
 -- the modes
 modes-back : (m : Modes) → modesOf (rawModes m) ≡ m
 modes-back m = λ i. record {
@@ -175,15 +255,16 @@ raw-modes-back m h =
     }
 
 -- a state's numbers name a state; the bell count of a state is below 256
-pub packed-named : (s : State) → s .core .bells < 256 → named (packed s) ≡ true
+pub packed-named : (s : State) → s .core .bells < 256 → sendingFits (s .sending) ≡ true → named (packed s) ≡ true
 unfolding packed named
-packed-named s h =
-    rw (modes-named (s .core .modes), lt-ltb (s .core .bells) 256 h, sequence-named (s .core .pending), tabs-below (shown (s .setup .tabs)), flag-below (s .setup .shifted), personality-named (s .core .personality))
+packed-named s h f =
+    rw (modes-named (s .core .modes), lt-ltb (s .core .bells) 256 h, sequence-named (s .core .pending), sending-named (s .sending) f, tabs-below (shown (s .setup .tabs)), flag-below (s .setup .shifted), personality-named (s .core .personality))
 
 -- and it is that state, with no tab stop but those that C holds, and zeros where nothing is gathered
 abbrev pub retabbed : State → State
 retabbed s = record {
   core = s .core;
+  sending = s .sending;
   gathered = zeroed (gatheredIn (sequenceOf (s .core .pending))) (s .gathered);
   setup = withTabs (s .setup) (unshown (shown (s .setup .tabs)));
 }
@@ -213,9 +294,9 @@ retabbed-stops (suc w) zero l h = no-stops-drop (suc w) 52
 retabbed-stops (suc w) (suc n) [] h = no-stops-drop (suc w) 52
 retabbed-stops (suc w) (suc n) (b ∷ l) h = retabbed-stops w n l h
 
-pub unpacked-packed : (s : State) → s .core .screen .wide ≡ false → unpacked (packed s) ≡ retabbed s
+pub unpacked-packed : (s : State) → s .core .screen .wide ≡ false → sendingFits (s .sending) ≡ true → unpacked (packed s) ≡ retabbed s
 unfolding packed unpacked
-unpacked-packed s n = λ i. record {
+unpacked-packed s n f = λ i. record {
   core = record {
     screen = record {
       wide = sym n i;
@@ -230,6 +311,7 @@ unpacked-packed s n = λ i. record {
     personality = personality-back (s .core .personality) i;
     attribute = s .core .attribute;
   };
+  sending = sending-back (s .sending) f i;
   gathered = zeroed (gatheredIn (sequenceOf (s .core .pending))) (s .gathered);
   setup = record {
     tabs = unshown (map-back flag isOn isOn-flag (shown (s .setup .tabs)) i);
@@ -254,15 +336,19 @@ packed-unpacked x h =
     let a = areFlags (x .modes) in
     let b = ltb (x .bells) 256 in
     let q = isSequence (x .sequence) in
+    let u = isSending (x .sending) in
     let t = allBelow 2 (x .tabs) in
     let z = ltb (x .shifted) 2 in
     let m = isPersonality (x .personality) in
     let y = both z m in
-    let w = both t y in
+    let v = both t y in
+    let w = both u v in
     let r = both-right b (both q w) (both-right a (both b (both q w)) h) in
     let modes = raw-modes-back (x .modes) (both-left a (both b (both q w)) h) in
     let sequence = sequence-back (x .sequence) (both-left q w r) in
-    let bits = both-right q w r in
+    let under = both-right q w r in
+    let sending = raw-sending-back (x .sending) (both-left u v under) in
+    let bits = both-right u v under in
     let tabs = ap (map flag) (shown-unshown (map isOn (x .tabs))) ∙ tabs-back (x .tabs) (both-left t y bits) in
     let shifted = flag-isOn (x .shifted) (both-left z m (both-right t y bits)) in
     let personality = number-back (x .personality) (both-right z m (both-right t y bits)) in
@@ -275,6 +361,7 @@ packed-unpacked x h =
       personality = personality i;
       remembered = x .remembered;
       sequence = sequence i;
+      sending = sending i;
       gathered = zeroed (gatheredIn (sequence i)) (x .gathered);
       tabs = tabs i;
       attributes = x .attributes;

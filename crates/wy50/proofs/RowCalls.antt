@@ -27,15 +27,17 @@ use Rattle.state.proofs.Tests.{both-right}
 use Rattle.terminal.specs.Promise as terminal
 use Rattle.terminal.proofs.RowCalls.{rows-unlisted}
 use Rattle.wy50.specs.declared.raw.RawState.{RawState}
-use Rattle.wy50.specs.Raw.{packed, unpacked, named}
+use Rattle.wy50.specs.Raw.{flag, packed, unpacked, named}
 use Rattle.wy50.specs.Promise.{rawGood, Stepped, Completed}
 use Rattle.wy50.specs.Rows.{rawListed, rawStepRows, rawRunRows, rawRowsAfter, rawCanRebuild, rawRebuildAnswer, rawRebuilt}
-use Rattle.wy50.proofs.RoundTrip.{unpacked-packed}
+use Rattle.wy50.proofs.RoundTrip.{possible-fits, unpacked-packed}
 use Rattle.wy50.proofs.Calls.{good-step, bad-seven, good-run, bad-run-seven, not-bad, not-good, raw-good, step-left, run-left}
 
 -- the row list of a good state, by its numbers
 numbers-rows : (p : List ℕ) (s : State) → good p s ≡ true → rowsOf p (unpacked (packed s)) ≡ rowsOf p s
-numbers-rows p s g = ap (rowsOf p) (unpacked-packed s (possible-parts s (good-parts p s g .1) .narrow))
+numbers-rows p s g =
+    let w = possible-parts s (good-parts p s g .1) in
+    ap (rowsOf p) (unpacked-packed s (w .narrow) (possible-fits (s .core .screen) (s .core .pending) (s .sending) (w .sending)))
 
 listed-true : (p l : List ℕ) (x : RawState) → rawGood p x ≡ true → agrees l p (unpacked x) ≡ true → rawListed p l x ≡ true
 unfolding rawListed
@@ -61,10 +63,10 @@ module _ (p l : List ℕ) (x : RawState) (w : List ℕ) (bad : rawListed p l x �
   unfolding rawRowsAfter
   rows-left p′ y = rw bad
 
-  step-refused : (b : ℕ) → Stepped (rawStepRows p l x b (length w)) (record { answer = 7; replied = 0; state = x }) p w w × (l ≡ rawRowsAfter p l x p x)
+  step-refused : (b : ℕ) → Stepped (rawStepRows p l x b (length w)) (record { answer = 7; taken = 0; replied = 0; state = x }) p w w × (l ≡ rawRowsAfter p l x p x)
   unfolding rawStepRows over
   step-refused b =
-      (rw bad (record { answer = refl; state = refl; replied = refl; page = refl; room = refl; fits = omega arith }), rows-left p x)
+      (rw bad (record { answer = refl; taken = refl; state = refl; replied = refl; page = refl; room = refl; fits = omega arith }), rows-left p x)
 
   run-refused : (i : List ℕ)
       → Completed (rawRunRows p l x i (length w)) (record { answer = 7; taken = 0; replied = 0; refused = 0; state = x }) i p w w × (l ≡ rawRowsAfter p l x p x)
@@ -86,7 +88,7 @@ module _ (p l : List ℕ) (x : RawState) (w : List ℕ) (bad : rawListed p l x �
   )
 
 module _ (p l : List ℕ) (x : RawState) (w : List ℕ) (off : named x ≡ false) where
-  pub step-unnamed : (b : ℕ) → Stepped (rawStepRows p l x b (length w)) (record { answer = 7; replied = 0; state = x }) p w w × (l ≡ rawRowsAfter p l x p x)
+  pub step-unnamed : (b : ℕ) → Stepped (rawStepRows p l x b (length w)) (record { answer = 7; taken = 0; replied = 0; state = x }) p w w × (l ≡ rawRowsAfter p l x p x)
   step-unnamed b = step-refused p l x w (unnamed p l x off) b
 
   pub run-unnamed : (i : List ℕ)
@@ -143,10 +145,10 @@ run-nothing p l s i w seven = by (agrees l p s) refl
 module _ (p l : List ℕ) (x : RawState) (w : List ℕ) {n : ℕ} {s : State} {p′ w′ l′ : List ℕ} (on : named x ≡ true) (e : s ≡ unpacked x) where
   module _ (b : ℕ) {t : StepResult} (h : terminal.Stepped (stepRowsRule p l s b (length w)) t p′ w w′) (k : l′ ≡ rowsAfter p l s p′ (t .state))
       (a : n ≡ number (t .answer)) where
-    pub rows-stepped : {y : RawState} → (n ≡ 7 → ⊥) → y ≡ packed (t .state)
-        → Stepped (rawStepRows p l x b (length w)) (record { answer = n; replied = t .replied; state = y }) p′ w w′ × (l′ ≡ rawRowsAfter p l x p′ y)
+    pub rows-stepped : {m : ℕ} {y : RawState} → (n ≡ 7 → ⊥) → m ≡ flag (t .taken) → y ≡ packed (t .state)
+        → Stepped (rawStepRows p l x b (length w)) (record { answer = n; taken = m; replied = t .replied; state = y }) p′ w w′ × (l′ ≡ rawRowsAfter p l x p′ y)
     unfolding rawStepRows rawRowsAfter rowsAfter
-    rows-stepped {y} z v =
+    rows-stepped {y = y} z f v =
         let agreed : agrees l p s ≡ true = not-bad (agrees l p s)
         (λ f. z (a ∙ h .answer ∙ ap (λ o. o .answer) (disagreeing .step p l s b (length w) f))) in
         let o : stepRowsRule p l s b (length w) ≡ stepRule p s b (length w) = equal-results .step p l s b (length w) agreed in
@@ -159,6 +161,7 @@ module _ (p l : List ℕ) (x : RawState) (w : List ℕ) {n : ℕ} {s : State} {p
         rw (there, ← e) (
           record {
             answer = a ∙ h .answer ∙ ap (λ o. o .answer) o;
+            taken = f ∙ ap flag (h .taken ∙ ap (λ o. o .taken) o);
             state = v ∙ ap packed state;
             replied = h .replied ∙ ap (λ o. length (o .reply)) o;
             page = page;
@@ -169,7 +172,7 @@ module _ (p l : List ℕ) (x : RawState) (w : List ℕ) {n : ℕ} {s : State} {p
         )
 
     pub rows-step-seven : n ≡ 7
-        → Stepped (rawStepRows p l x b (length w)) (record { answer = 7; replied = 0; state = x }) p′ w w′ × (l′ ≡ rawRowsAfter p l x p′ x)
+        → Stepped (rawStepRows p l x b (length w)) (record { answer = 7; taken = 0; replied = 0; state = x }) p′ w w′ × (l′ ≡ rawRowsAfter p l x p′ x)
     rows-step-seven z =
         let seven : stepRowsRule p l s b (length w) .answer ≡ 7 = sym (a ∙ h .answer) ∙ z in
         let left = step-nothing p l s b w seven in

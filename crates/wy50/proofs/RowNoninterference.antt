@@ -21,7 +21,7 @@ use Rattle.wy50.specs.Rows.{rawListed, rawStepRows, rawRunRows, rawRowsA
 use Rattle.wy50.specs.Noninterference.{RawGiven, RawCalled, ofRawStep, ofRawRun, rawCall, RawCompleted, first, later}
 use Rattle.wy50.specs.RowNoninterference.{RawSession, RawRowCalled, left, listed, rawRowCall, bareCall, bareCalls, RowMade, bare, listStepped, listRan, rebuiltRows, RowPerformed, none, next, RawRowIndistinguishable, RawRowDemand3}
 use Rattle.state.proofs.Tests.{both-left}
-use Rattle.wy50.proofs.Noninterference.{AgreeRaw, unpacked-on, both-good, raw-agrees, made-is}
+use Rattle.wy50.proofs.Noninterference.{RawClosed, AgreeRaw, unpacked-on, both-good, raw-agrees, made-is}
 
 abbrev session : List ℕ → List ℕ → RawState → RawSession
 session p l x = record { page = p; rows = l; state = x }
@@ -52,20 +52,20 @@ run-unlisted : (p l : List ℕ) (x : RawState) (i : List ℕ) (room : ℕ) → r
 unfolding rawRunRows
 run-unlisted p l x i room e = rw e
 
-module _ {p q a b : List ℕ} (h : Related p q a b) (l : List ℕ) (x : RawState) (on : x .modes .protect ≡ 1) where
+module _ {p q a b : List ℕ} (h : Related p q a b) (l : List ℕ) (x : RawState) (closed : RawClosed x) where
   rows-agree : rowsOf a (unpacked x) ≡ rowsOf b (unpacked x)
   rows-agree =
-      ap (rowList (widthOf (unpacked x .core .screen))) (guards-agree (unpacked x .core .modes .protect) (unpacked-on x on) h)
+      ap (rowList (widthOf (unpacked x .core .screen))) (guards-agree (unpacked x .core .modes .protect) (unpacked-on x (closed .on)) h)
 
   both-listed : rawListed a l x ≡ rawListed b l x
   unfolding rawListed
-  both-listed = rw (both-good h x on, rows-agree)
+  both-listed = rw (both-good h x closed, rows-agree)
 
   -- the list after a call that was made in both
   left-rows : {c d : RawCalled} → AgreeRaw p q c d → rowsOf (c .page) (unpacked (c .given .state)) ≡ rowsOf (d .page) (unpacked (d .given .state))
   left-rows {c} {d} k =
       ap (rowList (widthOf (unpacked (c .given .state) .core .screen)))
-      (guards-agree (unpacked (c .given .state) .core .modes .protect) (unpacked-on (c .given .state) (k .on)) (k .related))
+      (guards-agree (unpacked (c .given .state) .core .modes .protect) (unpacked-on (c .given .state) (k .closed .on)) (k .related))
       ∙ ap (λ (g : RawGiven). rowsOf (d .page) (unpacked (g .state))) (sym (k .given))
 
   -- one that took the list, or was refused for it, in both
@@ -80,23 +80,23 @@ module _ {p q a b : List ℕ} (h : Related p q a b) (l : List ℕ) (x : RawState
   row-call-agrees : (c : RowCall) → (RawCompleted (bareCall (session a l x) c) a x → ⊥)
       → AgreeRows p q (rawRowCall (session a l x) c) (rawRowCall (session b l x) c)
   unfolding rawRowCall bareCall rawCanRebuild canRebuild good
-  row-call-agrees (Bare c) free = record { called = raw-agrees h x on c (λ e k. free (first e k)); rows = refl }
+  row-call-agrees (Bare c) free = record { called = raw-agrees h x closed c (λ e k. free (first e k)); rows = refl }
   row-call-agrees (ListStep v room) free = taken-agrees _ _ (by (rawListed a l x) refl free)
     where
       by : (t : Bool) → rawListed a l x ≡ t → (RawCompleted (pick t (Step v room ∷ []) []) a x → ⊥)
           → AgreeRaw p q (ofRawStep (rawStepRows a l x v room)) (ofRawStep (rawStepRows b l x v room))
       by true e free =
-          rw (step-listed a l x v room e, step-listed b l x v room (sym both-listed ∙ e)) (raw-agrees h x on (Step v room) (λ n k. free (first n k)))
-      by false e free = rw (step-unlisted a l x v room e, step-unlisted b l x v room (sym both-listed ∙ e)) (record { given = refl; related = h; on = on })
+          rw (step-listed a l x v room e, step-listed b l x v room (sym both-listed ∙ e)) (raw-agrees h x closed (Step v room) (λ n k. free (first n k)))
+      by false e free = rw (step-unlisted a l x v room e, step-unlisted b l x v room (sym both-listed ∙ e)) (record { given = refl; related = h; closed = closed })
   row-call-agrees (ListRun i room) free = taken-agrees _ _ (by (rawListed a l x) refl free)
     where
       by : (t : Bool) → rawListed a l x ≡ t → (RawCompleted (pick t (Run i room ∷ []) []) a x → ⊥)
           → AgreeRaw p q (ofRawRun (rawRunRows a l x i room)) (ofRawRun (rawRunRows b l x i room))
       by true e free =
-          rw (run-listed a l x i room e, run-listed b l x i room (sym both-listed ∙ e)) (raw-agrees h x on (Run i room) (λ n k. free (first n k)))
-      by false e free = rw (run-unlisted a l x i room e, run-unlisted b l x i room (sym both-listed ∙ e)) (record { given = refl; related = h; on = on })
+          rw (run-listed a l x i room e, run-listed b l x i room (sym both-listed ∙ e)) (raw-agrees h x closed (Run i room) (λ n k. free (first n k)))
+      by false e free = rw (run-unlisted a l x i room e, run-unlisted b l x i room (sym both-listed ∙ e)) (record { given = refl; related = h; closed = closed })
   row-call-agrees Rebuild free =
-      rw (related-length h, rows-agree) (record { called = record { given = refl; related = h; on = on }; rows = refl })
+      rw (related-length h, rows-agree) (record { called = record { given = refl; related = h; closed = closed }; rows = refl })
 
 -- ---- lists of calls
 
@@ -131,26 +131,26 @@ row-made-is : {x : RawSession} {p′ l′ : List ℕ} {c : RowCall} {g : RawGive
 unfolding rawRowCall
 row-made-is {x} (bare m) = ap (λ (r : RawCalled). record { called = r; rows = x .rows }) (made-is m)
 row-made-is (listStepped {w = w} {w′ = w′} {r = r} h e) =
-    cc (h .answer, h .state, h .replied, h .page, front _ w w′ (r .replied) (h .replied) (h .room), e)
+    cc (h .answer, h .taken, h .state, h .replied, h .page, front _ w w′ (r .replied) (h .replied) (h .room), e)
 row-made-is (listRan {w = w} {w′ = w′} {r = r} h e) =
     cc (h .answer, h .taken, h .replied, h .refused, h .rest, h .state, h .page, front _ w w′ (r .replied) (h .replied) (h .room), e)
 row-made-is (rebuiltRows h e) = cc (h, e)
 
 performed-agrees : {calls : List RowCall} {p q a b : List ℕ} {l : List ℕ} {x : RawState} {y z : RawSession} {gs hs : List RawGiven} {ls ms : List (List ℕ)}
-    → Related p q a b → x .modes .protect ≡ 1 → (RawCompleted (bareCalls calls (session a l x)) a x → ⊥)
+    → Related p q a b → RawClosed x → (RawCompleted (bareCalls calls (session a l x)) a x → ⊥)
     → RowPerformed (session a l x) calls gs ls y → RowPerformed (session b l x) calls hs ms z → RawRowIndistinguishable p q gs hs ls ms y z
 unfolding bareCalls
-performed-agrees h on free none none = record { given = refl; lists = refl; rows = refl; state = refl; pages = related-kept h }
-performed-agrees {p = p} {q = q} {a = a} {l = l} {x = x} h on free
+performed-agrees h closed free none none = record { given = refl; lists = refl; rows = refl; state = refl; pages = related-kept h }
+performed-agrees {p = p} {q = q} {a = a} {l = l} {x = x} h closed free
     (next {p′ = a₁} {l′ = l₁} {c = c} {cs = cs} {g = g} m f) (next {y = z} {p′ = b₁} {l′ = m₁} {g = k} {gs = ks} {ls = ns} n t) =
     let r = subst₂ (AgreeRows p q) (row-made-is m) (row-made-is n)
-    (row-call-agrees h l x on c (λ e. free (append-completed (bareCall (session a l x) c) _ e))) in
+    (row-call-agrees h l x closed c (λ e. free (append-completed (bareCall (session a l x) c) _ e))) in
     let free₁ : RawCompleted (bareCalls cs (session a₁ l₁ (g .state))) a₁ (g .state) → ⊥ =
     subst (λ (r : RawRowCalled). RawCompleted (bareCalls cs (left r)) (r .called .page) (r .called .given .state) → ⊥) (row-made-is m)
     (rest-free (session a l x) c free) in
     let t₁ : RowPerformed (session b₁ l₁ (g .state)) cs ks ns z =
     subst₂ (λ (w : List ℕ) (v : RawState). RowPerformed (session b₁ w v) cs ks ns z) (sym (r .rows)) (ap (λ (v : RawGiven). v .state) (r .called .given)) t in
-    let e = performed-agrees (r .called .related) (r .called .on) free₁ f t₁ in
+    let e = performed-agrees (r .called .related) (r .called .closed) free₁ f t₁ in
     record {
       given = ap₂ _∷_ (sym (r .called .given)) (e .given);
       lists = ap₂ _∷_ (r .rows) (e .lists);
@@ -160,4 +160,5 @@ performed-agrees {p = p} {q = q} {a = a} {l = l} {x = x} h on free
     }
 
 pub raw-row-noninterference : RawRowDemand3
-raw-row-noninterference p q l x calls gs hs ls ms y z on alike free f g = performed-agrees (start-related p q alike) on free f g
+raw-row-noninterference p q l x calls gs hs ls ms y z on conceals alike free f g =
+    performed-agrees (start-related p q alike) record { on = on; conceals = conceals } free f g

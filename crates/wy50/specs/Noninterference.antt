@@ -9,6 +9,7 @@ use lib.ListN.{length, take, drop}
 use Rattle.rules.specs.Calls.{Call, Step, Run, Press, Pressed}
 use Rattle.rules.specs.Noninterference.{AlikePages, KeptPages}
 use Rattle.rules.specs.Completed.{CompletedIn}
+use Rattle.wy50.specs.declared.raw.RawSending.{RawSending}
 use Rattle.wy50.specs.declared.raw.RawState.{RawState}
 use Rattle.wy50.specs.declared.raw.RawStep.{RawStep}
 use Rattle.wy50.specs.declared.raw.RawRun.{RawRun}
@@ -29,7 +30,7 @@ pub record RawCalled : Type 0 where
   pub page : List ℕ
 
 abbrev pub ofRawStep : RawOutcome → RawCalled
-ofRawStep o = record { given = record { answer = o .answer; counts = length (o .reply) ∷ []; reply = o .reply; rest = []; state = o .state }; page = o .page }
+ofRawStep o = record { given = record { answer = o .answer; counts = o .taken ∷ length (o .reply) ∷ []; reply = o .reply; rest = []; state = o .state }; page = o .page }
 
 abbrev pub ofRawRun : RawRan → RawCalled
 ofRawRun o = record {
@@ -54,7 +55,7 @@ pub data RawCompleted : List Call → List ℕ → RawState → Type 0 where
 
 -- what C sees of a call: the numbers of its result, and the reply at the front of the room w
 abbrev pub stepSeen : RawStep → List ℕ → RawGiven
-stepSeen r w = record { answer = r .answer; counts = r .replied ∷ []; reply = take (r .replied) w; rest = []; state = r .state }
+stepSeen r w = record { answer = r .answer; counts = r .taken ∷ r .replied ∷ []; reply = take (r .replied) w; rest = []; state = r .state }
 
 -- of a run over the input l, which goes on at `taken`
 abbrev pub runSeen : RawRun → List ℕ → List ℕ → RawGiven
@@ -91,11 +92,16 @@ pub record RawIndistinguishable (p q : List ℕ) (gs hs : List RawGiven) (x y : 
   pub state : x ≡ y
   pub pages : KeptPages p q a b
 
+-- no ESC 6 or ESC 7 send, by its command
+pub record Concealing (y : RawSending) : Type 0 where
+  pub row : y .command ≡ 0x36 → ⊥
+  pub segment : y .command ≡ 0x37 → ⊥
+
 -- demand 3, of two terminals that C runs; protect mode is on where its number is 1
 abbrev pub RawDemand3 : Type 0
 RawDemand3 =
-    (p q : List ℕ) (x : RawState) (calls : List Call) (gs hs : List RawGiven) (y z : RawState) (a b : List ℕ) → x .modes .protect ≡ 1 → AlikePages p q
-    → (RawCompleted calls p x → ⊥) → Performed p x calls gs y a → Performed q x calls hs z b → RawIndistinguishable p q gs hs y z a b
+    (p q : List ℕ) (x : RawState) (calls : List Call) (gs hs : List RawGiven) (y z : RawState) (a b : List ℕ) → x .modes .protect ≡ 1 → Concealing (x .sending)
+    → AlikePages p q → (RawCompleted calls p x → ⊥) → Performed p x calls gs y a → Performed q x calls hs z b → RawIndistinguishable p q gs hs y z a b
 
 -- when one of the six is completed: never in no calls, and in calls by the first or by a later one
 pub record RawCharacterised : Type 0 where

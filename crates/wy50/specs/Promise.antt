@@ -16,7 +16,7 @@ use Rattle.wy50.specs.declared.raw.RawPowerOn.{RawPowerOn}
 use Rattle.wy50.specs.declared.raw.RawStep.{RawStep}
 use Rattle.wy50.specs.declared.raw.RawRun.{RawRun}
 use Rattle.wy50.specs.declared.raw.RawPress.{RawPress}
-use Rattle.wy50.specs.Raw.{isPersonality, personalityAt, packed, unpacked, named}
+use Rattle.wy50.specs.Raw.{flag, isPersonality, personalityAt, packed, unpacked, named}
 
 -- a page of the right length, and numbers that name a possible state
 unfoldable pub rawGood : List ℕ → RawState → Bool
@@ -25,22 +25,24 @@ rawGood p x = both (named x) (good p (unpacked x))
 -- an outcome with its state in numbers
 pub record RawOutcome : Type 0 where
   pub answer : ℕ
+  -- 1 if the byte was taken
+  pub taken : ℕ
   pub state : RawState
   pub page : List ℕ
   pub reply : List ℕ
 
 abbrev pub raw : Outcome → RawOutcome
-raw o = record { answer = o .answer; state = packed (o .state); page = o .page; reply = o .reply }
+raw o = record { answer = o .answer; taken = flag (o .taken); state = packed (o .state); page = o .page; reply = o .reply }
 
 -- power-on with a personality's number. A number that is none answers 7, leaves the page and gives the state of a WY-50
 unfoldable pub rawPowerOn : ℕ → List ℕ → RawOutcome
 rawPowerOn m p =
     pick (isPersonality m) (raw (powerOnRule (personalityAt m) p))
-    (record { answer = 7; state = packed (powerOn Personality.Wy50); page = p; reply = [] })
+    (record { answer = 7; taken = 0; state = packed (powerOn Personality.Wy50); page = p; reply = [] })
 
 -- 7: nothing replied, nothing changed
 abbrev pub badStep : List ℕ → RawState → RawOutcome
-badStep p x = record { answer = 7; state = x; page = p; reply = [] }
+badStep p x = record { answer = 7; taken = 0; state = x; page = p; reply = [] }
 
 unfoldable pub rawStep : List ℕ → RawState → ℕ → ℕ → RawOutcome
 rawStep p x b room = pick (rawGood p x) (raw (stepRule p (unpacked x) b room)) (badStep p x)
@@ -86,6 +88,7 @@ pub record PoweredOn (o : RawOutcome) (r : RawPowerOn) (p : List ℕ) : Type 0 w
 -- w is the room before the call, and w′ after it
 pub record Stepped (o : RawOutcome) (r : RawStep) (p w w′ : List ℕ) : Type 0 where
   pub answer : r .answer ≡ o .answer
+  pub taken : r .taken ≡ o .taken
   pub state : r .state ≡ o .state
   pub replied : r .replied ≡ length (o .reply)
   pub page : p ≡ o .page

@@ -13,6 +13,12 @@ use Rattle.rules.specs.declared.LongText.{LongText}
 use Rattle.rules.specs.declared.Modes.{Modes}
 use Rattle.rules.specs.declared.Pending.{Pending}
 use Rattle.rules.specs.declared.Pending.the-variants as Pending
+use Rattle.rules.specs.declared.Short.{Short}
+use Rattle.rules.specs.declared.Short.the-variants as Short
+use Rattle.rules.specs.declared.Place.{Place}
+use Rattle.rules.specs.declared.Place.the-variants as Place
+use Rattle.rules.specs.declared.Sending.{Sending}
+use Rattle.rules.specs.declared.Sending.the-variants as Sending
 use Rattle.rules.specs.declared.State.{State}
 use Rattle.rules.specs.declared.Personality.{Personality}
 use Rattle.rules.specs.declared.Personality.the-variants as Personality
@@ -21,6 +27,7 @@ use Rattle.wy50.specs.declared.raw.RawKey.{RawKey}
 use Rattle.wy50.specs.declared.raw.RawMessage.{RawMessage}
 use Rattle.wy50.specs.declared.raw.RawModes.{RawModes}
 use Rattle.wy50.specs.declared.raw.RawSequence.{RawSequence}
+use Rattle.wy50.specs.declared.raw.RawSending.{RawSending}
 use Rattle.wy50.specs.declared.raw.RawState.{RawState}
 
 unfoldable pub allBelow : ℕ → List ℕ → Bool
@@ -125,13 +132,13 @@ kinds x y z =
     ∷ (24, Pending.Spoilt Slot.Message)
     ∷ []
 
--- the sequence at a kind in a list; none, where the kind is not there
-unfoldable pub find : List (ℕ × Pending) → ℕ → Pending
-find [] k = Pending.Idle
-find (r ∷ t) k = let q = find t k in pick (eqb k (r .0)) (r .1) q
+-- what stands at a number in a list; x where the number is not there
+unfoldable pub find : {A : Type 0} → A → List (ℕ × A) → ℕ → A
+find x [] k = x
+find x (r ∷ t) k = let q = find x t k in pick (eqb k (r .0)) (r .1) q
 
 abbrev pub pendingAt : RawSequence → ℕ → Pending
-pendingAt q k = find (kinds (q .first) (q .second) (q .third)) k
+pendingAt q k = find Pending.Idle (kinds (q .first) (q .second) (q .third)) k
 
 abbrev pub pendingOf : RawSequence → Pending
 pendingOf q = pendingAt q (q .kind)
@@ -142,6 +149,68 @@ sameSequence a b = both (eqb (a .kind) (b .kind)) (both (eqb (a .first) (b .firs
 -- the numbers are those of a sequence: it gives them back. Not so an unknown kind, or a number that the kind does not have and that is not 0
 unfoldable pub isSequence : RawSequence → Bool
 isSequence q = sameSequence (sequenceOf (pendingOf q)) q
+
+abbrev send : ℕ → ℕ → ℕ → RawSending
+send c k n = record { command = c; kind = k; place = n }
+
+-- the byte that asks for a short reply, after ESC but for 05h
+abbrev pub shortCommand : Short → ℕ
+shortCommand Short.Acknowledge = 0x05
+shortCommand Short.Cell = 0x4d
+shortCommand Short.Identity = 0x20
+shortCommand Short.Cursor = 0x3f
+shortCommand Short.SegmentCursor = 0x2f
+shortCommand Short.DecimalCursor = 0x62
+
+-- and for a text: ESC 4 and ESC 5, ESC 6 and ESC 7
+abbrev pub textCommand : Bool → Bool → ℕ
+textCommand all segment = pick all (pick segment 0x37 0x36) (pick segment 0x35 0x34)
+
+abbrev pub textSending : ℕ → Place → RawSending
+textSending c (Place.Cell i) = send c 1 i
+textSending c (Place.Break i) = send c 2 i
+textSending c Place.Return = send c 3 0
+
+abbrev pub rawSending : Sending → RawSending
+rawSending Sending.Nothing = send 0 0 0
+rawSending (Sending.Short r n) = send (shortCommand r) 0 n
+rawSending (Sending.Text all segment k) = textSending (textCommand all segment) k
+
+-- how many bytes of a short reply went, where a byte holds it; a larger number is not given back
+abbrev pub small : ℕ → ℕ
+small n = pick (ltb n 256) n 0
+
+abbrev pub placeAt : ℕ → ℕ → Place
+placeAt k n = pick (eqb k 1) (Place.Cell n) (pick (eqb k 2) (Place.Break n) Place.Return)
+
+-- the send of each command, at this place
+abbrev pub commands : ℕ → Place → List (ℕ × Sending)
+commands n k =
+    (0x05, Sending.Short Short.Acknowledge n)
+    ∷ (0x20, Sending.Short Short.Identity n)
+    ∷ (0x2f, Sending.Short Short.SegmentCursor n)
+    ∷ (0x34, Sending.Text false false k)
+    ∷ (0x35, Sending.Text false true k)
+    ∷ (0x36, Sending.Text true false k)
+    ∷ (0x37, Sending.Text true true k)
+    ∷ (0x3f, Sending.Short Short.Cursor n)
+    ∷ (0x4d, Sending.Short Short.Cell n)
+    ∷ (0x62, Sending.Short Short.DecimalCursor n)
+    ∷ []
+
+abbrev pub sendingAt : RawSending → ℕ → Sending
+sendingAt y c = find Sending.Nothing (commands (small (y .place)) (placeAt (y .kind) (y .place))) c
+
+abbrev pub sendingOf : RawSending → Sending
+sendingOf y = sendingAt y (y .command)
+
+abbrev pub sameSending : RawSending → RawSending → Bool
+sameSending a b = both (eqb (a .command) (b .command)) (both (eqb (a .kind) (b .kind)) (eqb (a .place) (b .place)))
+
+-- the numbers are those of a send: it gives them back. Not so an unknown command or kind, a kind that is not the command's, a number that the kind
+-- does not have and that is not 0, and more bytes of a short reply than a byte counts
+unfoldable pub isSending : RawSending → Bool
+isSending y = sameSending (rawSending (sendingOf y)) y
 
 abbrev pub rawModes : Modes → RawModes
 rawModes m = record {
@@ -203,6 +272,7 @@ packed s = record {
   personality = personalityNumber (s .core .personality);
   remembered = s .core .attribute;
   sequence = sequenceOf (s .core .pending);
+  sending = rawSending (s .sending);
   gathered = zeroed (gatheredIn (sequenceOf (s .core .pending))) (s .gathered);
   tabs = map flag (shown (s .setup .tabs));
   attributes = s .setup .attributes;
@@ -224,6 +294,7 @@ unpacked x = record {
     personality = personalityAt (x .personality);
     attribute = x .remembered;
   };
+  sending = sendingOf (x .sending);
   gathered = x .gathered;
   setup = record {
     tabs = unshown (map isOn (x .tabs));
@@ -245,6 +316,7 @@ tidied x = record {
   personality = x .personality;
   remembered = x .remembered;
   sequence = x .sequence;
+  sending = x .sending;
   gathered = zeroed (gatheredIn (x .sequence)) (x .gathered);
   tabs = x .tabs;
   attributes = x .attributes;
@@ -255,8 +327,9 @@ tidied x = record {
   shifted = x .shifted;
 }
 
--- whether numbers name a state: modes, tab stops and the shifted line 0 or 1, bells below 256, a sequence's own numbers, a personality's number
+-- whether numbers name a state: modes, tab stops and the shifted line 0 or 1, bells below 256, a sequence's own numbers, a send's own numbers, a
+-- personality's number
 unfoldable pub named : RawState → Bool
 named x =
-    both (areFlags (x .modes)) (both (ltb (x .bells) 256) (both (isSequence (x .sequence)) (both (allBelow 2 (x .tabs))
-    (both (ltb (x .shifted) 2) (isPersonality (x .personality))))))
+    both (areFlags (x .modes)) (both (ltb (x .bells) 256) (both (isSequence (x .sequence)) (both (isSending (x .sending))
+    (both (allBelow 2 (x .tabs)) (both (ltb (x .shifted) 2) (isPersonality (x .personality)))))))

@@ -14,7 +14,7 @@ use Rattle.wy50.specs.declared.raw.RawStep.{RawStep}
 use Rattle.wy50.specs.declared.raw.RawRun.{RawRun}
 use Rattle.wy50.specs.Promise.{Stepped, Completed}
 use Rattle.wy50.specs.Rows.{rawListed, rawStepRows, rawRunRows, rawRowsAfter, rawRebuildAnswer, rawRebuilt}
-use Rattle.wy50.specs.Noninterference.{RawGiven, RawCalled, ofRawStep, ofRawRun, rawCall, RawCompleted, stepSeen, runSeen, Made}
+use Rattle.wy50.specs.Noninterference.{RawGiven, RawCalled, ofRawStep, ofRawRun, rawCall, RawCompleted, stepSeen, runSeen, Made, Concealing}
 
 -- what a C caller keeps from call to call
 pub record RawSession : Type 0 where
@@ -82,6 +82,6 @@ pub record RawRowIndistinguishable (p q : List ℕ) (gs hs : List RawGiven) (ls 
 abbrev pub RawRowDemand3 : Type 0
 RawRowDemand3 =
     (p q l : List ℕ) (x : RawState) (calls : List RowCall) (gs hs : List RawGiven) (ls ms : List (List ℕ)) (y z : RawSession) → x .modes .protect ≡ 1
-    → AlikePages p q → (RawCompleted (bareCalls calls (record { page = p; rows = l; state = x })) p x → ⊥)
+    → Concealing (x .sending) → AlikePages p q → (RawCompleted (bareCalls calls (record { page = p; rows = l; state = x })) p x → ⊥)
     → RowPerformed (record { page = p; rows = l; state = x }) calls gs ls y → RowPerformed (record { page = q; rows = l; state = x }) calls hs ms z
     → RawRowIndistinguishable p q gs hs ls ms y z

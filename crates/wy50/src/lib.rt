@@ -59,7 +59,7 @@ pub extern "C" fn wy50_power_on(page: &mut [u16], personality: u8) -> RawPowerOn
     }
 }
 
-// The single step. Ruled out: one that reads a mode of 2 as off, or obeys another byte.
+// The single step. Ruled out: one that reads a mode of 2 as off, obeys another byte, or counts one that waits as taken.
 #[no_mangle]
 pub extern "C" fn wy50_step(
     page: &mut [u16],
@@ -72,6 +72,7 @@ pub extern "C" fn wy50_step(
     if !is_named(state) {
         return RawStep {
             answer: 7,
+            taken: 0,
             replied: 0,
             state: state,
         };
@@ -83,19 +84,21 @@ pub extern "C" fn wy50_step(
     if n == 7 {
         return RawStep {
             answer: 7,
+            taken: 0,
             replied: 0,
             state: state,
         };
     }
     RawStep {
         answer: n,
+        taken: flag(t.taken),
         replied: t.replied,
         state: pack(s),
     }
 }
 
-// The run over many bytes. The bytes not taken start at `taken` of the input. Ruled out: one that loses the sequence under way between two
-// calls, or gives one count for another.
+// The run over many bytes. The bytes not taken start at `taken` of the input. Ruled out: one that loses the sequence or the send
+// under way between two calls, or gives one count for another.
 #[no_mangle]
 pub extern "C" fn wy50_run(
     page: &mut [u16],
@@ -169,24 +172,27 @@ pub extern "C" fn wy50_step_rows(
     if !is_named(state) {
         return RawStep {
             answer: 7,
+            taken: 0,
             replied: 0,
             state: state,
         };
     }
-    let t = step_rows(page, rows, unpack(state), byte, reply);
-    let s = t.state;
-    let a = t.answer;
+    let r = step_rows(page, rows, unpack(state), byte, reply);
+    let s = r.state;
+    let a = r.answer;
     let n = answer_number(a);
     if n == 7 {
         return RawStep {
             answer: 7,
+            taken: 0,
             replied: 0,
             state: state,
         };
     }
     RawStep {
         answer: n,
-        replied: t.replied,
+        taken: flag(r.taken),
+        replied: r.replied,
         state: pack(s),
     }
 }

@@ -3,11 +3,12 @@ ghost use mathlib.Core.Path.{_≡_};
 ghost use mathlib.Core.List.{map};
 ghost use Prim.Native.Nat.{_<_};
 ghost use lib.ListN.{getD};
-ghost use Rattle.wy50.specs.Raw.{flag, personalityNumber, shown, gatheredIn, zeroed, kindOf, textSequence, spoiltSequence, sequenceOf, rawModes, rawKey, rawMessage, packed};
+ghost use Rattle.wy50.specs.Raw.{flag, personalityNumber, shown, gatheredIn, zeroed, kindOf, textSequence, spoiltSequence, sequenceOf, shortCommand, textCommand, textSending, rawSending, rawModes, rawKey, rawMessage, packed};
 use crate::raw::RawKey;
 use crate::raw::RawMessage;
 use crate::raw::RawModes;
 use crate::raw::RawScreen;
+use crate::raw::RawSending;
 use crate::raw::RawSequence;
 use crate::raw::RawState;
 use rules::Argument;
@@ -15,6 +16,9 @@ use rules::LongText;
 use rules::Modes;
 use rules::Pending;
 use rules::Personality;
+use rules::Place;
+use rules::Sending;
+use rules::Short;
 use rules::ShortText;
 use rules::Slot;
 use rules::State;
@@ -84,6 +88,58 @@ pub fn sequence_of(p: Pending) -> RawSequence
         Pending::FieldNumber(n) => sequence(17, n, 0, 0),
         Pending::Text(x, n) => text_sequence(x, n),
         Pending::Spoilt(x) => spoilt_sequence(x),
+    }
+}
+
+fn send(command: u8, kind: u8, place: u16) -> RawSending
+    ensures { λ r. ⌜ r ≡ record { command = command; kind = kind; place = place } ⌝ }
+{
+    RawSending {
+        command: command,
+        kind: kind,
+        place: place,
+    }
+}
+
+fn short_command(r: Short) -> u8
+    ensures { λ n. ⌜ n ≡ shortCommand r ⌝ }
+{
+    match r {
+        Short::Acknowledge => 0x05,
+        Short::Cell => 0x4d,
+        Short::Identity => 0x20,
+        Short::Cursor => 0x3f,
+        Short::SegmentCursor => 0x2f,
+        Short::DecimalCursor => 0x62,
+    }
+}
+
+fn text_command(all: bool, segment: bool) -> u8
+    ensures { λ r. ⌜ r ≡ textCommand all segment ⌝ }
+{
+    if all {
+        return if segment { 0x37 } else { 0x36 };
+    }
+    if segment { 0x35 } else { 0x34 }
+}
+
+fn text_sending(command: u8, at: Place) -> RawSending
+    ensures { λ r. ⌜ r ≡ textSending command at ⌝ }
+{
+    match at {
+        Place::Cell(i) => send(command, 1, i),
+        Place::Break(i) => send(command, 2, i),
+        Place::Return => send(command, 3, 0),
+    }
+}
+
+pub fn raw_sending(x: Sending) -> RawSending
+    ensures { λ r. ⌜ r ≡ rawSending x ⌝ }
+{
+    match x {
+        Sending::Nothing => send(0, 0, 0),
+        Sending::Short(r, n) => send(short_command(r), 0, n as u16),
+        Sending::Text { all, segment, at } => text_sending(text_command(all, segment), at),
     }
 }
 
@@ -230,6 +286,7 @@ pub fn pack(s: State) -> RawState
     let modes = core.modes;
     let pending = core.pending;
     let personality = core.personality;
+    let sending = s.sending;
     let gathered = s.gathered;
     let tabs = setup.tabs;
     let attributes = setup.attributes;
@@ -251,6 +308,7 @@ pub fn pack(s: State) -> RawState
         personality: personality_number(personality),
         remembered: core.attribute,
         sequence: q,
+        sending: raw_sending(sending),
         gathered: bytes,
         tabs: raw_tabs(tabs),
         attributes: attributes,

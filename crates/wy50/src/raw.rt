@@ -42,6 +42,14 @@ pub struct RawSequence {
     pub third: u16,
 }
 
+// The send under way: the command that asked for it, what stands at its place, and the number of the place; all 0 where there is none.
+#[repr(C)]
+pub struct RawSending {
+    pub command: u8,
+    pub kind: u8,
+    pub place: u16,
+}
+
 // A tab stop is 0 or 1, and so is `shifted`. The personality is 50 or 60, and `remembered` the attribute that ESC G sets in the 60. `gathered` are
 // the bytes of a text under way; the sequence says how many.
 #[repr(C)]
@@ -52,6 +60,7 @@ pub struct RawState {
     pub personality: u8,
     pub remembered: u8,
     pub sequence: RawSequence,
+    pub sending: RawSending,
     pub gathered: [u8; 46],
     pub tabs: [u8; 80],
     pub attributes: [u8; 4],
@@ -71,6 +80,7 @@ pub struct RawPowerOn {
 #[repr(C)]
 pub struct RawStep {
     pub answer: u8,
+    pub taken: u8,
     pub replied: usize,
     pub state: RawState,
 }

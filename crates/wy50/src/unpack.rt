@@ -2,11 +2,13 @@
 ghost use mathlib.Core.Path.{_≡_};
 ghost use mathlib.Core.Bool.{true};
 ghost use mathlib.Core.List.{map};
-ghost use Rattle.wy50.specs.Raw.{allBelow, isOn, isPersonality, personalityAt, unshown, pendingOf, sameSequence, isSequence, areFlags, modesOf, keyOf, messageOf, named, unpacked};
+ghost use Rattle.wy50.specs.Raw.{allBelow, isOn, isPersonality, personalityAt, unshown, pendingOf, sameSequence, isSequence, small, placeAt, sendingOf, sameSending, isSending, areFlags, modesOf, keyOf, messageOf, named, unpacked};
+use crate::pack::raw_sending;
 use crate::pack::sequence_of;
 use crate::raw::RawKey;
 use crate::raw::RawMessage;
 use crate::raw::RawModes;
+use crate::raw::RawSending;
 use crate::raw::RawSequence;
 use crate::raw::RawState;
 use rules::Argument;
@@ -15,8 +17,11 @@ use rules::LongText;
 use rules::Modes;
 use rules::Pending;
 use rules::Personality;
+use rules::Place;
 use rules::Screen;
+use rules::Sending;
 use rules::Setup;
+use rules::Short;
 use rules::ShortText;
 use rules::Slot;
 use rules::State;
@@ -73,6 +78,80 @@ fn is_sequence(q: RawSequence) -> bool
     same_sequence(sequence_of(p), q)
 }
 
+fn small(n: u16) -> u8
+    ensures { λ r. ⌜ r ≡ small n ⌝ }
+{
+    if n < 256 {
+        return n as u8;
+    }
+    0
+}
+
+fn place_at(kind: u8, n: u16) -> Place
+    ensures { λ r. ⌜ r ≡ placeAt kind n ⌝ }
+{
+    if kind == 1 {
+        return Place::Cell(n);
+    }
+    if kind == 2 {
+        return Place::Break(n);
+    }
+    Place::Return
+}
+
+// The send of a command, at its place; no other command has one.
+fn sending_of(x: RawSending) -> Sending
+    ensures { λ r. ⌜ r ≡ sendingOf x ⌝ }
+{
+    let c = x.command;
+    let n = small(x.place);
+    let at = place_at(x.kind, x.place);
+    match c {
+        0x05 => Sending::Short(Short::Acknowledge, n),
+        0x20 => Sending::Short(Short::Identity, n),
+        0x2f => Sending::Short(Short::SegmentCursor, n),
+        0x34 => Sending::Text {
+            all: false,
+            segment: false,
+            at: at,
+        },
+        0x35 => Sending::Text {
+            all: false,
+            segment: true,
+            at: at,
+        },
+        0x36 => Sending::Text {
+            all: true,
+            segment: false,
+            at: at,
+        },
+        0x37 => Sending::Text {
+            all: true,
+            segment: true,
+            at: at,
+        },
+        0x3f => Sending::Short(Short::Cursor, n),
+        0x4d => Sending::Short(Short::Cell, n),
+        0x62 => Sending::Short(Short::DecimalCursor, n),
+        _ => Sending::Nothing,
+    }
+}
+
+fn same_sending(a: RawSending, b: RawSending) -> bool
+    ensures { λ r. ⌜ r ≡ sameSending a b ⌝ }
+{
+    let places = and(a.kind == b.kind, a.place == b.place);
+    and(a.command == b.command, places)
+}
+
+// Whether the numbers are those of a send: it gives them back.
+fn is_sending(x: RawSending) -> bool
+    ensures { λ r. ⌜ r ≡ isSending x ⌝ }
+{
+    let y = sending_of(x);
+    same_sending(raw_sending(y), x)
+}
+
 fn are_flags(m: RawModes) -> bool
     ensures { λ r. ⌜ r ≡ areFlags m ⌝ }
 {
@@ -100,9 +179,11 @@ pub fn is_named(x: RawState) -> bool
 {
     let modes = x.modes;
     let sequence = x.sequence;
+    let sending = x.sending;
     let tabs = x.tabs;
     let choices = and(x.shifted < 2, is_personality(x.personality));
-    let rest = and(is_sequence(sequence), and(are_tabs(tabs), choices));
+    let settings = and(are_tabs(tabs), choices);
+    let rest = and(is_sequence(sequence), and(is_sending(sending), settings));
     and(are_flags(modes), and(x.bells < 256, rest))
 }
 
@@ -201,6 +282,7 @@ pub fn unpack(x: RawState) -> State
 {
     let modes = x.modes;
     let sequence = x.sequence;
+    let sending = x.sending;
     let gathered = x.gathered;
     let tabs = x.tabs;
     let attributes = x.attributes;
@@ -224,6 +306,7 @@ pub fn unpack(x: RawState) -> State
             personality: personality_at(x.personality),
             attribute: x.remembered,
         },
+        sending: sending_of(sending),
         gathered: gathered,
         setup: Setup {
             tabs: tabs_of(tabs),

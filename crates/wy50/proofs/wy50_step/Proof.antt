@@ -36,6 +36,8 @@ wy50-step-spec =
     let t = n .before .before .before .before .before .before in
     let u = t .before .before in
     step-seven _ _ _ (known (u .before .before)) (u .unpack .ensures) _ (t .step .ensures) (n .answer-number .ensures) (c .if2 .taken))
+    -- flag-requires
+    (λ c κs. search needs)
     -- pack-requires
     (λ c κs. search needs)
     -- same-length-3
@@ -44,7 +46,9 @@ wy50-step-spec =
     (λ c. search needs)
     -- returns-3
     (λ c.
-    let n = c .before .before in
+    let f = c .before in
+    let n = f .before .before in
     let t = n .before .before .before .before .before .before in
     let u = t .before .before in
-    stepped _ _ _ _ (known (u .before .before)) (u .unpack .ensures) (t .step .ensures) (n .answer-number .ensures) (c .before .if2 .left) (c .pack .ensures)))
+    stepped _ _ _ _ (known (u .before .before)) (u .unpack .ensures) (t .step .ensures) (n .answer-number .ensures) (f .before .if2 .left) (f .flag .ensures)
+    (c .pack .ensures)))

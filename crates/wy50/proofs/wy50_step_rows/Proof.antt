@@ -45,6 +45,8 @@ wy50-step-rows-spec =
     let u = unpacked t in
     rows-step-seven _ _ _ _ (known (u .before .before .before)) (u .unpack .ensures) _ (t .step-rows .ensures .0) (t .step-rows .ensures .1)
     (n .answer-number .ensures) (c .if2 .taken))
+    -- flag-requires
+    (λ c κs. search needs)
     -- pack-requires
     (λ c κs. search needs)
     -- same-length-4
@@ -55,8 +57,9 @@ wy50-step-rows-spec =
     (λ c. search needs)
     -- returns-3
     (λ c.
-    let n = c .before .before in
+    let f = c .before in
+    let n = f .before .before in
     let t = called n in
     let u = unpacked t in
     rows-stepped _ _ _ _ (known (u .before .before .before)) (u .unpack .ensures) _ (t .step-rows .ensures .0) (t .step-rows .ensures .1)
-    (n .answer-number .ensures) (c .before .if2 .left) (c .pack .ensures)))
+    (n .answer-number .ensures) (f .before .if2 .left) (f .flag .ensures) (c .pack .ensures)))

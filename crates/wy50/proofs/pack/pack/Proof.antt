@@ -21,6 +21,8 @@ pack-spec =
     (λ c. search needs)
     -- personality-number-requires
     (λ c κs. search needs)
+    -- raw-sending-requires
+    (λ c κs. search needs)
     -- raw-tabs-requires
     (λ c κs. search needs)
     -- raw-keys-requires
@@ -34,7 +36,7 @@ pack-spec =
     -- returns
     (λ c.
     let k = c .before .before .before in
-    let m = k .before .before .before .before in
+    let m = k .before .before .before .before .before in
     let g = m .before in
     rw (
       c .raw-shifted .ensures,
@@ -42,7 +44,8 @@ pack-spec =
       c .before .before .raw-labels .ensures,
       k .raw-keys .ensures,
       k .before .raw-tabs .ensures,
-      k .before .before .personality-number .ensures,
+      k .before .before .raw-sending .ensures,
+      k .before .before .before .personality-number .ensures,
       m .raw-modes .ensures,
       g .raw-gathered .ensures,
       g .before .gathered-in .ensures,

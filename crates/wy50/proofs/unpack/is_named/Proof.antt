@@ -14,32 +14,38 @@ is-named-spec =
     (λ c κs. search needs)
     -- and-requires
     (λ c κs. search needs)
-    -- is-sequence-requires
-    (λ c κs. search needs)
     -- are-tabs-requires
     (λ c κs. search needs)
     -- and-requires-2
     (λ c κs. search needs)
-    -- and-requires-3
+    -- is-sequence-requires
     (λ c κs. search needs)
-    -- are-flags-requires
+    -- is-sending-requires
+    (λ c κs. search needs)
+    -- and-requires-3
     (λ c κs. search needs)
     -- and-requires-4
     (λ c κs. search needs)
+    -- are-flags-requires
+    (λ c κs. search needs)
     -- and-requires-5
+    (λ c κs. search needs)
+    -- and-requires-6
     (λ c κs. search needs)
     -- returns
     (λ c.
     let flags = c .before .before .before in
     let rest = flags .before in
-    let choices = rest .before .before .before .before in
-    c .and5 .ensures
+    let settings = rest .before .before .before .before in
+    let choices = settings .before .before in
+    c .and6 .ensures
     ∙ rw (
-      c .before .and4 .ensures,
-      rest .and3 .ensures,
-      rest .before .and2 .ensures,
+      c .before .and5 .ensures,
+      rest .and4 .ensures,
+      rest .before .and3 .ensures,
+      settings .and2 .ensures,
       choices .and .ensures,
       choices .before .is-personality .ensures,
       flags .are-flags .ensures,
     )
-    (rw (rest .before .before .are-tabs .ensures, rest .before .before .before .is-sequence .ensures))))
+    (rw (settings .before .are-tabs .ensures, rest .before .before .is-sending .ensures, rest .before .before .before .is-sequence .ensures))))

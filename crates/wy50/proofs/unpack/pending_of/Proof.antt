@@ -1,5 +1,6 @@
 -- `wy50::unpack::pending_of` meets its contract. Each arm is a row of the table, and the last one none of them.
 use mathlib.Core.Path.{sym, ap}
+use Rattle.rules.specs.declared.Pending.the-variants as Pending
 use Rattle.wy50.specs.Raw.{find, kinds, pendingAt}
 use Rattle.wy50.proofs.Loops.{not-found}
 use Rattle.wy50.proofs.unpack.pending_of.Statement.{statement}
@@ -59,4 +60,4 @@ pending-of-spec =
     -- returns-24
     (λ c. sym (ap (pendingAt (c .before .args .q)) (c .match .keys24)))
     -- returns-25
-    (λ c. let q = c .before .args .q in sym (not-found (Unit {0}) (q .kind) (kinds (q .first) (q .second) (q .third)) (c .match .rest) .1)))
+    (λ c. let q = c .before .args .q in sym (not-found Pending.Idle (Unit {0}) (q .kind) (kinds (q .first) (q .second) (q .third)) (c .match .rest) .1)))

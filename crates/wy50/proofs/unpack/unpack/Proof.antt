@@ -14,11 +14,13 @@ unpack-spec =
     (λ c κs. search needs)
     -- cast-t14
     (λ c.
-    let start = c .before .before .before .before .before .before .before .before .before .before .before .before in
+    let start = c .before .before .before .before .before .before .before .before .before .before .before .before .before in
     record { fits = named-bells (start .args .x) (start .pre) })
     -- pending-of-requires
     (λ c κs. search needs)
     -- personality-at-requires
+    (λ c κs. search needs)
+    -- sending-of-requires
     (λ c κs. search needs)
     -- tabs-of-requires
     (λ c κs. search needs)
@@ -31,13 +33,14 @@ unpack-spec =
     -- returns
     (λ c.
     let k = c .before .before .before in
-    let q = k .before .before .before in
+    let q = k .before .before .before .before in
     rw (
       c .before .message-of .ensures,
       c .before .before .labels-of .ensures,
       k .keys-of .ensures,
       k .before .tabs-of .ensures,
-      k .before .before .personality-at .ensures,
+      k .before .before .sending-of .ensures,
+      k .before .before .before .personality-at .ensures,
       q .pending-of .ensures,
       q .before .before .modes-of .ensures,
     )))
