@@ -6,6 +6,7 @@ mod book;
 mod calls;
 mod counter;
 mod moves;
+mod narrow;
 mod personalities;
 mod possible;
 mod protection;
@@ -39,5 +40,6 @@ pub fn script() -> Vec<u8> {
     book.counter();
     book.rows();
     book.personalities();
+    book.narrow_sends();
     book.text
 }

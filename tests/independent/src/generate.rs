@@ -7,12 +7,13 @@ mod personalities;
 mod phrases;
 mod rows;
 mod scenes;
+mod sends;
 mod texts;
 
 use crate::random::Random;
-use crate::state::{Personality, Sequence};
-use crate::terminal::{Run, Terminal};
-use crate::transcript::{set, Bench, Line};
+use crate::state::Sequence;
+use crate::terminal::{Refusal, Terminal};
+use crate::transcript::{Bench, Line};
 pub use counts::count_line;
 use std::collections::VecDeque;
 
@@ -80,34 +81,16 @@ impl Generator {
     }
 
     pub fn add(&mut self, line: Line) {
-        let mut room = [0; DRY_ROOM];
-        let Bench { terminal, rows } = &mut self.bench;
+        let taken = self.bench.follow(&line);
+        let taken = taken.unwrap_or_else(|| panic!("a line that cannot be set: {line:?}"));
         match &line {
-            Line::On(personality) => {
-                let _ = terminal.power_on(personality.unwrap_or(Personality::Wy50));
+            Line::Run { bytes, .. } | Line::ListRun { bytes, .. } => {
+                self.send_again_or_forget(&bytes[taken..]);
             }
-            Line::Step { byte, room: size } => {
-                let _ = terminal.step(*byte, &mut room[..*size]);
+            Line::Step { byte, .. } | Line::ListStep { byte, .. } if taken == 0 => {
+                self.send_again_or_forget(&[*byte]);
             }
-            Line::ListStep { byte, room: size } => {
-                let _ = terminal.step_with_rows(*byte, &mut room[..*size], rows);
-            }
-            Line::Run { bytes, room: size } => {
-                let Run { rest, .. } = terminal.run(bytes, &mut room[..*size]);
-                self.send_again_or_forget(rest);
-            }
-            Line::ListRun { bytes, room: size } => {
-                let Run { rest, .. } = terminal.run_with_rows(bytes, &mut room[..*size], rows);
-                self.send_again_or_forget(rest);
-            }
-            Line::Rebuild => {
-                let _ = terminal.rebuild_rows(rows);
-            }
-            Line::Press { .. } | Line::Show | Line::Count { .. } | Line::Entry(_) => {}
-            _ => assert!(
-                set(&mut self.bench, &line),
-                "a line that cannot be set: {line:?}"
-            ),
+            _ => {}
         }
         self.calls += line.is_output() as usize;
         self.script.push(line);
@@ -129,6 +112,9 @@ impl Generator {
     }
 
     pub fn call(&mut self) {
+        if self.random.once_in(4) && !self.avoids_excluded {
+            self.disturb_send();
+        }
         if self.tend_rows() {
             return self.rebuild();
         }
@@ -161,6 +147,7 @@ impl Generator {
             .terminal
             .clone()
             .step(byte, &mut room)
+            .outcome
             .unwrap_or(0);
         let room = self.room_about(replied);
         let mut bytes = vec![byte];
@@ -201,9 +188,20 @@ impl Generator {
 
     /// A room for a call that would reply so many bytes if it could.
     fn room_about(&mut self, replied: usize) -> usize {
+        let narrow = match (self.is_sending(), replied) {
+            (true, _) => self.random.below(4) > 0,
+            (false, 0) => self.random.once_in(8),
+            (false, _) => self.random.once_in(3),
+        };
+        if narrow {
+            return self.narrow_room();
+        }
         match self.random.below(16) {
             0..=2 => self.random.within(0..=10),
-            3..=6 => (replied + self.random.within(0..=2)).saturating_sub(1),
+            3..=6 => {
+                let room = replied + self.random.within(0..=2);
+                room.saturating_sub(1).min(DRY_ROOM)
+            }
             7 => self.random.within(0..=replied),
             8 => self.random.within(LONGEST_REPLY - 4..=LONGEST_REPLY + 4),
             9 | 10 => self.random.within(0..=2000),
@@ -213,29 +211,36 @@ impl Generator {
 
     /// Puts other bytes in the place of those that would complete an excluded command.
     fn replace_excluded(&self, bytes: &mut [u8], room: usize) {
+        while let Some(place) = self.excluded_place(bytes, room) {
+            bytes[place] = b'?';
+        }
+    }
+
+    fn excluded_place(&self, bytes: &[u8], room: usize) -> Option<usize> {
         if !self.avoids_excluded {
-            return;
+            return None;
         }
-        let mut terminal = self.bench.terminal.clone();
-        let mut scratch = [0; DRY_ROOM];
-        let mut left = room;
-        for byte in bytes {
-            if completes_excluded(&terminal, *byte, left) {
-                *byte = b'?';
-            }
-            match terminal.step(*byte, &mut scratch[..left]) {
-                Ok(replied) => left -= replied,
-                Err(refusal) if refusal as u8 >= 6 => break,
-                Err(_) => {}
-            }
-        }
+        excluded_byte(&self.bench.terminal, bytes, room)
     }
 }
 
-/// Whether this byte is the last of an excluded command and would answer 0.
-pub fn completes_excluded(terminal: &Terminal, byte: u8, room: usize) -> bool {
-    let mut scratch = [0; DRY_ROOM];
-    terminal.state.sequence == Sequence::Escape
-        && EXCLUDED.contains(&byte)
-        && terminal.clone().step(byte, &mut scratch[..room]).is_ok()
+/// The place of the byte that would be the last of an excluded command in a run
+/// and would answer 0.
+pub fn excluded_byte(terminal: &Terminal, bytes: &[u8], room: usize) -> Option<usize> {
+    let mut terminal = terminal.clone();
+    let mut room = vec![0; room];
+    let mut replied = terminal.run(&[], &mut room).replied;
+    for (place, &byte) in bytes.iter().enumerate() {
+        if !terminal.is_possible() || terminal.state.sending.is_some() {
+            break;
+        }
+        let escaped = terminal.state.sequence == Sequence::Escape;
+        match terminal.step(byte, &mut room[replied..]).outcome {
+            Ok(_) if escaped && EXCLUDED.contains(&byte) => return Some(place),
+            Ok(count) => replied += count,
+            Err(Refusal::NoRoom) => break,
+            Err(_) => {}
+        }
+    }
+    None
 }

@@ -6,6 +6,8 @@ mod cell;
 mod codes;
 #[path = "state/personality.rs"]
 mod personality;
+#[path = "state/sending.rs"]
+mod sending;
 #[path = "state/sequence.rs"]
 mod sequence;
 #[path = "state/tabs.rs"]
@@ -16,6 +18,7 @@ mod text;
 pub use cell::Cell;
 pub use codes::{feature_number, is_attribute, key_number, label_number};
 pub use personality::{Flags, Personality};
+pub use sending::{Place, Sending};
 pub use sequence::{Gathered, Sequence};
 use std::ops::Range;
 pub use tabs::TabStops;
@@ -64,6 +67,7 @@ pub struct State {
     pub personality: Personality,
     /// What is kept with every character and graphic stored.
     pub remembered: Flags,
+    pub sending: Option<Sending>,
 }
 
 impl State {
@@ -91,6 +95,7 @@ impl State {
             shifted: false,
             personality,
             remembered: Flags::NORMAL,
+            sending: None,
         }
     }
 
@@ -105,6 +110,7 @@ impl State {
             && self.attributes.iter().all(|&code| is_attribute(code))
             && (0..5).all(|number| feature_number(self.features[number]) == Some(number))
             && self.remembered.can_be_remembered(self.personality)
+            && self.has_possible_send()
     }
 
     fn has_possible_cursors(&self) -> bool {
@@ -118,6 +124,15 @@ impl State {
                 self.segment(number)
                     .contains(&(self.cursors[number] as usize))
             })
+    }
+
+    /// The active cursor.
+    pub fn cursor(&self) -> usize {
+        self.cursors[self.active as usize] as usize
+    }
+
+    pub fn active_segment(&self) -> Range<usize> {
+        self.segment(self.active as usize)
     }
 
     /// The cells of a segment; unsplit, the whole page for both.

@@ -48,6 +48,21 @@ pub fn answer_number(outcome: Outcome) -> u8 {
 
 const DONE: Outcome = Ok(0);
 
+/// What a single step gives back.
+#[derive(Clone, Copy, PartialEq, Eq, Debug)]
+pub struct Step {
+    pub outcome: Outcome,
+    /// Whether the step's own byte was taken.
+    pub own: bool,
+}
+
+impl Step {
+    const IMPOSSIBLE: Step = Step {
+        outcome: Err(Refusal::Impossible),
+        own: false,
+    };
+}
+
 /// What a run over many bytes reports.
 #[derive(Clone, Copy, PartialEq, Eq, Debug)]
 pub struct Run<'a> {
@@ -95,41 +110,57 @@ impl Terminal {
         DONE
     }
 
-    pub fn step(&mut self, byte: u8, room: &mut [u8]) -> Outcome {
+    /// During a send the room is for the send alone, and the byte waits.
+    pub fn step(&mut self, byte: u8, room: &mut [u8]) -> Step {
         if !self.is_possible() {
-            return Err(Refusal::Impossible);
+            return Step::IMPOSSIBLE;
         }
-        self.take(byte, room)
+        if self.state.sending.is_none() {
+            let outcome = self.take(byte, room);
+            let own = outcome != Err(Refusal::NoRoom);
+            return Step { outcome, own };
+        }
+        let outcome = match room.len() {
+            0 => Err(Refusal::NoRoom),
+            _ => Ok(self.go_on(room)),
+        };
+        Step {
+            outcome,
+            own: false,
+        }
     }
 
     pub fn run<'a>(&mut self, input: &'a [u8], room: &mut [u8]) -> Run<'a> {
         if !self.is_possible() {
             return Run::impossible(input);
         }
-        let (mut replied, mut refused) = (0, 0);
-        for (taken, &byte) in input.iter().enumerate() {
-            match self.take(byte, &mut room[replied..]) {
-                Ok(count) => replied += count,
-                Err(Refusal::NoRoom) => {
-                    let answer = Refusal::NoRoom as u8;
-                    return Run {
-                        answer,
-                        taken,
-                        replied,
-                        refused,
-                        rest: &input[taken..],
-                    };
-                }
-                Err(_) => refused += 1,
-            }
-        }
-        Run {
+        let mut report = Run {
             answer: 0,
-            taken: input.len(),
-            replied,
-            refused,
-            rest: &[],
+            taken: 0,
+            replied: self.go_on(room),
+            refused: 0,
+            rest: input,
+        };
+        while let [byte, rest @ ..] = report.rest {
+            if self.state.sending.is_some() {
+                // The room ended inside a send.
+                if room.is_empty() {
+                    report.answer = Refusal::NoRoom as u8;
+                }
+                break;
+            }
+            match self.take(*byte, &mut room[report.replied..]) {
+                Ok(count) => report.replied += count,
+                Err(Refusal::NoRoom) => {
+                    report.answer = Refusal::NoRoom as u8;
+                    break;
+                }
+                Err(_) => report.refused += 1,
+            }
+            report.taken += 1;
+            report.rest = rest;
         }
+        report
     }
 
     pub fn press(&self, value: u8, room: &mut [u8]) -> Outcome {
@@ -140,6 +171,9 @@ impl Terminal {
             return Err(Refusal::Locked);
         }
         let number = key_number(value).ok_or(Refusal::BadArgument)?;
+        if self.state.sending.is_some() {
+            return Err(Refusal::NoRoom);
+        }
         match self.state.keys[number].kept() {
             [] => reply(room, &[SOH, value, CR]),
             text => reply(room, text),

@@ -1,6 +1,7 @@
 //! The bench list and the transcript's example.
 
 mod counter;
+mod narrow;
 mod personalities;
 mod rows;
 mod sends;
@@ -25,7 +26,7 @@ fn answers(terminal: &mut Terminal, bytes: &[u8]) -> Vec<u8> {
     let mut room = [0; 2000];
     bytes
         .iter()
-        .map(|&byte| answer_number(terminal.step(byte, &mut room)))
+        .map(|&byte| answer_number(terminal.step(byte, &mut room).outcome))
         .collect()
 }
 
@@ -144,14 +145,15 @@ fn bench_12_longest_reply() {
     let mut terminal = Terminal::new();
     replies(&mut terminal, b"\x1b=\x37\x6f");
     let mut room = [0xEE; 1944];
-    let report = terminal.run(b"\x1b7", &mut room[..1943]);
+    let report = terminal.run(b"\x1b7A", &mut room[..1943]);
     assert_eq!(
         (report.answer, report.taken, report.replied, report.rest),
-        (6, 1, 0, &b"7"[..])
+        (0, 2, 1943, &b"A"[..])
     );
-    assert!(room.iter().all(|&byte| byte == 0xEE));
-    assert_eq!(terminal.step(b'7', &mut room[..1943]), Err(Refusal::NoRoom));
-    assert_eq!(terminal.step(b'7', &mut room), Ok(1944));
+    assert_eq!(room[1942..], [b' ', 0xEE]);
+    let report = terminal.run(b"", &mut room);
+    assert_eq!((report.answer, report.replied, room[0]), (0, 1, 0x0D));
+    assert_eq!(terminal.run(b"\x1b7", &mut room).replied, 1944);
 }
 
 #[test]
@@ -168,7 +170,7 @@ fn run_is_the_step_repeated() {
         let report = ran.run(&bytes, &mut room);
         let (mut replied, mut refused) = (0, 0);
         for &byte in &bytes {
-            match stepped.step(byte, &mut stepped_room[replied..]) {
+            match stepped.step(byte, &mut stepped_room[replied..]).outcome {
                 Ok(count) => replied += count,
                 Err(_) => refused += 1,
             }
@@ -207,16 +209,16 @@ fn transcript_example() {
     assert_eq!(outcome, Ok(()));
     let lines: Vec<&str> = trace.lines().collect();
     assert!(lines[0].starts_with("1 on answer=0 active=0 cursors=0,0 split=0 modes=000100 "));
-    assert!(lines[0]
-        .ends_with(" keys=- bells=0 pending=- message=- labels=- shifted=0 personality=50 remembered=0 page=ad1806b01441cf25"));
+    assert!(lines[0].contains(" keys=- bells=0 pending=- message=- labels=- shifted=0 "));
+    assert!(lines[0].ends_with(" personality=50 remembered=0 sending=- page=ad1806b01441cf25"));
     assert!(lines[1].starts_with(
         "2 run answer=0 taken=3 replied=0 refused=0 rest=- reply=- beyond=1 active=0 cursors=1,0 "
     ));
     assert!(lines[1].contains(" modes=010100 "));
     assert!(lines[1].ends_with(" page=2247f1d9654793e4"));
-    assert!(lines[2].starts_with("3 step answer=0 reply=- beyond=1 "));
+    assert!(lines[2].starts_with("3 step answer=0 reply=- beyond=1 own=1 active=0 "));
     assert!(lines[2].contains(" pending=1b message=- labels=- shifted=0 personality=50 "));
-    assert!(lines[2].ends_with(" remembered=0 page=2247f1d9654793e4"));
+    assert!(lines[2].ends_with(" remembered=0 sending=- page=2247f1d9654793e4"));
 }
 
 #[test]
@@ -238,6 +240,12 @@ fn bad_lines_are_named() {
         ("on 60\non 50\non 55\n", 3),
         ("remembered 31\nremembered 32\n", 2),
         ("personality 60\npersonality 0\n", 2),
+        ("sending -\nsending 1b34:cr\nsending 1b34\n", 3),
+        ("sending 1b35:u160\nsending 1b35:u161\n", 2),
+        ("sending 1b35:65535\nsending 1b35:65536\n", 2),
+        ("sending 1b62:255\nsending 1b62:cr\n", 2),
+        ("sending 1b4d:0\n", 1),
+        ("sending 1b3F:1\n", 1),
         ("rebuild\nliststep 1b\n", 2),
         ("pending 1b4600\n", 1),
         ("pending 1b4641+\n", 1),

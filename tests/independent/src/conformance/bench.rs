@@ -50,10 +50,12 @@ impl Book {
         self.case("bench 12: the longest reply");
         self.run(b"\x1b=\x37\x6f");
         self.step_in(ESC, 1943);
+        self.step_in(b'7', 0);
         self.step_in(b'7', 1943);
         self.step_in(b'7', 1944);
         self.run_in(b"\x1b7", 1943);
-        self.run_in(b"7", 1944);
+        self.run_in(b"", 1);
+        self.run_in(b"\x1b7", 1944);
     }
 
     pub(super) fn slips(&mut self) {

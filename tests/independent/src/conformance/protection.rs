@@ -14,10 +14,9 @@ impl Book {
             self.run(b"\x1b&");
             self.step_in(ESC, 0);
             self.step_in(b'6', 0);
-            self.step_in(b'6', 5);
+            self.step_in(b'7', 0);
             self.step_in(b'?', 5);
-            self.step_in(ESC, 0);
-            self.step_in(b'7', 80);
+            self.run_in(b"\x1b7", 0);
             self.step_in(b'5', 80);
             self.show();
         }

@@ -44,7 +44,7 @@ impl Generator {
 
     pub fn impossible(&mut self) {
         let high_byte = self.random.byte_within(0x80..=0xFF);
-        let line = match self.random.below(12) {
+        let line = match self.random.below(14) {
             0 => Line::Active(self.random.pick(&[1, 2, 3, 128, 255])),
             1 => Line::Split(self.random.pick(&[1, 25, 26, 128, 255])),
             2 => Line::Cursor {
@@ -72,6 +72,7 @@ impl Generator {
             }
             7 | 8 => self.impossible_text(),
             11 => self.impossible_memory(),
+            12 | 13 if self.bench.terminal.is_possible() => self.impossible_sending(),
             9 => {
                 let value = self
                     .random
@@ -118,6 +119,9 @@ impl Generator {
     fn return_to_possible(&mut self) {
         if self.bench.terminal.page.len() != CELLS {
             self.add(Line::Length(CELLS));
+        }
+        if !self.bench.terminal.is_possible() && self.random.once_in(3) {
+            self.forget_send();
         }
         if !self.bench.terminal.is_possible() {
             self.power_on_either();

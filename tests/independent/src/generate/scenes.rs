@@ -24,8 +24,15 @@ impl Generator {
             let line = self.pending();
             self.add(line);
         }
+        if self.random.once_in(4) && self.bench.terminal.is_possible() {
+            let line = self.sending();
+            self.add(line);
+        }
         if self.random.once_in(4) {
             self.row_scene();
+        }
+        if !self.bench.terminal.is_possible() {
+            self.forget_send();
         }
     }
 

@@ -1,6 +1,6 @@
 //! A pair of scripts.
 
-use crate::generate::{completes_excluded, Generator};
+use crate::generate::{excluded_byte, Generator};
 use crate::state::Cell;
 use crate::transcript::{set, Bench, Line};
 
@@ -74,7 +74,13 @@ impl Pair {
         let (Some(mut first), Some(second)) = (self.start_bench(0), self.start_bench(1)) else {
             return false;
         };
+        let sends_protected_text = first
+            .terminal
+            .state
+            .sending
+            .is_some_and(|sending| matches!(sending.command, b'6' | b'7'));
         first.terminal.state.modes.protect
+            && !sends_protected_text
             && are_alike(&first.terminal.page, &second.terminal.page)
             && first.rows == second.rows
             && self
@@ -92,38 +98,20 @@ fn are_alike(first: &[Cell], second: &[Cell]) -> bool {
 }
 
 /// A list call whose list agrees takes the same bytes as one without a list; one
-/// whose list does not agree takes none.
+/// whose list does not agree takes none, and a step takes none during a send.
 fn obeys_without_excluded(bench: &mut Bench, call: &Line) -> bool {
     let Bench { terminal, rows } = bench;
+    let is_sending = terminal.state.sending.is_some();
     let (bytes, room) = match call {
-        Line::Step { byte, room } => (std::slice::from_ref(byte), *room),
-        Line::Run { bytes, room } => (&bytes[..], *room),
-        Line::ListStep { .. } | Line::ListRun { .. } if !terminal.agrees_with(rows) => return true,
-        Line::ListStep { byte, room } => (std::slice::from_ref(byte), *room),
-        Line::ListRun { bytes, room } => (&bytes[..], *room),
-        Line::Rebuild => {
-            let _ = terminal.rebuild_rows(rows);
-            return true;
+        Line::ListStep { .. } | Line::ListRun { .. } if !terminal.agrees_with(rows) => (&[][..], 0),
+        Line::Step { .. } | Line::ListStep { .. } if is_sending => (&[][..], 0),
+        Line::Step { byte, room } | Line::ListStep { byte, room } => {
+            (std::slice::from_ref(byte), *room)
         }
-        _ if call.is_output() => return true,
-        _ => return set(bench, call),
+        Line::Run { bytes, room } | Line::ListRun { bytes, room } => (&bytes[..], *room),
+        _ => (&[][..], 0),
     };
-    let mut scratch = vec![0; room];
-    let mut replied = 0;
-    for &byte in bytes {
-        if completes_excluded(terminal, byte, room - replied) {
-            return false;
-        }
-        match terminal.step(byte, &mut scratch[replied..]) {
-            Ok(count) => replied += count,
-            Err(refusal) if refusal as u8 >= 6 => break,
-            Err(_) => {}
-        }
-    }
-    if matches!(call, Line::ListStep { .. } | Line::ListRun { .. }) {
-        let _ = terminal.rebuild_rows(rows);
-    }
-    true
+    excluded_byte(terminal, bytes, room).is_none() && bench.follow(call).is_some()
 }
 
 fn set_scene(generator: &mut Generator) {
@@ -142,6 +130,9 @@ fn set_scene(generator: &mut Generator) {
     if generator.random.coin() {
         let pending = generator.pending();
         generator.add(pending);
+    } else if generator.random.once_in(3) {
+        let sending = generator.sending();
+        generator.add(sending);
     }
     match generator.random.below(40) {
         0 => generator.impossible(),

@@ -5,11 +5,11 @@ use std::ops::Range;
 
 impl Terminal {
     pub(super) fn cursor(&self) -> usize {
-        self.state.cursors[self.state.active as usize] as usize
+        self.state.cursor()
     }
 
     pub(super) fn segment(&self) -> Range<usize> {
-        self.state.segment(self.state.active as usize)
+        self.state.active_segment()
     }
 
     pub(super) fn is_guarded(&self, place: usize) -> bool {

@@ -30,35 +30,16 @@ impl Terminal {
         ((offset / COLUMNS) as u8, (offset % COLUMNS) as u8)
     }
 
-    pub(super) fn reply_identity(&self, room: &mut [u8]) -> Outcome {
-        match self.state.personality {
-            Personality::Wy50 => reply(room, b"50\r"),
-            Personality::Wy60 => reply(room, b"60\r"),
+    /// The bytes of a reply that reads no cells.
+    pub(super) fn short_reply(&self, command: u8) -> Vec<u8> {
+        let (row, column) = self.position();
+        match (command, self.state.personality) {
+            (b' ', Personality::Wy50) => b"50\r".to_vec(),
+            (b' ', Personality::Wy60) => b"60\r".to_vec(),
+            (b'?', _) => vec![0x20 + row, 0x20 + column, CR],
+            (b'/', _) => vec![b'0' + self.state.active, 0x20 + row, 0x20 + column, CR],
+            _ => format!("{:02}R{:03}C", row + 1, column + 1).into_bytes(),
         }
-    }
-
-    pub(super) fn reply_address(&self, room: &mut [u8]) -> Outcome {
-        let (row, column) = self.position();
-        reply(room, &[0x20 + row, 0x20 + column, CR])
-    }
-
-    pub(super) fn reply_segment_and_address(&self, room: &mut [u8]) -> Outcome {
-        let (row, column) = self.position();
-        reply(
-            room,
-            &[b'0' + self.state.active, 0x20 + row, 0x20 + column, CR],
-        )
-    }
-
-    pub(super) fn reply_decimal_address(&self, room: &mut [u8]) -> Outcome {
-        let (row, column) = self.position();
-        let (row, column) = (row + 1, column + 1);
-        let digit = |number: u8| b'0' + number % 10;
-        let row_digits = [digit(row / 10), digit(row)];
-        let column_digits = [digit(column / 100), digit(column / 10), digit(column)];
-        let [r1, r2] = row_digits;
-        let [c1, c2, c3] = column_digits;
-        reply(room, &[r1, r2, b'R', c1, c2, c3, b'C'])
     }
 
     pub(super) fn reply_cell(&self, room: &mut [u8]) -> Outcome {

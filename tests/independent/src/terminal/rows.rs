@@ -33,13 +33,13 @@ impl Terminal {
         self.is_possible() && *list == self.rows_with_room()
     }
 
-    pub fn step_with_rows(&mut self, byte: u8, room: &mut [u8], list: &mut [u16]) -> Outcome {
+    pub fn step_with_rows(&mut self, byte: u8, room: &mut [u8], list: &mut [u16]) -> Step {
         if !self.agrees_with(list) {
-            return Err(Refusal::Impossible);
+            return Step::IMPOSSIBLE;
         }
-        let outcome = self.step(byte, room);
+        let step = self.step(byte, room);
         list.copy_from_slice(&self.rows_with_room());
-        outcome
+        step
     }
 
     pub fn run_with_rows<'a>(

@@ -1,4 +1,4 @@
-//! Sending text: ESC 4 to ESC 7.
+//! Replies that may be sent in parts.
 
 use super::cursor::row_start;
 use super::*;
@@ -6,50 +6,62 @@ use super::*;
 const FS: u8 = 0x1C;
 const US: u8 = 0x1F;
 
-/// Whether a cell is left out of a send.
-type LeavesOut = fn(&Terminal, usize) -> bool;
-
 impl Terminal {
-    pub(super) fn send_row(&self, leaves_out: LeavesOut, room: &mut [u8]) -> Outcome {
-        self.send(row_start(self.cursor()), leaves_out, room)
-    }
-
-    pub(super) fn send_page(&self, leaves_out: LeavesOut, room: &mut [u8]) -> Outcome {
-        self.send(self.segment().start, leaves_out, room)
-    }
-
-    /// Sends the cells from the first through the cursor, US between rows, then CR.
-    fn send(&self, first: usize, leaves_out: LeavesOut, room: &mut [u8]) -> Outcome {
-        let mut bytes = Vec::new();
-        for place in first..=self.cursor() {
-            if place > first && is_row_start(place) {
-                bytes.push(US);
-            }
-            bytes.extend(self.cell_sent(place, leaves_out));
+    pub(super) fn begin_reply(&mut self, command: u8, room: &mut [u8]) -> Outcome {
+        if room.is_empty() {
+            return Err(Refusal::NoRoom);
         }
-        bytes.push(CR);
-        reply(room, &bytes)
+        let places = self.state.places(command);
+        Ok(self.send(command, &places, room))
+    }
+
+    /// Goes on with the send under way, if there is one.
+    pub(super) fn go_on(&mut self, room: &mut [u8]) -> usize {
+        let Some(Sending { command, place }) = self.state.sending else {
+            return 0;
+        };
+        let places = self.state.places(command);
+        let left = places.iter().skip_while(|&&other| other != place);
+        let left: Vec<Place> = left.copied().collect();
+        self.send(command, &left, room)
+    }
+
+    /// Sends these places as far as there is room, and remembers the next.
+    fn send(&mut self, command: u8, places: &[Place], room: &mut [u8]) -> usize {
+        self.state.sending = None;
+        let mut sent = 0;
+        for &place in places {
+            if sent == room.len() {
+                self.state.sending = Some(Sending { command, place });
+                break;
+            }
+            if let Some(byte) = self.byte_at(command, place) {
+                room[sent] = byte;
+                sent += 1;
+            }
+        }
+        sent
+    }
+
+    fn byte_at(&self, command: u8, place: Place) -> Option<u8> {
+        match place {
+            Place::Cell(cell) => self.cell_sent(command, cell as usize),
+            Place::RowMark(_) => Some(US),
+            Place::Cr => Some(CR),
+            Place::Byte(number) => Some(self.short_reply(command)[number as usize]),
+        }
     }
 
     /// A stretch of cells left out within a row goes as one FS, at its first cell.
-    fn cell_sent(&self, place: usize, leaves_out: LeavesOut) -> Option<u8> {
-        if !leaves_out(self, place) {
-            return Some(self.page[place].sent());
+    fn cell_sent(&self, command: u8, cell: usize) -> Option<u8> {
+        let leaves_out = |cell: usize| {
+            let may_leave_out = matches!(command, b'4' | b'5');
+            may_leave_out && self.page[cell].is_protected()
+        };
+        if !leaves_out(cell) {
+            return Some(self.page[cell].sent());
         }
-        let is_first = is_row_start(place) || !leaves_out(self, place - 1);
+        let is_first = cell == row_start(cell) || !leaves_out(cell - 1);
         is_first.then_some(FS)
     }
-
-    /// By the cell's own mark, whatever protect mode says.
-    pub(super) fn is_marked(&self, place: usize) -> bool {
-        self.page[place].is_protected()
-    }
-
-    pub(super) fn leaves_none_out(&self, _place: usize) -> bool {
-        false
-    }
-}
-
-fn is_row_start(place: usize) -> bool {
-    place == row_start(place)
 }

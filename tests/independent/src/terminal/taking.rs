@@ -52,15 +52,8 @@ impl Terminal {
             b'=' | b'-' | b'A' | b'G' | b'H' | b'!' | b'.' | b'`' | b'x' | b'a' | b'z' | b'F' => {
                 self.await_next(Sequence::Arguments(Gathered::new(byte)))
             }
-            b' ' => self.reply_identity(room),
-            b'?' => self.reply_address(room),
-            b'/' => self.reply_segment_and_address(room),
-            b'b' => self.reply_decimal_address(room),
+            b' ' | b'?' | b'/' | b'b' | b'4'..=b'7' => self.begin_reply(byte, room),
             b'M' => self.reply_cell(room),
-            b'4' => self.send_row(Terminal::is_marked, room),
-            b'5' => self.send_page(Terminal::is_marked, room),
-            b'6' => self.send_row(Terminal::leaves_none_out, room),
-            b'7' => self.send_page(Terminal::leaves_none_out, room),
             _ => self.escape_without_reply(byte),
         }
     }

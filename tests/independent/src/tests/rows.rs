@@ -52,8 +52,8 @@ fn each_wrong_number_is_refused() {
             let mut list = right.clone();
             list[place] = wrong;
             let before = list.clone();
-            let outcome = terminal.step_with_rows(b'x', &mut [], &mut list);
-            assert_eq!(outcome, Err(Refusal::Impossible));
+            let step = terminal.step_with_rows(b'x', &mut [], &mut list);
+            assert_eq!((step.outcome, step.own), (Err(Refusal::Impossible), false));
             let report = terminal.run_with_rows(b"xy", &mut [], &mut list);
             assert_eq!(
                 (report.answer, report.taken, report.rest),

@@ -1,5 +1,9 @@
 //! What a script works on.
 
+use super::line::Line;
+use super::set::set;
+use super::WIDEST_ROOM;
+use crate::state::Personality;
 use crate::terminal::{Terminal, ROW_NUMBERS};
 
 /// A terminal, and what is lent to it beside the page.
@@ -16,5 +20,35 @@ impl Bench {
             terminal: Terminal::new(),
             rows: vec![0; ROW_NUMBERS],
         }
+    }
+
+    /// Obeys a line and says how many of its bytes were taken. None if the line
+    /// is bad.
+    pub fn follow(&mut self, line: &Line) -> Option<usize> {
+        let Bench { terminal, rows } = self;
+        let mut widest = [0; WIDEST_ROOM];
+        let taken = match line {
+            Line::On(personality) => {
+                let _ = terminal.power_on(personality.unwrap_or(Personality::Wy50));
+                0
+            }
+            Line::Step { byte, room } => terminal.step(*byte, &mut widest[..*room]).own as usize,
+            Line::ListStep { byte, room } => {
+                let step = terminal.step_with_rows(*byte, &mut widest[..*room], rows);
+                step.own as usize
+            }
+            Line::Run { bytes, room } => terminal.run(bytes, &mut widest[..*room]).taken,
+            Line::ListRun { bytes, room } => {
+                let report = terminal.run_with_rows(bytes, &mut widest[..*room], rows);
+                report.taken
+            }
+            Line::Rebuild => {
+                let _ = terminal.rebuild_rows(rows);
+                0
+            }
+            _ if line.is_output() => 0,
+            _ => return set(self, line).then_some(0),
+        };
+        Some(taken)
     }
 }

@@ -3,7 +3,7 @@
 mod parse;
 mod spell;
 
-use crate::state::Personality;
+use crate::state::{Personality, Sending};
 
 /// One line of a script.
 #[derive(Clone, PartialEq, Eq, Debug)]
@@ -67,6 +67,7 @@ pub enum Line {
     },
     Personality(Personality),
     Remembered(u8),
+    Sending(Option<Sending>),
     /// WY-50 if none is named.
     On(Option<Personality>),
     Step {

@@ -9,7 +9,7 @@ use super::write::*;
 use super::WIDEST_ROOM;
 use crate::counter::{write_count, write_entry};
 use crate::state::Personality;
-use crate::terminal::{answer_number, Outcome, Run};
+use crate::terminal::{answer_number, Outcome, Run, Step};
 
 const ROOM_FILLER: u8 = 0xEE;
 
@@ -71,9 +71,9 @@ impl Replay {
     }
 
     fn step(&mut self, byte: u8, room: usize, out: &mut Vec<u8>) {
-        let outcome = self.bench.terminal.step(byte, &mut self.room[..room]);
+        let step = self.bench.terminal.step(byte, &mut self.room[..room]);
         out.extend_from_slice(b" step");
-        self.write_outcome(outcome, room, out);
+        self.write_step(step, room, out);
     }
 
     fn press(&mut self, value: u8, room: usize, out: &mut Vec<u8>) {
@@ -98,9 +98,9 @@ impl Replay {
 
     fn list_step(&mut self, byte: u8, room: usize, out: &mut Vec<u8>) {
         let Bench { terminal, rows } = &mut self.bench;
-        let outcome = terminal.step_with_rows(byte, &mut self.room[..room], rows);
+        let step = terminal.step_with_rows(byte, &mut self.room[..room], rows);
         out.extend_from_slice(b" liststep");
-        self.write_outcome(outcome, room, out);
+        self.write_step(step, room, out);
         self.write_rows(out);
     }
 
@@ -144,6 +144,12 @@ impl Replay {
     fn show(&mut self, out: &mut Vec<u8>) {
         out.extend_from_slice(b" show cells=");
         push_list(out, self.bench.terminal.page.iter().map(|cell| cell.0));
+    }
+
+    fn write_step(&mut self, step: Step, room: usize, out: &mut Vec<u8>) {
+        self.write_outcome(step.outcome, room, out);
+        out.extend_from_slice(b" own=");
+        push_flag(out, step.own);
     }
 
     fn write_outcome(&mut self, outcome: Outcome, room: usize, out: &mut Vec<u8>) {

@@ -39,13 +39,20 @@ pub fn set(bench: &mut Bench, line: &Line) -> bool {
         Line::Key { key, bytes } => state.keys[*key] = Text::holding(bytes),
         Line::Bells(count) => state.bells = *count,
         Line::Pending { bytes, spoilt } => match sequence_left_by(bytes, *spoilt) {
-            Some(sequence) => state.sequence = sequence,
+            Some(sequence) => {
+                state.sequence = sequence;
+                state.sending = None;
+            }
             None => return false,
         },
         Line::Message(bytes) => state.message = Text::holding(bytes),
         Line::Label { label, bytes } => state.labels[*label] = Text::holding(bytes),
         Line::Shifted(on) => state.shifted = *on,
         Line::Personality(personality) => state.personality = *personality,
+        Line::Sending(sending) => {
+            state.sending = *sending;
+            state.sequence = Sequence::None;
+        }
         Line::Remembered(number) => state.remembered = Flags(*number),
         Line::Rows(count) => *rows = vec![0; *count],
         Line::Row { index, value } => match rows.get_mut(*index) {

@@ -38,6 +38,8 @@ pub fn write_state(state: &State, out: &mut Vec<u8>) {
     out.extend_from_slice(state.personality.digits().as_bytes());
     out.extend_from_slice(b" remembered=");
     push_number(out, state.remembered.0 as usize);
+    out.extend_from_slice(b" sending=");
+    push_sending(out, state.sending);
 }
 
 fn write_modes(state: &State, out: &mut Vec<u8>) {

@@ -1,6 +1,7 @@
 //! The words of a line.
 
 use super::WIDEST_ROOM;
+use crate::state::{Place, Sending, COLUMNS, ESC};
 
 pub fn number(word: &str, largest: usize) -> Option<usize> {
     if word.is_empty() || !word.bytes().all(|byte| byte.is_ascii_digit()) {
@@ -28,6 +29,31 @@ pub fn hex(word: &str) -> Option<Vec<u8>> {
             .map(|pair| hex_pair(pair[0], pair[1]))
             .collect(),
     }
+}
+
+/// A dash, or a command and a place that fits its reply's kind.
+pub fn sending(word: &str) -> Option<Option<Sending>> {
+    if word == "-" {
+        return Some(None);
+    }
+    let (sequence, place) = word.split_once(':')?;
+    let command = match hex(sequence)?[..] {
+        [ESC, command] => command,
+        _ => return None,
+    };
+    let place = if Sending::short_length(command).is_some() {
+        Place::Byte(number(place, 255)? as u8)
+    } else if !Sending::reads_cells(command) {
+        return None;
+    } else if let Some(cell) = place.strip_prefix('u') {
+        let cell = number(cell, 0xFFFF).filter(|cell| cell % COLUMNS == 0)?;
+        Place::RowMark(cell as u16)
+    } else if place == "cr" {
+        Place::Cr
+    } else {
+        Place::Cell(number(place, 0xFFFF)? as u16)
+    };
+    Some(Some(Sending { command, place }))
 }
 
 /// Bytes whose number a text's length can say.

@@ -1,5 +1,7 @@
 //! Numbers and bytes as text.
 
+use crate::state::{Place, Sending, ESC};
+
 pub fn push_number(out: &mut Vec<u8>, number: usize) {
     if number >= 10 {
         push_number(out, number / 10);
@@ -33,6 +35,23 @@ pub fn push_list(out: &mut Vec<u8>, numbers: impl Iterator<Item = u16>) {
             out.push(b',');
         }
         push_number(out, number as usize);
+    }
+}
+
+pub fn push_sending(out: &mut Vec<u8>, sending: Option<Sending>) {
+    let Some(Sending { command, place }) = sending else {
+        return out.push(b'-');
+    };
+    push_bytes(out, &[ESC, command]);
+    out.push(b':');
+    match place {
+        Place::Cell(cell) => push_number(out, cell as usize),
+        Place::RowMark(cell) => {
+            out.push(b'u');
+            push_number(out, cell as usize);
+        }
+        Place::Cr => out.extend_from_slice(b"cr"),
+        Place::Byte(sent) => push_number(out, sent as usize),
     }
 }
 

@@ -67,6 +67,7 @@ impl Line {
             },
             "personality" => Line::Personality(personality(words.next()?)?),
             "remembered" => Line::Remembered(number(words.next()?, 31)? as u8),
+            "sending" => Line::Sending(sending(words.next()?)?),
             "on" => Line::On(match words.next() {
                 Some(word) => Some(personality(word)?),
                 None => None,

@@ -47,6 +47,10 @@ impl Line {
                 word(out, &format!("personality {}", personality.digits()));
             }
             Line::Remembered(number) => word(out, &format!("remembered {number}")),
+            Line::Sending(sending) => {
+                word(out, "sending ");
+                push_sending(out, *sending);
+            }
             Line::On(None) => word(out, "on"),
             Line::On(Some(personality)) => word(out, &format!("on {}", personality.digits())),
             Line::Step { byte, room } => word(out, &format!("step {byte:02x} {room}")),
