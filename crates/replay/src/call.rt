@@ -72,6 +72,31 @@ fn reply(out: &mut [u8], at: usize, room: &[u8], replied: usize) -> usize
     flag(out, n2, untouched(&room[replied..]))
 }
 
+// The same of a step, and whether its own byte was taken.
+fn step_reply(out: &mut [u8], at: usize, room: &[u8], replied: usize, taken: bool) -> usize
+    requires { ⌜ replied ≤ length (now room) ⌝ }
+{
+    let n = reply(out, at, room, replied);
+    let n1 = text(out, n, b" own=");
+    flag(out, n1, taken)
+}
+
+// And the end of its line.
+fn step_closing(
+    out: &mut [u8],
+    at: usize,
+    room: &[u8],
+    replied: usize,
+    taken: bool,
+    s: State,
+    page: &[u16],
+) -> Called
+    requires { ⌜ replied ≤ length (now room) ⌝ }
+{
+    let n = step_reply(out, at, room, replied, taken);
+    ending(out, n, s, page)
+}
+
 // What was replied, and the end of the line.
 fn closing(out: &mut [u8], at: usize, room: &[u8], replied: usize, s: State, page: &[u16]) -> Called
     requires { ⌜ replied ≤ length (now room) ⌝ }
@@ -103,7 +128,7 @@ fn step(
     let a = r.answer;
     let next = r.state;
     let n = opening(out, at, count, b"step", a);
-    closing(out, n, room, r.replied, next, page)
+    step_closing(out, n, room, r.replied, r.taken, next, page)
 }
 
 fn run(
@@ -191,7 +216,7 @@ fn list_step(
     let a = r.answer;
     let next = r.state;
     let n = opening(out, at, count, b"liststep", a);
-    let n1 = reply(out, n, room, r.replied);
+    let n1 = step_reply(out, n, room, r.replied, r.taken);
     let n2 = list(out, n1, rows);
     ending(out, n2, next, page)
 }

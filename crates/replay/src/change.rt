@@ -184,9 +184,11 @@ pub fn set(s: State, x: Setting) -> State {
         Setting::Personality(m) => core = with_personality(core, m),
         Setting::Remembered(n) => core.attribute = n,
     }
+    let sending = s.sending;
     let gathered = s.gathered;
     State {
         core: core,
+        sending: sending,
         gathered: gathered,
         setup: setup,
     }

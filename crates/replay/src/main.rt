@@ -6,6 +6,7 @@ mod digest;
 mod narrow;
 mod progress;
 mod script;
+mod send;
 mod sequence;
 mod state_text;
 mod text;

@@ -10,6 +10,7 @@ use crate::script::ListLine;
 use crate::script::PageLine;
 use crate::script::Setting;
 use crate::script::read;
+use crate::send;
 use crate::sequence;
 use crate::text;
 use libc::STDERR_FILENO;
@@ -104,6 +105,7 @@ fn carry_out(
         Command::Label(k) => set_label(s, k, line),
         Command::Message => set_message(s, line),
         Command::Pending => set_pending(s, line),
+        Command::Sending => set_sending(s, line),
         Command::Call(x, n) => obey_call(s, x, n, line, page, rows, out),
     }
 }
@@ -216,6 +218,17 @@ fn set_pending(s: Progress, line: &[u8]) -> Progress {
     let state = s.state;
     let g = sequence::read(state, text::later(line), &mut bytes);
     let next = g.state;
+    t.state = next;
+    t.going = g.good;
+    t
+}
+
+fn set_sending(s: Progress, line: &[u8]) -> Progress {
+    let mut t = s;
+    let state = s.state;
+    let g = send::read(text::later(line));
+    let sending = g.sending;
+    let next = send::set(state, sending);
     t.state = next;
     t.going = g.good;
     t

@@ -64,6 +64,7 @@ pub enum Command {
     Label(usize),
     Message,
     Pending,
+    Sending,
     Call(Call, usize),
 }
 
@@ -107,6 +108,9 @@ fn two_words(line: &[u8]) -> Command {
     let word = first(line);
     if same(word, b"pending") {
         return Command::Pending;
+    }
+    if same(word, b"sending") {
+        return Command::Sending;
     }
     if same(word, b"message") {
         return Command::Message;

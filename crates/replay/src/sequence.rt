@@ -9,6 +9,7 @@ use rules::Argument;
 use rules::Core;
 use rules::Pending;
 use rules::Personality;
+use rules::Sending;
 use rules::Slot;
 use rules::State;
 
@@ -182,7 +183,7 @@ fn fed(bytes: &[u8], is_over: bool) -> State {
     more.state
 }
 
-// The state with the sequence that a word spells; good if bytes can leave it under way and this is its spelling.
+// The state with the sequence that a word spells, and no send under way; good if bytes can leave it under way and this is its spelling.
 pub struct Reading {
     pub good: bool,
     pub state: State,
@@ -221,6 +222,7 @@ pub fn read(s: State, word: &[u8], bytes: &mut [u8]) -> Reading {
                 personality: personality,
                 attribute: core.attribute,
             },
+            sending: Sending::Nothing,
             gathered: g,
             setup: setup,
         },

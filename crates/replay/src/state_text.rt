@@ -2,6 +2,7 @@
 ghost use Prim.Native.Nat.{_≤_};
 use crate::bounds::within;
 use crate::narrow::COLUMNS;
+use crate::send;
 use crate::sequence::spelled;
 use crate::trace::byte_string;
 use crate::trace::comma;
@@ -27,13 +28,15 @@ pub fn state(out: &mut [u8], at: usize, s: State) -> usize {
     let setup = s.setup;
     let x = core.screen;
     let m = core.modes;
+    let sending = s.sending;
     let g = s.gathered;
     let n = screen(out, at, x);
     let n1 = modes(out, n, m);
     let n2 = set_up(out, n1, setup);
     let n3 = bells_and_pending(out, n2, core, g);
     let n4 = texts(out, n3, setup);
-    personality(out, n4, core)
+    let n5 = personality(out, n4, core);
+    send::show(out, n5, sending)
 }
 
 fn bells_and_pending(out: &mut [u8], at: usize, core: Core, g: [u8; 46]) -> usize {

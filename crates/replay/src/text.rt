@@ -117,7 +117,7 @@ fn hex_digit(c: u8) -> usize
 }
 
 // The byte that two hexadecimal digits spell, or 256.
-fn hex_byte(high: u8, low: u8) -> usize
+pub fn hex_byte(high: u8, low: u8) -> usize
     ensures { λ r. ⌜ r ≡ hexByte high low ⌝ }
 {
     let h = hex_digit(high);

@@ -14,7 +14,7 @@ list-step-spec =
     (λ c. search needs)
     -- opening-requires
     (λ c κs. search needs)
-    -- reply-requires
+    -- step-reply-requires
     (λ c κs. let r = c .before .before .before .before .before .before .before .before .before .before .before .before .before .before .step-rows in omega (arith, r .ensures .0 .fits, r .kept))
     -- list-requires
     (λ c κs. search needs)

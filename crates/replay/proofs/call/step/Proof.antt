@@ -14,7 +14,7 @@ step-spec =
     (λ c. search needs)
     -- opening-requires
     (λ c κs. search needs)
-    -- closing-requires
+    -- step-closing-requires
     (λ c κs. omega (
       arith,
       c .before .before .before .before .before .before .before .before .before .before .before .before .before .step .ensures .fits,
