@@ -4,4 +4,5 @@ pub mod Texts
 pub mod Messages
 pub mod Labels
 pub mod Watching
+pub mod Taken
 pub mod Short

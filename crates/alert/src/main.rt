@@ -86,7 +86,7 @@ fn play(fd: i32, name: &[u8], o: Options) {
     let mut page = [0u16; 1920];
     let mut before = [0u16; 1920];
     let mut drawn = [0u16; 1920];
-    let mut room = [0u8; 1944];
+    let mut room = [0u8; 64];
     let mut log = io::buffer();
     let p = stream::play(
         fd,

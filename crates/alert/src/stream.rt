@@ -1,17 +1,25 @@
-// The bytes of the host, one by one to the terminal, and what came of them.
+// The bytes of the host, one by one to the terminal, and what came of them. A reply that does not fit the room begins, and goes on before the next
+// byte.
 ghost use mathlib.Core.Path.{_≡_};
+ghost use mathlib.Core.List.{List, []};
+ghost use Prim.Native.Nat.{ℕ};
 ghost use lib.ListN.{length};
 ghost use Rattle.rules.specs.Cell.{pick};
+ghost use Rattle.rules.specs.State.{sends as sending};
 ghost use Rattle.rules.specs.Possible.{powerOn};
 ghost use Rattle.rules.specs.Step.{stepRule};
-ghost use Rattle.rules.specs.Calls.{powerOnRule};
-ghost use Rattle.alert.specs.Watch.{Took, goesOn, watch, watched, FedBy, Fed, Came};
+ghost use Rattle.rules.specs.Calls.{powerOnRule, runRule};
+ghost use Rattle.alert.specs.Watch.{Took, Ended, goesOn, watch, finished, mostTimes, watched, FedBy, Fed, Came};
 use crate::cells::copy;
 use crate::cells::same;
 use rules::Answer;
 use rules::Personality;
 use rules::State;
+use state::sending::is_sending;
 use std::num::wrapping_add_u64;
+
+// No reply is longer.
+const LONGEST: usize = 1944;
 
 // The bytes refused, by answer: 1 to 4 in this order, and the rest.
 pub struct Refusals {
@@ -61,10 +69,15 @@ fn start(page: &mut [u16], personality: Personality) -> Played
     }
 }
 
-fn counted(r: Refusals, a: Answer) -> Refusals {
+// 1 for a byte that was not taken.
+fn missed(taken: bool) -> u64 {
+    if taken { 0 } else { 1 }
+}
+
+fn counted(r: Refusals, a: Answer, taken: bool) -> Refusals {
     let mut t = r;
     match a {
-        Answer::Done => {}
+        Answer::Done => t.other = wrapping_add_u64(r.other, missed(taken)),
         Answer::HighByte => t.high = wrapping_add_u64(r.high, 1),
         Answer::Unknown => t.unknown = wrapping_add_u64(r.unknown, 1),
         Answer::BadArgument => t.argument = wrapping_add_u64(r.argument, 1),
@@ -105,7 +118,7 @@ fn step(page: &mut [u16], p: Played, byte: u8, room: &mut [u8], log: &mut [u8]) 
     let n = r.replied;
     let answer = r.answer;
     let old = p.refusals;
-    let refusals = counted(old, answer);
+    let refusals = counted(old, answer, r.taken);
     Played {
         state: next,
         refusals: refusals,
@@ -116,6 +129,52 @@ fn step(page: &mut [u16], p: Played, byte: u8, room: &mut [u8], log: &mut [u8]) 
         going: true,
         failed: false,
     }
+}
+
+// The send under way goes on, as far as the room takes it.
+fn resume(page: &mut [u16], p: Played, room: &mut [u8], log: &mut [u8]) -> Played
+    ensures { λ r. ⌜ Ended (runRule (now (page .entry)) (p .state) [] (length (now (room .entry)))) (r .state) (now (page .exit)) ⌝ }
+{
+    let state = p.state;
+    let r = terminal::run(page, state, b"", room);
+    let next = r.state;
+    let n = r.replied;
+    let refusals = p.refusals;
+    Played {
+        state: next,
+        refusals: refusals,
+        bytes: p.bytes,
+        replied: wrapping_add_u64(p.replied, n as u64),
+        kept: keep(log, p.kept, &room[..n]),
+        clean: p.clean,
+        going: true,
+        failed: false,
+    }
+}
+
+fn sends(p: Played) -> bool
+    ensures { λ r. ⌜ r ≡ sending (p .state .sending) ⌝ }
+{
+    let state = p.state;
+    let sending = state.sending;
+    is_sending(sending)
+}
+
+// It goes on until it is over. Each time it sends a byte at least.
+fn finish(page: &mut [u16], p: Played, room: &mut [u8], log: &mut [u8]) -> Played
+    ensures { λ r. ⌜ ((d : List ℕ) → watch (now (page .exit)) d (r .state) ≡ finished (length (now (room .entry))) mostTimes (watch (now (page .entry)) d (p .state))) ⌝ }
+{
+    let mut t = p;
+    let mut left = LONGEST;
+    while 0 < left {
+        if !sends(t) {
+            return t;
+        }
+        let u = resume(page, t, room, log);
+        t = u;
+        left -= 1;
+    }
+    t
 }
 
 // What is told of a page that had to stay the same.
@@ -197,7 +256,7 @@ fn obey(
 {
     let t = take(page, before, p, byte, room, log);
     remember(page, drawn, protects(p), protects(t));
-    t
+    finish(page, t, room, log)
 }
 
 fn feed(

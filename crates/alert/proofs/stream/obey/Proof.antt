@@ -22,36 +22,43 @@ obey-spec =
     let k = c .before .before .before .before .before .before .before .before .before .before .before .before .before .before .before .before .before .before .before .before .before .before .pre in
     let take′ = c .before .before .before .before .before .before .before .before .before .before .before .before .take in
     omega (arith, take′ .kept, k))
+    -- finish-requires
+    (λ c κs. search needs)
     -- same-length
     (λ c.
-    let take′ = c .before .before .before .before .before .before .before .before .before .before .before .before .before .before .before .take in
-    let remember′ = c .before .before .remember in
-    omega (arith, take′ .kept, remember′ .kept))
+    let take′ = c .before .before .before .before .before .before .before .before .before .before .before .before .before .before .before .before .before .before .before .before .before .before .before .before .before .take in
+    let remember′ = c .before .before .before .before .before .before .before .before .before .before .before .before .remember in
+    let finish′ = c .before .before .before .before .before .before .finish in
+    omega (arith, take′ .kept, remember′ .kept, finish′ .kept))
     -- same-length-2
     (λ c.
-    let take′ = c .before .before .before .before .before .before .before .before .before .before .before .before .before .before .before .take in
-    let remember′ = c .before .before .remember in
-    omega (arith, take′ .kept, remember′ .kept))
+    let take′ = c .before .before .before .before .before .before .before .before .before .before .before .before .before .before .before .before .before .before .before .before .before .before .before .before .before .take in
+    let remember′ = c .before .before .before .before .before .before .before .before .before .before .before .before .remember in
+    let finish′ = c .before .before .before .before .before .before .finish in
+    omega (arith, take′ .kept, remember′ .kept, finish′ .kept))
     -- same-length-3
     (λ c.
-    let take′ = c .before .before .before .before .before .before .before .before .before .before .before .before .before .before .before .take in
-    let remember′ = c .before .before .remember in
-    omega (arith, take′ .kept, remember′ .kept))
+    let take′ = c .before .before .before .before .before .before .before .before .before .before .before .before .before .before .before .before .before .before .before .before .before .before .before .before .before .take in
+    let remember′ = c .before .before .before .before .before .before .before .before .before .before .before .before .remember in
+    let finish′ = c .before .before .before .before .before .before .finish in
+    omega (arith, take′ .kept, remember′ .kept, finish′ .kept))
     -- same-length-4
     (λ c.
-    let take′ = c .before .before .before .before .before .before .before .before .before .before .before .before .before .before .before .take in
-    let remember′ = c .before .before .remember in
-    omega (arith, take′ .kept, remember′ .kept))
+    let take′ = c .before .before .before .before .before .before .before .before .before .before .before .before .before .before .before .before .before .before .before .before .before .before .before .before .before .take in
+    let remember′ = c .before .before .before .before .before .before .before .before .before .before .before .before .remember in
+    let finish′ = c .before .before .before .before .before .before .finish in
+    omega (arith, take′ .kept, remember′ .kept, finish′ .kept))
     -- same-length-5
     (λ c.
-    let take′ = c .before .before .before .before .before .before .before .before .before .before .before .before .before .before .before .take in
-    let remember′ = c .before .before .remember in
-    omega (arith, take′ .kept, remember′ .kept))
+    let take′ = c .before .before .before .before .before .before .before .before .before .before .before .before .before .before .before .before .before .before .before .before .before .before .before .before .before .take in
+    let remember′ = c .before .before .before .before .before .before .before .before .before .before .before .before .remember in
+    let finish′ = c .before .before .before .before .before .before .finish in
+    omega (arith, take′ .kept, remember′ .kept, finish′ .kept))
     -- returns
     (λ c.
-    let x = c .before .before .before .before .before .before .before .before .before .before .before .before .before .before .before .before .before .before .before .before .before .before .before .before .before .args in
-    let take′ = c .before .before .before .before .before .before .before .before .before .before .before .before .before .before .before .take in
-    let protects′ = c .before .before .before .before .protects in
-    let protects2′ = c .before .before .before .protects2 in
-    let remember′ = c .before .before .remember in
-    obeyed (length (now (x .room))) (x .byte) (now (x .page)) (now (x .drawn)) (x .p .state) (take′ .ensures) (protects′ .ensures) (protects2′ .ensures) (remember′ .ensures)))
+    let x = c .before .before .before .before .before .before .before .before .before .before .before .before .before .before .before .before .before .before .before .before .before .before .before .before .before .before .before .before .before .before .before .before .before .before .before .args in
+    let take′ = c .before .before .before .before .before .before .before .before .before .before .before .before .before .before .before .before .before .before .before .before .before .before .before .before .before .take in
+    let remember′ = c .before .before .before .before .before .before .before .before .before .before .before .before .remember in
+    let finish′ = c .before .before .before .before .before .before .finish in
+    obeyed (length (now (x .room))) (x .byte) (now (x .page)) (now (x .drawn)) (x .p .state) (take′ .ensures) (c .before .before .before .before .before .before .before .before .before .before .before .before .before .before .protects .ensures) (c .before .before .before .before .before .before .before .before .before .before .before .before .before .protects2 .ensures) (remember′ .ensures)
+    (omega (arith, take′ .kept)) (finish′ .ensures)))
