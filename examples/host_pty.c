@@ -41,11 +41,11 @@ static void put(int to, const uint8_t *bytes, size_t n)
     }
 }
 
-/* Host bytes; replies go back to the program. */
+/* Host bytes; replies go back to the program, 64 bytes at a time. */
 static void feed(int program, const uint8_t *bytes, size_t n)
 {
-    uint8_t reply[WY50_LONGEST_REPLY];
-    while (n > 0) {
+    uint8_t reply[64];
+    while (n > 0 || state.sending.command != 0) {
         wy50_run_result r = wy50_run(page, WY50_CELLS, state, bytes, n, reply, sizeof reply);
         if (r.answer == WY50_BAD_CALL)
             abort();

@@ -22,7 +22,7 @@ enum {
     WY50_COLUMNS = 80,
     WY50_CELLS = 1920,         /* the page, in reading order */
     WY50_ROW_NUMBERS = 48,     /* a row list: two numbers for each row */
-    WY50_LONGEST_REPLY = 1944, /* a step that has this room is never answered 6 */
+    WY50_LONGEST_REPLY = 1944, /* no reply is longer */
     WY50_KEYS = 32,
     WY50_KEY_BYTES = 8,
     WY50_LABELS = 16,
@@ -38,7 +38,8 @@ enum {
     WY50_BAD_ARGUMENT = 3, /* an argument outside its range, a text too long or with a bad byte, no such key or segment; the sequence is cleared */
     WY50_BARRED = 4,       /* a guarded cell or protect mode bars it; the sequence is cleared */
                            /* 5 is unused: 32 keys of 8 bytes are never over 256 */
-    WY50_NO_ROOM = 6,      /* the reply is longer than the room; nothing changed, the byte may come again */
+    WY50_NO_ROOM = 6,      /* the room is zero while a reply is due; of a key press also where its bytes do not fit, and during a send; nothing
+                              changed, the byte may come again */
     WY50_BAD_CALL = 7,     /* the page is not 1,920 cells long, the state is not possible, or the row list is not the page's; nothing changed */
     WY50_LOCKED = 8        /* a key is pressed while the keyboard is locked; nothing changed */
 };
@@ -133,6 +134,21 @@ typedef struct wy50_sequence {
     uint16_t third;
 } wy50_sequence;
 
+/* What stands at the place of a send, in wy50_sending.kind. */
+enum {
+    WY50_SENT_BYTES = 0, /* of a short reply: place bytes of it went */
+    WY50_SENT_CELL = 1,  /* of a text: the cell place is next */
+    WY50_SENT_BREAK = 2, /* the US before the cell place, which begins a row */
+    WY50_SENT_RETURN = 3 /* the CR; place is 0 */
+};
+
+/* The send under way: a reply that has begun and is not over. It goes on at the next call, before any byte is taken. */
+typedef struct wy50_sending {
+    uint8_t command; /* the byte after ESC of the command that asked for it: ' ' '/' '4' '5' '6' '7' '?' 'b'; 0: no send is under way */
+    uint8_t kind;
+    uint16_t place;
+} wy50_sending;
+
 /* The places of wy50_state.features, each holding the code that ESC ` last set it to. */
 enum {
     WY50_CURSOR_SHOWN = 0,   /* '0' hidden, '1' shown */
@@ -142,12 +158,13 @@ enum {
     WY50_SCROLLING = 4       /* '<' '=' '>' '?' smooth at 1, 2, 4, 8 rows a second, '@' jump */
 };
 
-/* The state: numbers alone, without padding, so that memcmp compares two states and a state can be saved as its 638 bytes.
+/* The state: numbers alone, without padding, so that memcmp compares two states and a state can be saved as its 642 bytes.
  *
  * A program may read it and may fill it in. Numbers that are no possible state do no harm: a call that is handed them answers 7, replies
  * nothing and gives them back as they came. A mode, a tab stop or a shifted line that is neither 0 nor 1, a personality that is neither 50 nor 60,
- * a sequence of no kind above, and a number other than 0 that its kind does not have are such numbers too. The bytes of a key, a label or the message beyond its len are not looked
- * at, and no more are the bytes gathered beyond those that the sequence counts: they mean nothing, and a call that is not refused with 7 gives zeros there.
+ * a sequence of no kind above, a send of no command or kind above, and a number other than 0 that its kind does not have are such numbers too. So is a
+ * send while a sequence is under way. The bytes of a key, a label or the message beyond its len are not looked at, and no more are the bytes gathered
+ * beyond those that the sequence counts: they mean nothing, and a call that is not refused with 7 gives zeros there.
  */
 typedef struct wy50_state {
     wy50_screen screen;
@@ -156,6 +173,7 @@ typedef struct wy50_state {
     uint8_t personality; /* 50 or 60 */
     uint8_t remembered;  /* the attribute that ESC G sets in a WY-60, by its flags: 0 to 30; 0 in a WY-50 */
     wy50_sequence sequence;
+    wy50_sending sending;
     uint8_t gathered[WY50_MESSAGE_BYTES]; /* the bytes of a text under way; the sequence counts them */
     uint8_t tabs[WY50_COLUMNS];           /* by column: 1 a tab stop, 0 none */
     uint8_t attributes[4];                /* of ESC A: 20h, 30h to 3Fh or 70h to 7Eh */
@@ -173,6 +191,7 @@ typedef struct wy50_power_on_result {
 
 typedef struct wy50_step_result {
     uint8_t answer; /* 0 to 4, 6 or 7 */
+    uint8_t taken;  /* 1 if the byte was taken, 0 if it is to come again: during a send, and with answers 6 and 7 */
     size_t replied; /* reply bytes */
     wy50_state state;
 } wy50_step_result;
@@ -194,16 +213,21 @@ typedef struct wy50_press_result {
  * state is given. So does a number that is no personality; the state is that of a WY-50. */
 wy50_power_on_result wy50_power_on(uint16_t *page, size_t page_len, uint8_t personality);
 
-/* One byte from the host. The reply is put at the front of the room; what lies beyond it is not touched. */
+/* One byte from the host. The reply is put at the front of the room; what lies beyond it is not touched. A reply that does not fit begins and is
+ * the send under way. During a send the step sends as much of it as fits and leaves the byte for the next call. */
 wy50_step_result wy50_step(uint16_t *page, size_t page_len, wy50_state state, uint8_t byte, uint8_t *reply, size_t reply_len);
 
-/* Bytes from the host: the single step repeated, replies joined. It stops before the first byte whose reply does not fit into what is left
- * of the room and then answers 6: empty the room, and hand it the rest of the input. Other answers do not stop it; it counts them. */
+/* Bytes from the host: a send under way goes on, and then the single step repeated, replies joined. It stops with 6 before the first byte whose
+ * reply is due while no room is left, and with 0 where the room ends inside a send; then room is used up. Other answers do not stop it; it counts them.
+ *
+ * So a caller with a small room looks at taken and at replied: it passes the replied bytes on, and calls again with the rest of the input as long as
+ * bytes are left or the room came back full. With any room but 0 each call on a possible state takes a byte or sends one; with none it may do neither,
+ * for ever. Over no bytes a run sends what is left of a send. The joined replies, the page and the state do not depend on the rooms. */
 wy50_run_result wy50_run(uint16_t *page, size_t page_len, wy50_state state, const uint8_t *input, size_t input_len, uint8_t *reply,
                          size_t reply_len);
 
 /* A function key is pressed: 40h to 4Fh or 60h to 6Fh. The reply is its bytes; 01h key 0Dh if it is not programmed. The page is only
- * measured, and neither it nor the state changes. */
+ * measured, and neither it nor the state changes. A key's bytes are never cut: they fit, or the answer is 6, and so it is during a send. */
 wy50_press_result wy50_press(const uint16_t *page, size_t page_len, wy50_state state, uint8_t key, uint8_t *reply, size_t reply_len);
 
 /* The step and the run with a row list, which says what room each row has, so that settling skips the rows that have none. It has two numbers

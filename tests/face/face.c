@@ -1,5 +1,5 @@
-/* Checks the C face: that header and library agree on every member, cases 1 to 12 of the bench list, that a row list changes no result and is
- * kept right, and that numbers which are no possible state are answered 7 and given back as they came. Compiles as C99 and as C++. Prints one
+/* Checks the C face: that header and library agree on every member, cases 1 to 12 of the bench list, that replies through a narrow room join to
+ * those of a roomy one, that a row list changes no result and is kept right, and that numbers which are no possible state are answered 7 and given back as they came. Compiles as C99 and as C++. Prints one
  * line for each part, and fails by its status. */
 #include "wy50.h"
 
@@ -51,6 +51,7 @@ static int feed(const char *bytes, size_t n)
         state = r.state;
         replied = r.replied;
         answer = r.answer;
+        CHECK(r.taken == 1);
     }
     return answer;
 }
@@ -75,23 +76,25 @@ static void layout(void)
     CHECK(sizeof(wy50_screen) == 6);
     CHECK(sizeof(wy50_modes) == 6);
     CHECK(sizeof(wy50_sequence) == 6);
-    CHECK(sizeof(wy50_state) == 638);
+    CHECK(sizeof(wy50_sending) == 4);
+    CHECK(sizeof(wy50_state) == 642);
     CHECK(offsetof(wy50_state, modes) == 6);
     CHECK(offsetof(wy50_state, bells) == 12);
     CHECK(offsetof(wy50_state, personality) == 14);
     CHECK(offsetof(wy50_state, remembered) == 15);
     CHECK(offsetof(wy50_state, sequence) == 16);
-    CHECK(offsetof(wy50_state, gathered) == 22);
-    CHECK(offsetof(wy50_state, tabs) == 68);
-    CHECK(offsetof(wy50_state, attributes) == 148);
-    CHECK(offsetof(wy50_state, features) == 152);
-    CHECK(offsetof(wy50_state, keys) == 157);
-    CHECK(offsetof(wy50_state, labels) == 445);
-    CHECK(offsetof(wy50_state, message) == 589);
-    CHECK(offsetof(wy50_state, shifted) == 636);
-    CHECK(sizeof(wy50_power_on_result) == 640);
-    CHECK(sizeof(wy50_step_result) == 656);
-    CHECK(sizeof(wy50_run_result) == 672);
+    CHECK(offsetof(wy50_state, sending) == 22);
+    CHECK(offsetof(wy50_state, gathered) == 26);
+    CHECK(offsetof(wy50_state, tabs) == 72);
+    CHECK(offsetof(wy50_state, attributes) == 152);
+    CHECK(offsetof(wy50_state, features) == 156);
+    CHECK(offsetof(wy50_state, keys) == 161);
+    CHECK(offsetof(wy50_state, labels) == 449);
+    CHECK(offsetof(wy50_state, message) == 593);
+    CHECK(offsetof(wy50_state, shifted) == 640);
+    CHECK(sizeof(wy50_power_on_result) == 644);
+    CHECK(sizeof(wy50_step_result) == 664);
+    CHECK(sizeof(wy50_run_result) == 680);
     CHECK(sizeof(wy50_press_result) == 16);
     CHECK(WY50_CELLS == WY50_ROWS * WY50_COLUMNS && WY50_ROW_NUMBERS == 2 * WY50_ROWS);
     part("sizes and offsets");
@@ -236,13 +239,22 @@ static void round_trip(void)
     r = wy50_step(page, WY50_CELLS, state, 0xe9, reply, sizeof reply);
     CHECK(r.answer == WY50_HIGH_BYTE && r.replied == 0 && same(&r.state, &state));
     r = wy50_step(page, WY50_CELLS, state, 0xff, reply, 0);
-    CHECK(r.answer == WY50_HIGH_BYTE && same(&r.state, &state));
+    CHECK(r.answer == WY50_HIGH_BYTE && r.taken == 1 && same(&r.state, &state));
     for (i = 0; i < WY50_KEYS; i++) {
         uint8_t key = (uint8_t)(i < 16 ? 0x40 + i : 0x50 + i);
         wy50_press_result k = wy50_press(page, WY50_CELLS, state, key, reply, sizeof reply);
         CHECK(k.answer == WY50_DONE && k.replied == (i % 9 ? i % 9 : 3));
         CHECK(i % 9 ? reply[k.replied - 1] == 0x21 + i : reply[0] == 1 && reply[1] == key && reply[2] == 13);
     }
+    memset(&state.sequence, 0, sizeof state.sequence);
+    state.sending.command = '5';
+    state.sending.kind = WY50_SENT_BREAK;
+    state.sending.place = 1360;
+    r = wy50_step(page, WY50_CELLS, state, 0xe9, reply, 0);
+    CHECK(r.answer == WY50_BAD_CALL && r.taken == 0);
+    state.sending.place = 1280;
+    r = wy50_step(page, WY50_CELLS, state, 0xe9, reply, 0);
+    CHECK(r.answer == WY50_NO_ROOM && r.taken == 0 && r.replied == 0 && same(&r.state, &state));
     part("a state filled in by hand comes back the same");
 }
 
@@ -317,9 +329,14 @@ static void bench(void)
     power_on();
     CHECK(FEED("\033=\x37\x6f\033") == 0);
     expected = state;
+    t = wy50_step(page, WY50_CELLS, state, '7', reply, 0);
+    CHECK(t.answer == WY50_NO_ROOM && t.taken == 0 && t.replied == 0 && same(&t.state, &expected) && t.state.sequence.kind == WY50_ESCAPE);
+    CHECK(FEED("7") == 0 && replied == 1944 && reply[1943] == 0x0d && FEED("\033") == 0 && same(&state, &expected));
     t = wy50_step(page, WY50_CELLS, state, '7', reply, 1943);
-    CHECK(t.answer == WY50_NO_ROOM && t.replied == 0 && same(&t.state, &expected) && t.state.sequence.kind == WY50_ESCAPE);
-    CHECK(FEED("7") == 0 && replied == 1944 && reply[1943] == 0x0d);
+    CHECK(t.answer == WY50_DONE && t.taken == 1 && t.replied == 1943 && reply[1942] == ' ' && t.state.sequence.kind == WY50_IDLE);
+    CHECK(t.state.sending.command == '7' && t.state.sending.kind == WY50_SENT_RETURN && t.state.sending.place == 0);
+    t = wy50_step(page, WY50_CELLS, t.state, 'A', reply, sizeof reply);
+    CHECK(t.answer == WY50_DONE && t.taken == 0 && t.replied == 1 && reply[0] == 0x0d && t.state.sending.command == 0);
     part("bench 12");
 
     /* the run stops before the byte that has no room, and goes on from there */
@@ -341,6 +358,87 @@ static void bench(void)
         }
     }
     part("the readers of a cell, for every number");
+}
+
+/* Bytes that begin a reply longer than the room, the cursor on cell 81, and the send that is then under way. */
+static void sends_as(const char *bytes, size_t room, uint8_t kind, uint16_t place)
+{
+    size_t n = strlen(bytes);
+    wy50_run_result r;
+    wy50_step_result s;
+    power_on();
+    CHECK(FEED("AB\033=!!") == 0);
+    expected = state;
+    expected.sending.command = (uint8_t)bytes[n - 1];
+    expected.sending.kind = kind;
+    expected.sending.place = place;
+    r = wy50_run(page, WY50_CELLS, state, (const uint8_t *)bytes, n, reply, room);
+    CHECK(r.answer == WY50_DONE && r.taken == n && r.replied == room && r.refused == 0 && same(&r.state, &expected));
+    s = wy50_step(page, WY50_CELLS, r.state, 0xe9, reply, 0);
+    CHECK(s.answer == WY50_NO_ROOM && s.taken == 0 && s.replied == 0 && same(&s.state, &expected));
+    r = wy50_run(page, WY50_CELLS, s.state, (const uint8_t *)"A", 1, reply, 0);
+    CHECK(r.answer == WY50_NO_ROOM && r.taken == 0 && r.replied == 0 && same(&r.state, &expected));
+    r = wy50_run(page, WY50_CELLS, r.state, (const uint8_t *)"A", 0, reply, 0);
+    CHECK(r.answer == WY50_DONE && r.replied == 0 && same(&r.state, &expected));
+    CHECK(wy50_press(page, WY50_CELLS, state, 0x40, reply, sizeof reply).answer == WY50_DONE);
+    CHECK(wy50_press(page, WY50_CELLS, r.state, 0x40, reply, sizeof reply).answer == WY50_NO_ROOM);
+    CHECK(wy50_press(page, WY50_CELLS, r.state, 0x50, reply, sizeof reply).answer == WY50_BAD_ARGUMENT);
+    s = wy50_step(page, WY50_CELLS, r.state, 0xe9, reply, sizeof reply);
+    CHECK(s.answer == WY50_DONE && s.taken == 0 && s.replied > 0 && same(&s.state, &state));
+}
+
+/* Host bytes through rooms of one length, from power-on; how long the joined replies are. */
+static uint8_t joined[4 * WY50_LONGEST_REPLY], whole[4 * WY50_LONGEST_REPLY];
+static size_t through(const char *bytes, size_t n, size_t room, uint8_t *to)
+{
+    size_t taken = 0, all = 0;
+    power_on();
+    do {
+        wy50_run_result r = wy50_run(page, WY50_CELLS, state, (const uint8_t *)bytes + taken, n - taken, to + all, room);
+        state = r.state;
+        taken += r.taken;
+        all += r.replied;
+        if (r.answer == WY50_BAD_CALL || (r.taken == 0 && r.replied == 0)) {
+            check(0, "each call takes a byte or sends one", __LINE__);
+            break;
+        }
+        if (room > sizeof joined - all)
+            room = sizeof joined - all;
+    } while (taken < n || state.sending.command != 0);
+    return all;
+}
+
+static void sends(void)
+{
+    static const char host[] = "\033)Roast\033(dark\037\033)Date\033(24 bags\0334a\0335b\0336c\0337d\033 e\033?f\033/g\033bh\005i\033Mj\033=\x37\x6f\0335k\0337";
+    static uint16_t page_after[WY50_CELLS];
+    static const size_t rooms[] = {1, 2, 3, 7, 64, 80, 81, 1943, WY50_LONGEST_REPLY};
+    wy50_state after;
+    size_t i, n;
+
+    sends_as("\033 ", 2, WY50_SENT_BYTES, 2);
+    sends_as("\033?", 1, WY50_SENT_BYTES, 1);
+    sends_as("\033/", 3, WY50_SENT_BYTES, 3);
+    sends_as("\033b", 6, WY50_SENT_BYTES, 6);
+    sends_as("\0334", 1, WY50_SENT_CELL, 81);
+    sends_as("\0334", 2, WY50_SENT_RETURN, 0);
+    sends_as("\0335", 1, WY50_SENT_CELL, 1);
+    sends_as("\0335", 80, WY50_SENT_BREAK, 80);
+    sends_as("\0335", 81, WY50_SENT_CELL, 80);
+    sends_as("\0336", 2, WY50_SENT_RETURN, 0);
+    sends_as("\0337", 79, WY50_SENT_CELL, 79);
+    sends_as("\0337", 83, WY50_SENT_RETURN, 0);
+    part("each send under way, with its numbers, and what it bars");
+
+    n = through(host, sizeof host - 1, sizeof whole, whole);
+    memcpy(page_after, page, sizeof page);
+    after = state;
+    CHECK(n > 2 * WY50_LONGEST_REPLY);
+    for (i = 0; i < sizeof rooms / sizeof *rooms; i++) {
+        CHECK(through(host, sizeof host - 1, rooms[i], joined) == n && memcmp(joined, whole, n) == 0);
+        CHECK(memcmp(page, page_after, sizeof page) == 0 && same(&state, &after));
+    }
+    part("through a narrow room: the joined replies, the page and the state of a roomy one");
 }
 
 /* The row list of the page, counted here. */
@@ -413,6 +511,7 @@ static int feed_both(const char *bytes, size_t n, size_t room)
         s = wy50_step_rows(page, WY50_CELLS, rows, WY50_ROW_NUMBERS, state, input[i], reply, room);
         alone = wy50_step(other_page, WY50_CELLS, state, input[i], other_reply, room);
         CHECK(s.answer != WY50_BAD_CALL && s.answer == alone.answer && s.replied == alone.replied && same(&s.state, &alone.state));
+        CHECK(s.taken == alone.taken);
         CHECK(same_page_and_reply());
         state = s.state;
         answer = s.answer;
@@ -432,7 +531,7 @@ static void refused_rows(const wy50_state *x, size_t page_len, size_t rows_len)
     copy_page();
     memcpy(rows_before, rows, sizeof rows);
     s = wy50_step_rows(page, page_len, rows, rows_len, *x, 5, reply, sizeof reply);
-    CHECK(s.answer == WY50_BAD_CALL && s.replied == 0 && same(&s.state, x));
+    CHECK(s.answer == WY50_BAD_CALL && s.taken == 0 && s.replied == 0 && same(&s.state, x));
     for (n = 0; n <= 4; n += 4) {
         wy50_run_result r = wy50_run_rows(page, page_len, rows, rows_len, *x, input, n, reply, sizeof reply);
         CHECK(r.answer == WY50_BAD_CALL && r.taken == 0 && r.replied == 0 && r.refused == 0 && same(&r.state, x));
@@ -488,8 +587,9 @@ static void row_lists(void)
     CHECK(feed_both("\033\1", 2, 0) == WY50_UNKNOWN);
     CHECK(feed_both("\033=\x38 ", 4, 0) == WY50_BAD_ARGUMENT);
     CHECK(feed_both("\033E", 2, 0) == WY50_BARRED);
-    CHECK(feed_both("\005\005\033?", 4, 2) == WY50_NO_ROOM);
-    CHECK(feed_both("?", 1, 3) == WY50_DONE);
+    CHECK(feed_both("\005\005\033", 3, 2) == WY50_DONE && feed_both("?", 1, 0) == WY50_NO_ROOM);
+    CHECK(feed_both("?", 1, 2) == WY50_DONE && state.sending.command == '?');
+    CHECK(feed_both("A", 1, 0) == WY50_NO_ROOM && feed_both("A", 1, 3) == WY50_DONE && state.sending.command == 0);
     part("a row list is right after every answer");
 
     power_on();
@@ -530,7 +630,7 @@ static void refused(const wy50_state *x, size_t page_len)
         before[i] = page[i] = (uint16_t)(i * 37);
     memset(reply, 0x55, sizeof reply);
     s = wy50_step(page, page_len, *x, 5, reply, sizeof reply);
-    CHECK(s.answer == WY50_BAD_CALL && s.replied == 0 && same(&s.state, x));
+    CHECK(s.answer == WY50_BAD_CALL && s.taken == 0 && s.replied == 0 && same(&s.state, x));
     r = wy50_run(page, page_len, *x, input, 4, reply, sizeof reply);
     CHECK(r.answer == WY50_BAD_CALL && r.taken == 0 && r.replied == 0 && r.refused == 0 && same(&r.state, x));
     k = wy50_press(page, page_len, *x, 0x40, reply, sizeof reply);
@@ -549,6 +649,13 @@ static void refused(const wy50_state *x, size_t page_len)
         change;                          \
         refused(&state, WY50_CELLS);     \
     } while (0)
+
+static void send_is(uint8_t command, uint8_t kind, uint16_t place)
+{
+    state.sending.command = command;
+    state.sending.kind = kind;
+    state.sending.place = place;
+}
 
 static void impossible(void)
 {
@@ -587,6 +694,16 @@ static void impossible(void)
     REFUSED((state.sequence.kind = WY50_KEY_TEXT, state.sequence.first = 'A', state.sequence.third = 1));
     REFUSED((state.sequence.kind = WY50_MESSAGE_TEXT, state.sequence.first = 1));
     REFUSED((state.sequence.kind = WY50_MESSAGE_SPOILT, state.sequence.second = 1));
+    REFUSED(send_is(0, 1, 0));
+    REFUSED(send_is(0, 0, 1));
+    REFUSED(send_is(1, 0, 1));
+    REFUSED(send_is('8', WY50_SENT_RETURN, 0));
+    REFUSED(send_is('7', WY50_SENT_BYTES, 1));
+    REFUSED(send_is('7', 4, 0));
+    REFUSED(send_is('7', WY50_SENT_RETURN, 1));
+    REFUSED(send_is('b', WY50_SENT_CELL, 1));
+    REFUSED(send_is('b', WY50_SENT_RETURN, 0));
+    REFUSED(send_is('b', WY50_SENT_BYTES, 257));
     REFUSED(state.shifted = 2);
     REFUSED(state.shifted = 256);
     REFUSED(state.personality = 0);
@@ -604,6 +721,23 @@ static void impossible(void)
     REFUSED(state.remembered = 1);
     REFUSED((state.personality = WY50_PERSONALITY_60, state.remembered = 31));
     REFUSED((state.personality = WY50_PERSONALITY_60, state.remembered = 32));
+    REFUSED((send_is(' ', WY50_SENT_BYTES, 1), state.sequence.kind = WY50_ESCAPE));
+    REFUSED((send_is('7', WY50_SENT_RETURN, 0), state.sequence.kind = WY50_MESSAGE_TEXT));
+    REFUSED(send_is(' ', WY50_SENT_BYTES, 0));
+    REFUSED(send_is(' ', WY50_SENT_BYTES, 3));
+    REFUSED(send_is('?', WY50_SENT_BYTES, 3));
+    REFUSED(send_is('/', WY50_SENT_BYTES, 4));
+    REFUSED(send_is('b', WY50_SENT_BYTES, 7));
+    REFUSED(send_is(5, WY50_SENT_BYTES, 0));
+    REFUSED(send_is(5, WY50_SENT_BYTES, 1));
+    REFUSED(send_is('M', WY50_SENT_BYTES, 1));
+    REFUSED((send_is('4', WY50_SENT_CELL, 80), state.screen.cursor0 = 81));
+    REFUSED((send_is('6', WY50_SENT_BREAK, 80), state.screen.cursor0 = 81));
+    REFUSED((send_is('5', WY50_SENT_CELL, 0), state.screen.cursor0 = 81));
+    REFUSED((send_is('5', WY50_SENT_CELL, 82), state.screen.cursor0 = 81));
+    REFUSED((send_is('7', WY50_SENT_BREAK, 0), state.screen.cursor0 = 81));
+    REFUSED((send_is('7', WY50_SENT_BREAK, 81), state.screen.cursor0 = 81));
+    REFUSED((send_is('7', WY50_SENT_BREAK, 160), state.screen.cursor0 = 81));
     REFUSED(state.attributes[3] = 0x2f);
     REFUSED(state.features[0] = '2');
     REFUSED(state.keys[31].len = 9);
@@ -682,6 +816,7 @@ int main(void)
     members();
     round_trip();
     bench();
+    sends();
     row_lists();
     personalities();
     impossible();

@@ -109,6 +109,17 @@ static size_t host(uint8_t *to, size_t most)
     return n;
 }
 
+/* A send by its numbers, mostly with no sequence. */
+static void set_send(wy50_state *x)
+{
+    static const uint8_t commands[] = {0, 5, ' ', '/', '4', '5', '6', '7', '8', '?', 'M', 'b'};
+    x->sending.command = commands[below(sizeof commands)];
+    x->sending.kind = (uint8_t)below(5);
+    x->sending.place = (uint16_t)(below(2) ? below(9) : below(4) ? below(24) * WY50_COLUMNS : below(WY50_CELLS));
+    if (below(4))
+        memset(&x->sequence, 0, sizeof x->sequence);
+}
+
 /* The state that the last calls left, one with a member or a byte changed, or any bytes. */
 static wy50_state any_state(wy50_state last)
 {
@@ -117,11 +128,14 @@ static wy50_state any_state(wy50_state last)
     if (k < 9)
         return last;
     memcpy(raw, &last, sizeof raw);
-    if (k < 12) {
+    if (k < 11) {
         raw[below(sizeof raw)] = (uint8_t)next();
+    } else if (k < 12) {
+        set_send(&last);
+        return last;
     } else if (k < 14) {
         for (i = 0; i <= below(4); i++)
-            raw[below(29)] = (uint8_t)below(32);
+            raw[below(33)] = (uint8_t)below(32);
     } else {
         for (i = 0; i < sizeof raw; i++)
             raw[i] = (uint8_t)next();
@@ -168,7 +182,14 @@ static void repeated(size_t cells, wy50_state x, const uint8_t *input, size_t n,
     size_t taken = 0, replied = 0, refused = 0;
     int answer = 0;
     memcpy(page_stepped, page_before, cells * sizeof *page);
-    while (taken < n) {
+    /* a send goes on by a step, whose own byte waits */
+    if (x.sending.command != 0 && room > 0) {
+        wy50_step_result s = wy50_step(page_stepped, cells, x, 0xe9, joined, room);
+        answer = s.answer;
+        replied = s.replied;
+        x = s.state;
+    }
+    while (answer == 0 && taken < n && (x.sending.command == 0 || replied == 0)) {
         wy50_step_result s = wy50_step(page_stepped, cells, x, input[taken], joined + replied, room - replied);
         answer = s.answer;
         if (answer == WY50_NO_ROOM || answer == WY50_BAD_CALL)
@@ -187,6 +208,38 @@ static void repeated(size_t cells, wy50_state x, const uint8_t *input, size_t n,
     expect(same(&r->state, &x), "a run leaves the state of the steps");
     expect(memcmp(page, page_stepped, cells * sizeof *page) == 0, "a run leaves the page of the steps");
     calls += taken;
+}
+
+/* A run through small rooms against one through a large room: joined replies, counts, state and page. */
+static uint8_t whole[(MOST_INPUT / 2 + 2) * WY50_LONGEST_REPLY], parts[sizeof whole];
+static uint16_t page_parts[MOST_PAGE];
+
+static void narrowed(size_t cells, wy50_state x, const uint8_t *input, size_t n)
+{
+    size_t taken = 0, all = 0, refused = 0;
+    wy50_run_result r, s;
+    memcpy(page_stepped, page_before, cells * sizeof *page_stepped);
+    memcpy(page_parts, page_before, cells * sizeof *page_parts);
+    r = wy50_run(page_stepped, cells, x, input, n, whole, sizeof whole);
+    if (r.answer == WY50_BAD_CALL)
+        return;
+    expect(r.answer == 0 && r.taken == n && r.state.sending.command == 0, "a roomy run leaves nothing");
+    x = tidied(x);
+    do {
+        size_t room = 1 + below(below(3) ? 70 : WY50_LONGEST_REPLY);
+        s = wy50_run(page_parts, cells, x, input + taken, n - taken, parts + all, room < sizeof parts - all ? room : sizeof parts - all);
+        expect(s.answer != WY50_BAD_CALL, "a good state stays good");
+        expect(s.taken + s.replied > 0 || n == 0, "each call takes a byte or sends one");
+        expect(s.taken == n - taken || s.replied == room, "a run stops only where the room is used up");
+        taken += s.taken;
+        all += s.replied;
+        refused += s.refused;
+        x = s.state;
+        calls++;
+    } while (taken < n || x.sending.command != 0);
+    expect(all == r.replied && memcmp(parts, whole, all) == 0, "through small rooms the joined replies are the same");
+    expect(refused == r.refused && same(&x, &r.state), "through small rooms the counts and the state are the same");
+    expect(memcmp(page_parts, page_stepped, cells * sizeof *page_parts) == 0, "through small rooms the page is the same");
 }
 
 /* What a call with a row list is lent: the page and the room as the call without it found them, and a list. */
@@ -255,10 +308,11 @@ static void listed_step(size_t cells, wy50_state x, uint8_t byte, size_t room, w
     wy50_step_result s = wy50_step_rows(lent_page, cells, rows, rows_len, x, byte, lent_reply, room);
     if (!right) {
         r.answer = WY50_BAD_CALL;
+        r.taken = 0;
         r.replied = 0;
         r.state = x;
     }
-    expect(s.answer == r.answer && s.replied == r.replied && same(&s.state, &r.state), "a step with a row list gives what it gives without");
+    expect(s.answer == r.answer && s.taken == r.taken && s.replied == r.replied && same(&s.state, &r.state), "a step with a row list gives what it gives without");
     lent(cells, right ? page : page_before, room, right ? reply : room_before, s.answer, &s.state);
 }
 
@@ -313,6 +367,8 @@ static wy50_state turn(wy50_state last, uint16_t *kept)
         bytes++;
         beyond(reply, room, r.replied);
         expect(r.answer <= 7, "a step answers 0 to 7");
+        expect(r.taken == (r.answer < 6 && x.sending.command == 0), "a byte is taken outside a send, unless it answers 6 or 7");
+        expect(r.answer == 7 || x.sending.command == 0 || (r.answer == (room ? 0 : 6) && (r.replied > 0) == (room > 0)), "during a send a step sends");
         expect(r.answer == 0 || (r.replied == 0 && memcmp(page, page_before, cells * sizeof *page) == 0), "a refusal replies and writes nothing");
         expect(r.answer != 7 || same(&r.state, &x), "7 leaves the state, bytes that mean nothing too");
         expect(r.state.personality == x.personality, "a step leaves the personality");
@@ -347,15 +403,18 @@ static wy50_state turn(wy50_state last, uint16_t *kept)
         beyond(reply, room, r.replied);
         expect(r.answer == 0 || r.answer == 6 || r.answer == 7, "a run answers 0, 6 or 7");
         expect(r.taken <= n && r.refused <= r.taken, "a run counts what there is");
-        expect(r.answer != 0 || r.taken == n, "a run that answers 0 took all");
+        expect(r.answer != 0 || r.taken == n || r.state.sending.command != 0, "a run that answers 0 took all, or ends inside a send");
         expect(r.answer != 6 || r.taken < n, "a run that answers 6 left some");
-        expect(r.answer != 6 || room - r.replied < WY50_LONGEST_REPLY, "1,944 bytes of room are enough");
+        expect(r.answer != 6 || r.replied == room, "6 means that no room is left");
+        expect(r.answer == 7 || r.state.sending.command == 0 || r.replied == room, "a send is left only where the room is used up");
         expect(r.answer != 7 || (r.taken == 0 && r.replied == 0 && r.refused == 0 && same(&r.state, &x)), "7 gives zeros and the state as it came");
         expect(r.state.personality == x.personality, "a run leaves the personality");
         expect(memcmp(input, text, n) == 0, "the input is not written");
         untouched(&input_buffer);
         repeated(cells, x, input, n, room, &r, page, reply);
         listed_run(cells, x, input, n, room, r, page, reply);
+        if (below(4) == 0)
+            narrowed(cells, x, input, n);
         answered_7 += r.answer == 7;
         last = r.answer == 7 ? last : r.state;
         break;
@@ -366,7 +425,7 @@ static wy50_state turn(wy50_state last, uint16_t *kept)
     calls++;
     if (cells == WY50_CELLS)
         memcpy(kept, page, sizeof *kept * WY50_CELLS);
-    expect(wy50_step(kept, WY50_CELLS, last, 0xe9, reply, 0).answer == WY50_HIGH_BYTE, "a good state stays good");
+    expect(wy50_step(kept, WY50_CELLS, last, 0xe9, reply, 0).answer == (last.sending.command ? WY50_NO_ROOM : WY50_HIGH_BYTE), "a good state stays good");
     return last;
 }
 
