@@ -15,7 +15,7 @@ pub enum Answer {
     /// A guarded cell or protect mode bars it; the sequence is cleared.
     Barred = 4,
     // 5 is unused.
-    /// The reply is longer than the room; nothing changed, the byte may come again.
+    /// There is no room while a reply is due, or a key's bytes do not fit or would come into a send; nothing changed, the byte may come again.
     NoRoom = 6,
     /// The state is not possible; nothing changed.
     BadCall = 7,
@@ -52,7 +52,7 @@ impl fmt::Display for Answer {
             Answer::Unknown => "no such byte after ESC",
             Answer::BadArgument => "an argument outside its range",
             Answer::Barred => "barred by protection",
-            Answer::NoRoom => "the reply does not fit",
+            Answer::NoRoom => "no room for the reply",
             Answer::BadCall => "the state is not possible",
             Answer::Locked => "the keyboard is locked",
         })

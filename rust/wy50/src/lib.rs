@@ -11,6 +11,27 @@
 //! assert_eq!(terminal.rows().next().unwrap().to_string().trim_end(), "Hello");
 //! ```
 //!
+//! A reply that does not fit begins, and goes on at the next call: the joined replies do not depend on the rooms. With any room but 0 each call takes
+//! a byte or sends one, so this loop ends:
+//!
+//! ```
+//! use wy50::{Answer, Terminal};
+//!
+//! let mut terminal = Terminal::new();
+//! let mut line: Vec<u8> = Vec::new();
+//! let mut bytes: &[u8] = b"\x1b=\x23 dark\x1b7!";
+//! let mut reply = [0; 64]; // what the line lends at a time
+//! loop {
+//!     let fed = terminal.feed(bytes, &mut reply);
+//!     line.extend(&reply[..fed.replied]);
+//!     bytes = fed.rest;
+//!     if fed.answer == Answer::BadCall || bytes.is_empty() && terminal.sending().is_none() {
+//!         break;
+//!     }
+//! }
+//! assert_eq!(line.len(), 3 * 80 + 5 + 3 + 1); // three rows and a part of one, US between them, CR
+//! ```
+//!
 //! [`Terminal::with_row_list`] takes long feeds faster over forms that are mostly labels, and changes nothing else.
 //!
 //! It links the proved library libwy50.a (see `build.rs`), which keeps nothing between calls and allocates nothing; neither does this crate.
@@ -19,13 +40,15 @@
 mod answer;
 mod cell;
 mod personality;
+mod sending;
 mod sys;
 
 pub use answer::Answer;
 pub use cell::{Attributes, Cell, Field, Kind, Row};
 use core::fmt;
 pub use personality::Personality;
-pub use sys::{Key, Message, Modes, Screen, Sequence, State};
+pub use sending::{Place, Sending};
+pub use sys::{Key, Message, Modes, RawSending, Screen, Sequence, State};
 
 pub const ROWS: usize = 24;
 pub const COLUMNS: usize = 80;
@@ -33,7 +56,7 @@ pub const COLUMNS: usize = 80;
 pub const CELLS: usize = ROWS * COLUMNS;
 /// A row list: two numbers for each row.
 pub const ROW_NUMBERS: usize = 2 * ROWS;
-/// A byte that has this room for its reply is never answered [`Answer::NoRoom`].
+/// No reply is longer: a byte that has this room begins no send that goes on at the next call.
 pub const LONGEST_REPLY: usize = 1944;
 /// The longest host message.
 pub const MESSAGE_BYTES: usize = 46;
@@ -42,7 +65,8 @@ pub const MESSAGE_BYTES: usize = 46;
 #[must_use]
 #[derive(Clone, Copy, Debug, PartialEq, Eq)]
 pub struct Fed<'a> {
-    /// [`Answer::Done`], [`Answer::NoRoom`] if it stopped before a byte whose reply does not fit, or [`Answer::BadCall`].
+    /// [`Answer::Done`], [`Answer::NoRoom`] if it stopped with no room left while a reply is due, or [`Answer::BadCall`]. Where the room ended inside
+    /// a send it is [`Answer::Done`]: ask [`Terminal::sending`].
     pub answer: Answer,
     /// How many bytes were taken.
     pub taken: usize,
@@ -50,11 +74,22 @@ pub struct Fed<'a> {
     pub replied: usize,
     /// How many of the bytes taken were refused, with an answer from 1 to 4.
     pub refused: usize,
-    /// The bytes not taken: feed them again once the reply is sent.
+    /// The bytes not taken: feed them next, once the reply is sent.
     pub rest: &'a [u8],
 }
 
-/// What one byte, or one key, came to.
+/// What one byte came to.
+#[must_use]
+#[derive(Clone, Copy, Debug, PartialEq, Eq)]
+pub struct Stepped {
+    pub answer: Answer,
+    /// The byte was taken. Else it is to come again: a send was under way, there was no room, or the state is not possible.
+    pub taken: bool,
+    /// How many bytes were put at the front of the reply.
+    pub replied: usize,
+}
+
+/// What one key came to.
 #[must_use]
 #[derive(Clone, Copy, Debug, PartialEq, Eq)]
 pub struct Replied {
@@ -111,7 +146,8 @@ impl Terminal {
         self
     }
 
-    /// Bytes from the host. What they reply is put at the front of `reply`; what lies beyond it is not touched.
+    /// Bytes from the host. What they reply is put at the front of `reply`; what lies beyond it is not touched. A send under way goes on first, and
+    /// over no bytes nothing else is done.
     pub fn feed<'a>(&mut self, bytes: &'a [u8], reply: &mut [u8]) -> Fed<'a> {
         let ran = match &mut self.row_list {
             Some(list) => sys::run_rows(&mut self.page, list, self.state, bytes, reply),
@@ -121,17 +157,18 @@ impl Terminal {
         Fed { answer: Answer::of(ran.answer), taken: ran.taken, replied: ran.replied, refused: ran.refused, rest: &bytes[ran.taken..] }
     }
 
-    /// One byte from the host, with its own answer.
-    pub fn step(&mut self, byte: u8, reply: &mut [u8]) -> Replied {
+    /// One byte from the host, with its own answer. During a send it sends what fits, and the byte waits.
+    pub fn step(&mut self, byte: u8, reply: &mut [u8]) -> Stepped {
         let stepped = match &mut self.row_list {
             Some(list) => sys::step_rows(&mut self.page, list, self.state, byte, reply),
             None => sys::step(&mut self.page, self.state, byte, reply),
         };
         self.state = stepped.state;
-        Replied { answer: Answer::of(stepped.answer), replied: stepped.replied }
+        Stepped { answer: Answer::of(stepped.answer), taken: stepped.taken != 0, replied: stepped.replied }
     }
 
-    /// A function key is pressed: 40h to 4Fh or 60h to 6Fh. Neither page nor state changes.
+    /// A function key is pressed: 40h to 4Fh or 60h to 6Fh. Neither page nor state changes. Its bytes fit, or the answer is [`Answer::NoRoom`], as it
+    /// is during a send.
     pub fn press(&self, key: u8, reply: &mut [u8]) -> Replied {
         let pressed = sys::press(&self.page, self.state, key, reply);
         Replied { answer: Answer::of(pressed.answer), replied: pressed.replied }
@@ -153,6 +190,11 @@ impl Terminal {
     /// The attribute that ESC G set last in a WY-60: what is stored next has it.
     pub fn remembered(&self) -> Attributes {
         Attributes(self.state.remembered)
+    }
+
+    /// The send under way, if there is one. A state that is filled in may have one that is not possible.
+    pub fn sending(&self) -> Option<Sending> {
+        Sending::at(self.state.sending)
     }
 
     /// The row list, if it is kept: for each row the number of its open cells, then the column of the first one, from 1, or 0.

@@ -50,6 +50,16 @@ pub struct Sequence {
     pub third: u16,
 }
 
+/// The send under way: the byte after ESC of its command (0: none), what stands at its place and the number of the place, as the constants of wy50.h
+/// say. [`Sending`](crate::Sending) has them by name.
+#[repr(C)]
+#[derive(Clone, Copy, Debug, PartialEq, Eq)]
+pub struct RawSending {
+    pub command: u8,
+    pub kind: u8,
+    pub place: u16,
+}
+
 /// All that a terminal remembers but its page. It may be filled in: a state that is not possible answers [`Answer::BadCall`].
 ///
 /// [`Answer::BadCall`]: crate::Answer::BadCall
@@ -64,6 +74,7 @@ pub struct State {
     /// The attribute that ESC G sets in a WY-60, as [`Attributes`](crate::Attributes) has it.
     pub remembered: u8,
     pub sequence: Sequence,
+    pub sending: RawSending,
     /// The bytes of a text under way, zeros behind them.
     pub gathered: [u8; MESSAGE_BYTES],
     pub tabs: [u8; COLUMNS],
@@ -84,6 +95,7 @@ pub struct RawPowerOn {
 #[repr(C)]
 pub struct RawStep {
     pub answer: u8,
+    pub taken: u8,
     pub replied: usize,
     pub state: State,
 }

@@ -1,5 +1,8 @@
-//! The wrapper against the rules: the bench list where it is short, the tail handed back, rows, cells, fields, answers, row lists, personalities.
-use wy50::{Answer, Attributes, Cell, Kind, Personality, Replied, Row, State, Terminal, CELLS, COLUMNS, LONGEST_REPLY, ROWS, ROW_NUMBERS};
+//! The wrapper against the rules: the bench list where it is short, the tail handed back, rows, cells, fields, answers, row lists, personalities, sends.
+use wy50::{
+    Answer, Attributes, Cell, Kind, Personality, Place, Replied, Row, Sending, State, Terminal, CELLS, COLUMNS, LONGEST_REPLY, ROWS,
+    ROW_NUMBERS,
+};
 
 /// Feeds all of it; the reply of all of it.
 fn fed(terminal: &mut Terminal, bytes: &[u8]) -> Vec<u8> {
@@ -11,7 +14,7 @@ fn fed(terminal: &mut Terminal, bytes: &[u8]) -> Vec<u8> {
 
 #[test]
 fn sizes() {
-    assert_eq!(std::mem::size_of::<State>(), 638);
+    assert_eq!(std::mem::size_of::<State>(), 642);
     assert_eq!(CELLS, ROWS * COLUMNS);
 }
 
@@ -92,10 +95,87 @@ fn bench_12_by_the_tail() {
     let mut room = [0; 1943];
     let input = b"\x1b=\x37\x6f\x1b7!";
     let stopped = t.feed(input, &mut room);
-    assert_eq!((stopped.answer, stopped.taken, stopped.replied, stopped.rest), (Answer::NoRoom, 5, 0, &b"7!"[..]));
-    let mut room = [0; LONGEST_REPLY];
+    assert_eq!((stopped.answer, stopped.taken, stopped.replied, stopped.rest), (Answer::Done, 6, 1943, &b"!"[..]));
+    assert_eq!(t.sending(), Some(Sending { command: b'7', place: Place::Return }));
+    let full = t.feed(stopped.rest, &mut []);
+    assert_eq!((full.answer, full.taken, full.rest), (Answer::NoRoom, 0, &b"!"[..]));
     let rest = t.feed(stopped.rest, &mut room);
-    assert_eq!((rest.answer, rest.taken, rest.replied, rest.rest), (Answer::Done, 2, 1944, &b""[..]));
+    assert_eq!((rest.answer, rest.taken, rest.replied, rest.rest), (Answer::Done, 1, 1, &b""[..]));
+    assert_eq!((room[0], t.sending()), (b'\r', None));
+}
+
+/// Feeds all of it through a room of this length; the joined replies.
+fn fed_through(terminal: &mut Terminal, mut bytes: &[u8], length: usize) -> Vec<u8> {
+    let (mut joined, mut reply) = (Vec::new(), vec![0; length]);
+    while !bytes.is_empty() || terminal.sending().is_some() {
+        let fed = terminal.feed(bytes, &mut reply);
+        assert!(fed.taken + fed.replied > 0, "each call takes a byte or sends one");
+        joined.extend(&reply[..fed.replied]);
+        bytes = fed.rest;
+    }
+    joined
+}
+
+/// Every reply of host bytes, over labels and fields, between text.
+const SENDS: &[u8] =
+    b"\x1b)Roast\x1b(dark\x1f\x1b)Date\x1b(24 bags\x1b4a\x1b5b\x1b6c\x1b7d\x1b e\x1b?f\x1b/g\x1bbh\x05i\x1bMj\x1b=\x37\x6f\x1b5k\x1b7";
+
+#[test]
+fn narrow_rooms_send_what_a_roomy_one_does() {
+    let mut roomy = Terminal::new();
+    let whole = fed_through(&mut roomy, SENDS, 3 * LONGEST_REPLY);
+    for length in [1, 7, 64, 1943] {
+        for start in [Terminal::new(), Terminal::new().with_row_list()] {
+            let mut narrow = start;
+            assert_eq!(fed_through(&mut narrow, SENDS, length), whole, "room {length}");
+            assert!(narrow == roomy);
+        }
+    }
+}
+
+#[test]
+fn the_place_of_a_send() {
+    let mut t = Terminal::new();
+    let mut reply = [0; 80];
+    assert_eq!(t.sending(), None);
+    let begun = t.feed(b"\x1b=!!\x1b7", &mut reply[..79]);
+    assert_eq!((begun.answer, begun.taken, begun.replied), (Answer::Done, 6, 79));
+    let at = |place| Some(Sending { command: b'7', place });
+    assert_eq!(t.sending(), at(Place::Cell(79)));
+    let step = t.step(0xe9, &mut reply[..1]);
+    assert_eq!((step.answer, step.taken, step.replied), (Answer::Done, false, 1));
+    assert_eq!(t.sending(), at(Place::Break(80)));
+    assert_eq!(t.press(0x40, &mut reply).answer, Answer::NoRoom);
+    let none = t.step(b'A', &mut []);
+    assert_eq!((none.answer, none.taken), (Answer::NoRoom, false));
+    let last = t.step(b'A', &mut reply);
+    assert_eq!((last.answer, last.taken, last.replied, &reply[..4]), (Answer::Done, false, 4, &b"\x1f  \r"[..]));
+    assert_eq!(t.sending(), None);
+    let own = t.step(b'A', &mut reply);
+    assert_eq!((own.answer, own.taken, own.replied, t.page()[81]), (Answer::Done, true, 0, 0x41));
+    let two = t.feed(b"\x1b ", &mut reply[..2]);
+    assert_eq!((two.replied, t.sending()), (2, Some(Sending { command: b' ', place: Place::Byte(2) })));
+}
+
+#[test]
+fn a_sequence_and_a_send_answer_7() {
+    let mut t = Terminal::new();
+    let _ = t.feed(b"\x1b ", &mut [0; 1]);
+    assert!(t.sending().is_some());
+    let mut state = *t.state();
+    state.sequence.kind = 1;
+    let mut bad = Terminal::from_parts(*t.page(), state);
+    let before = bad.clone();
+    assert_eq!((bad.feed(b"A", &mut [0; 9]).answer, bad.step(b'A', &mut [0; 9]).answer), (Answer::BadCall, Answer::BadCall));
+    assert_eq!(bad.press(0x40, &mut [0; 9]).answer, Answer::BadCall);
+    assert!(bad == before && bad.with_row_list().row_list().is_none());
+    let short = [(b' ', 0, 0), (b' ', 0, 3), (b' ', 1, 1), (b' ', 0, 257), (b'M', 0, 1), (b'x', 0, 1), (0, 0, 1)];
+    let text = [(b'7', 0, 1), (b'7', 1, 0), (b'7', 1, 1), (b'7', 2, 80), (b'7', 3, 1), (b'7', 4, 0)];
+    for (command, kind, place) in short.into_iter().chain(text) {
+        let mut state = *t.state();
+        (state.sending.command, state.sending.kind, state.sending.place) = (command, kind, place);
+        assert_eq!(Terminal::from_parts(*t.page(), state).feed(b"", &mut [0; 9]).answer, Answer::BadCall, "{command} {kind} {place}");
+    }
 }
 
 #[test]
@@ -177,7 +257,7 @@ fn fields() {
 #[test]
 fn answers() {
     assert_eq!((Answer::Done.number(), Answer::Locked.number()), (0, 8));
-    assert_eq!(Answer::NoRoom.to_string(), "the reply does not fit");
+    assert_eq!(Answer::NoRoom.to_string(), "no room for the reply");
 }
 
 /// The row list of a terminal, counted here.
@@ -210,10 +290,15 @@ fn a_row_list_changes_no_result_and_is_kept() {
         }
     }
     for &byte in HOST {
-        let (mut reply, mut other) = ([7; 3], [7; 3]);
-        assert_eq!(listed.step(byte, &mut reply), plain.step(byte, &mut other));
-        assert!(reply == other && listed == plain);
-        assert_eq!(listed.row_list().unwrap()[..], counted(&listed));
+        let mut waits = true;
+        while waits {
+            let (mut reply, mut other) = ([7; 30], [7; 30]);
+            let stepped = listed.step(byte, &mut reply);
+            assert_eq!(stepped, plain.step(byte, &mut other));
+            assert!(reply == other && listed == plain);
+            assert_eq!(listed.row_list().unwrap()[..], counted(&listed));
+            waits = !stepped.taken;
+        }
     }
 }
 
