@@ -56,7 +56,7 @@ impl Default for Proved {
 
 impl Peer for Proved {
     fn read(&mut self, mut bytes: &[u8]) {
-        while !bytes.is_empty() {
+        while !bytes.is_empty() || self.terminal.sending().is_some() {
             bytes = self.terminal.feed(bytes, &mut self.reply).rest;
         }
     }
@@ -126,7 +126,7 @@ impl Default for Independent {
 
 impl Peer for Independent {
     fn read(&mut self, mut bytes: &[u8]) {
-        while !bytes.is_empty() {
+        while !bytes.is_empty() || self.terminal.state.sending.is_some() {
             bytes = self.terminal.run(bytes, &mut self.reply).rest;
         }
     }
@@ -178,7 +178,7 @@ pub fn difference(stream: &[u8], wy60: bool) -> Option<String> {
     let (mut our_reply, mut their_reply) = ([0; READ], [0; READ]);
     let mut at = 0;
     for mut read in stream.chunks(READ) {
-        while !read.is_empty() {
+        while !read.is_empty() || ours.sending().is_some() {
             let a = ours.feed(read, &mut our_reply);
             let b = theirs.run(read, &mut their_reply);
             let counts = [(a.taken, a.replied, a.refused), (b.taken, b.replied, b.refused)];
@@ -205,7 +205,7 @@ pub fn list_difference(stream: &[u8]) -> Option<String> {
     let (mut plain_reply, mut listed_reply) = ([0; READ], [0; READ]);
     let mut at = 0;
     for mut read in stream.chunks(READ) {
-        while !read.is_empty() {
+        while !read.is_empty() || plain.sending().is_some() {
             let fed = plain.feed(read, &mut plain_reply);
             if listed.feed(read, &mut listed_reply) != fed || listed_reply != plain_reply || listed != plain {
                 return Some(format!("from byte {at}: the row list changes the result"));
