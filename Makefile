@@ -1,59 +1,77 @@
-# make test: the gate. make demo: the gateway's main job on two host streams. make fuzz SECONDS=60 SEED=7: the differential test for longer.
-# make lib: the libraries for C and Rust, terminal and counter. make test-face: their tests. make fuzz-face SECONDS=60: random calls. make install PREFIX=/usr/local.
-# make bench: times beside the peers, to docs/BENCHMARKS.md.
+# make, alone, says what there is to make.
 
-.PHONY: test demo fuzz lib test-face fuzz-face install bench
+.PHONY: help demo test lib test-face fuzz fuzz-face bench install uninstall clean
+.DEFAULT_GOAL := help
 
 SECONDS ?= 60
 SEED ?= 1
 PREFIX ?= /usr/local
+TO := $(DESTDIR)$(PREFIX)
 LIB := target/staticlib/libwy50.a
 COUNTER := target/staticlib/libwy50_counter.a
+HEADERS := wy50.h wy50_counter.h
+CRATES := wy50 wy50-counter
+# bench writes its table where git does not see it, unless it is to be saved
+TABLE := $(if $(SAVE),docs,target)/BENCHMARKS.md
 TERMINAL := $(addprefix crates/,rules page state plan carry terminal)
 sources = crates.txt $(shell find $(1) -name '*.rt' -o -name '*.antt')
 
-test:
+help: ## these lines
+	@awk -F ':.*## ' '/^[a-z-]+:.*## / { printf "    make %-10s %s\n", $$1, $$2 }' $(MAKEFILE_LIST)
+
+demo: ## plays two host streams: page, refusals, what members are sent with its text parts
+	@tools/need rt
+	@examples/demo
+
+test: ## the gate: proves every crate, tries the must-fail edits, runs the tests; half an hour on two cores
+	@tools/need rt cargo
 	@tests/gate
 
-demo:
-	@mkdir -p target
-	@rt check alert >target/demo.log 2>&1 || { cat target/demo.log; exit 1; }
-	@target/bin/alert examples/roast-alert.host
-	@echo
-	@target/bin/alert examples/june-slip.host
-
-# over the replay that make test or rt check has built
-fuzz:
-	@test -x target/bin/replay || rt check replay
-	@$$(tests/build-independent) compare target/bin/replay $(SEED) --seconds $(SECONDS)
-
-lib: $(LIB) $(COUNTER)
+lib: $(LIB) $(COUNTER) ## libwy50.a and libwy50_counter.a, in target/staticlib
 
 $(LIB): $(call sources,$(TERMINAL) crates/wy50)
-	rt staticlib wy50
+	@tools/prove staticlib wy50
 	@touch $@
 
 $(COUNTER): $(call sources,$(TERMINAL) crates/counter crates/wy50_counter)
-	rt staticlib wy50_counter
+	@tools/prove staticlib wy50_counter
 	@touch $@
 
-test-face: lib
+test-face: lib ## tests of the libraries from C and Rust, the examples and the pages
 	@tests/face/run
 
-fuzz-face: $(LIB)
+# over the replay that make test or rt check has built
+fuzz: ## random scripts against the independent implementation; SECONDS=60 SEED=1
+	@tools/need cargo
+	@test -x target/bin/replay || tools/prove check replay
+	@$$(tests/build-independent) compare target/bin/replay $(SEED) --seconds $(SECONDS)
+
+fuzz-face: $(LIB) ## random calls from C under the sanitizers; SECONDS=60
 	@mkdir -p target/face
 	$(CC) -std=c99 -Wall -Wextra -Werror -O1 -g -fsanitize=address,undefined -fno-sanitize-recover=all -Iinclude tests/face/fuzz.c $(LIB) -o target/face/fuzz
 	target/face/fuzz $(SECONDS)
 
-install: lib
-	install -d $(DESTDIR)$(PREFIX)/lib/pkgconfig $(DESTDIR)$(PREFIX)/include
-	install -m 644 $(LIB) $(COUNTER) $(DESTDIR)$(PREFIX)/lib
-	install -m 644 include/wy50.h include/wy50_counter.h $(DESTDIR)$(PREFIX)/include
+bench: lib ## times beside the peers, to target/BENCHMARKS.md; with SAVE=1 to docs/BENCHMARKS.md
+	@tools/need cargo
+	@echo '#include <vterm.h>' | $(CC) -E - >/dev/null 2>&1 || { echo 'make bench needs libvterm: apt-get update && apt-get install -y libvterm-dev'; exit 1; }
+	@CARGO_TARGET_DIR=target/bench cargo build --release --offline --quiet --manifest-path tests/bench/Cargo.toml
+	@target/bench/release/bench $(TABLE)
+
+install: lib ## libraries, headers, pkg-config files and the Rust crates' source; PREFIX=/usr/local
+	install -d $(TO)/lib/pkgconfig $(TO)/include
+	install -m 644 $(LIB) $(COUNTER) $(TO)/lib
+	install -m 644 $(addprefix include/,$(HEADERS)) $(TO)/include
 	for name in wy50 wy50_counter; do \
-	    sed -e 's|@PREFIX@|$(PREFIX)|' -e "s|@VERSION@|$$(cat VERSION)|" $$name.pc.in > $(DESTDIR)$(PREFIX)/lib/pkgconfig/$$name.pc || exit 1; \
+	    sed -e 's|@PREFIX@|$(PREFIX)|' -e "s|@VERSION@|$$(cat VERSION)|" $$name.pc.in > $(TO)/lib/pkgconfig/$$name.pc || exit 1; \
+	done
+	for crate in $(CRATES); do \
+	    install -d $(TO)/share/wy50/rust/$$crate/src && install -m 644 LICENSE rust/$$crate/Cargo.toml rust/$$crate/build.rs $(TO)/share/wy50/rust/$$crate \
+	        && install -m 644 rust/$$crate/src/*.rs $(TO)/share/wy50/rust/$$crate/src || exit 1; \
 	done
 
-bench: lib
-	@echo '#include <vterm.h>' | $(CC) -E - >/dev/null 2>&1 || { echo 'make bench needs libvterm: apt-get install -y libvterm-dev'; exit 1; }
-	@CARGO_TARGET_DIR=target/bench cargo build --release --offline --quiet --manifest-path tests/bench/Cargo.toml
-	@target/bench/release/bench docs/BENCHMARKS.md
+uninstall: ## takes out what install put there; the same PREFIX
+	rm -f $(addprefix $(TO)/lib/,$(notdir $(LIB) $(COUNTER))) $(addprefix $(TO)/include/,$(HEADERS)) $(TO)/lib/pkgconfig/wy50.pc $(TO)/lib/pkgconfig/wy50_counter.pc
+	rm -rf $(TO)/share/wy50
+
+clean: ## removes all that was built, the proofs too
+	rm -rf target
