@@ -1,17 +1,26 @@
 /* Runs a program on a 24 by 80 pseudo-terminal with TERM=wy50, feeds what it writes to the terminal, writes the replies back, and prints the
- * page at the end: when the program ends, or, with -s or -q, when it has been quiet for a while after the last keys; then it is killed.
+ * page at the end.
  *
  *     host_pty [-6] [-l] [-s KEYS].. [-q MILLISECONDS] PROGRAM [ARGUMENT]..
  *
  *     -6               a WY-60, with TERM=wy60; what has an attribute is listed below the page
+ *     -l               follow live on this ANSI display, attributes as they are, guarded cells dim; what is typed goes to the program, Ctrl-] ends
  *     -s KEYS          once the program is quiet, send it these keys; may come more than once. \r \e \b \t \\ and \xHH are read as in C
  *     -q MILLISECONDS  how long quiet is (300)
- *     -l               follow live on this ANSI display, attributes as they are, guarded cells dim; what is typed goes to the program, Ctrl-] ends
+ *
+ * Without an option it follows live if it stands on a display itself. With -s or -q it kills the program when it has been quiet for a while
+ * after the last keys.
+ *
+ * The status is the program's, 128 and the signal's number if a signal ended it, 0 if host_pty did; 127 if the program cannot be started.
+ *
+ * Real programs choose a character set to draw lines with, which these rules leave out, and letters would stand for lines: examples/terminfo
+ * writes entries wy50 and wy60 without it, so that they draw + - |. TERMINFO=DIR host_pty PROGRAM uses those.
  */
 #define _DEFAULT_SOURCE
 #include "wy50.h"
 
 #include <errno.h>
+#include <fcntl.h>
 #include <poll.h>
 #include <pty.h>
 #include <signal.h>
@@ -169,8 +178,39 @@ static void usage(void)
     exit(2);
 }
 
-/* Bytes to and from the program until it ends, goes quiet after the last keys, or Ctrl-] is typed. */
-static void play(int program, int live, char **scripts, int count, int quiet)
+/* Starts the program on a pseudo-terminal; -1 if it cannot be started. The pipe closes at its start, or says why there is none. */
+static pid_t start(int *program, const char *term, char **words)
+{
+    struct winsize size = {WY50_ROWS, WY50_COLUMNS, 0, 0};
+    int said[2], why = 0;
+    pid_t child;
+    if (pipe(said) < 0 || (child = forkpty(program, NULL, NULL, &size)) < 0) {
+        perror("host_pty: no pseudo-terminal");
+        exit(1);
+    }
+    if (child == 0) {
+        close(said[0]);
+        fcntl(said[1], F_SETFD, FD_CLOEXEC);
+        setenv("TERM", term, 1);
+        unsetenv("LINES");
+        unsetenv("COLUMNS");
+        execvp(*words, words);
+        why = errno;
+        put(said[1], (const uint8_t *)&why, sizeof why);
+        _exit(127);
+    }
+    close(said[1]);
+    if (read(said[0], &why, sizeof why) == sizeof why) {
+        fprintf(stderr, "host_pty: %s: %s\n", *words, strerror(why));
+        waitpid(child, NULL, 0);
+        child = -1;
+    }
+    close(said[0]);
+    return child;
+}
+
+/* Bytes to and from the program until it ends (then 1), or goes quiet after the last keys, or Ctrl-] is typed. */
+static int play(int program, int live, char **scripts, int count, int quiet)
 {
     uint8_t bytes[4096];
     int sent = 0;
@@ -180,11 +220,14 @@ static void play(int program, int live, char **scripts, int count, int quiet)
         fds[0].fd = program;
         fds[1].fd = live ? 0 : -1;
         ready = poll(fds, 2, quiet);
-        if (ready < 0 && errno != EINTR)
-            return;
+        if (ready < 0) {
+            if (errno != EINTR)
+                return 0;
+            continue;
+        }
         if (ready == 0) {
             if (sent == count)
-                return;
+                return 0;
             put(program, (const uint8_t *)scripts[sent], keys(scripts[sent]));
             sent++;
             continue;
@@ -192,13 +235,13 @@ static void play(int program, int live, char **scripts, int count, int quiet)
         if (fds[1].revents & POLLIN) {
             ssize_t n = read(0, bytes, sizeof bytes);
             if (n <= 0 || memchr(bytes, END_KEY, (size_t)n))
-                return;
+                return 0;
             put(program, bytes, (size_t)n);
         }
         if (fds[0].revents) {
             ssize_t n = read(program, bytes, sizeof bytes);
             if (n <= 0)
-                return;
+                return 1;
             feed(program, bytes, (size_t)n);
             if (live)
                 show();
@@ -208,10 +251,9 @@ static void play(int program, int live, char **scripts, int count, int quiet)
 
 int main(int argc, char **argv)
 {
-    struct winsize size = {WY50_ROWS, WY50_COLUMNS, 0, 0};
     struct termios before;
     char *scripts[64];
-    int option, program, personality = WY50_PERSONALITY_50, live = 0, count = 0, quiet = -1, raw = 0;
+    int option, program, ended, status = 0, personality = WY50_PERSONALITY_50, live = 0, count = 0, quiet = -1, raw = 0;
     pid_t child;
 
     while ((option = getopt(argc, argv, "+6ls:q:")) != -1) {
@@ -230,21 +272,13 @@ int main(int argc, char **argv)
         usage();
     if (count > 0 && quiet < 0)
         quiet = 300;
+    if (quiet < 0 && isatty(0) && isatty(1))
+        live = 1;
 
     state = wy50_power_on(page, WY50_CELLS, (uint8_t)personality).state;
-    child = forkpty(&program, NULL, NULL, &size);
-    if (child < 0) {
-        perror("host_pty: no pseudo-terminal");
-        return 1;
-    }
-    if (child == 0) {
-        setenv("TERM", personality == WY50_PERSONALITY_60 ? "wy60" : "wy50", 1);
-        unsetenv("LINES");
-        unsetenv("COLUMNS");
-        execvp(argv[optind], argv + optind);
-        perror(argv[optind]);
-        _exit(127);
-    }
+    child = start(&program, personality == WY50_PERSONALITY_60 ? "wy60" : "wy50", argv + optind);
+    if (child < 0)
+        return 127;
     if (live) {
         if (tcgetattr(0, &before) == 0) {
             struct termios now = before;
@@ -254,7 +288,7 @@ int main(int argc, char **argv)
         fputs("\033[0m\033[2J", stdout);
         memset(shown, 0, sizeof shown);
     }
-    play(program, live, scripts, count, quiet);
+    ended = play(program, live, scripts, count, quiet);
     if (raw)
         tcsetattr(0, TCSANOW, &before);
     if (live)
@@ -262,8 +296,11 @@ int main(int argc, char **argv)
     print_page();
     print_attributes();
     fprintf(stderr, "host_pty: %zu bytes, %zu refused, cursor at row %u column %u\n", fed, refused, cursor() / WY50_COLUMNS + 1, cursor() % WY50_COLUMNS + 1);
-    kill(-child, SIGKILL);
-    waitpid(child, NULL, 0);
+    if (!ended)
+        kill(-child, SIGKILL);
+    waitpid(child, &status, 0);
     close(program);
-    return 0;
+    if (!ended)
+        return 0;
+    return WIFSIGNALED(status) ? 128 + WTERMSIG(status) : WEXITSTATUS(status);
 }
