@@ -18,7 +18,6 @@
  */
 #define _GNU_SOURCE
 #include <errno.h>
-#include <fcntl.h>
 #include <netdb.h>
 #include <netinet/in.h>
 #include <netinet/tcp.h>
@@ -31,7 +30,7 @@
 #include <wy50.h>
 #include <wy50_counter.h>
 
-enum { ESC = 0x1b, FS = 0x1c, US = 0x1f };
+enum { FS = 0x1c, US = 0x1f }; /* part the pieces of a reply to ESC 5 */
 
 /* ---- the terminal */
 
