@@ -6,6 +6,16 @@
  *
  * Every call returns, whatever numbers it is handed. It relies on this much of its caller: a pointer goes with a count of elements, is not
  * NULL even where the count is 0, and points to that many; and the page, the row list, the input and the reply room do not overlap.
+ *
+ * Start from wy50_power_on: a page and a state of one's own making may well be no terminal, and answer 7.
+ *
+ * A run sends what is left of a reply first, and stops where its room is used up. With an empty room it never gets on while a reply is due; with any
+ * other it takes a byte or sends one. Hand it the rest while there is some, and call again while a send is under way: loop while
+ * (left > 0 || state.sending.command != 0).
+ *
+ * What ESC 4 to ESC 7 send ends at the cursor. A program that wants a whole form has the host go to its last cell first, or reads the page itself.
+ *
+ * Threads: a terminal is its page and its state. Different terminals may be used at the same time, one terminal by one thread at a time.
  */
 #ifndef WY50_H
 #define WY50_H
