@@ -23,7 +23,7 @@ demo: ## plays two host streams: page, refusals, what members are sent with its 
 	@tools/need rt
 	@examples/demo
 
-test: ## the gate: proves every crate, tries the must-fail edits, runs the tests; half an hour on two cores
+test: ## the gate: proves every crate, tries the must-fail edits, runs the tests; an hour on two cores
 	@tools/need rt cargo
 	@tests/gate
 
