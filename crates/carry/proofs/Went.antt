@@ -2,17 +2,15 @@
 --     went, went-none, went-fits             bytes, room and place by the rules' names
 --     cell-went, cursor-went, segment-went, decimal-went     the short replies that are read from the core and the page
 --     short-went, text-went, text-needs      a send by its kind
---     cursor-below, row-below, column-below, active-most     the numbers of a possible screen
+--     cursor-below, row-below, column-below     the numbers of a possible screen
 -- Assumes nothing.
 use mathlib.Core.Path.{_≡_, sym, ap, subst, _∙_}
-use mathlib.Core.Bool.{Bool, true, false}
+use mathlib.Core.Bool.{Bool, true}
 use mathlib.Core.List.{List, [], _∷_}
 use Prim.Native.Nat.{ℕ, _+_, _*_, _≤_, _<_}
 use native.Mathlib.Nat.{sub-zero, zero-add}
 use native.Mathlib.Omega.{arith}
-use lib.Dec.{eqb, leb}
 use lib.ListN.{length, getD, take, drop, length-take}
-use borrow.Author.Tests.{eqb-true, leb-true}
 use Rattle.rules.specs.declared.Core.{Core}
 use Rattle.rules.specs.declared.Screen.{Screen}
 use Rattle.rules.specs.declared.Short.{Short}
@@ -21,13 +19,11 @@ use Rattle.rules.specs.declared.Place.{Place}
 use Rattle.rules.specs.declared.Place.the-variants as Place
 use Rattle.rules.specs.declared.Sending.{Sending}
 use Rattle.rules.specs.declared.Sending.the-variants as Sending
-use Rattle.rules.specs.Cell.{pick}
 use Rattle.rules.specs.Row.{Width}
 use Rattle.rules.specs.State.{widthOf, pageLength, cursorOf, cursorRow, cursorColumn}
-use Rattle.rules.specs.Possible.{unsplitOk, splitOk, screenOk, shortLength}
+use Rattle.rules.specs.Possible.{screenOk, shortLength}
 use Rattle.rules.specs.Good.{GoodPlace, GoodSend}
 use Rattle.rules.specs.Send.{openCell, decimal, shortReply, each, textAt, places, bytesOf, sentFrom, leftFrom}
-use Rattle.rules.proofs.Tests.{both-parts}
 use Rattle.rules.proofs.Rows.{columns-width}
 use Rattle.rules.proofs.Screens.{screen-inside}
 use Rattle.page.specs.Room.{stored, Gone, stands, gone}
@@ -122,13 +118,3 @@ module _ (x : Screen) (ok : screenOk x ≡ true) {n : ℕ} where
 
   pub row-below : n ≡ cursorRow x → n < 24
   row-below h = omega (arith, screen-inside x ok)
-
-pub active-most : (x : Screen) → screenOk x ≡ true → x .active ≤ 1
-unfolding screenOk unsplitOk splitOk
-active-most x h = by (eqb (x .split) 0) h
-  where
-    by : (t : Bool) → pick t (unsplitOk x) (splitOk x) ≡ true → x .active ≤ 1
-    by true e = omega (arith, eqb-true (x .active) 0 (both-parts (eqb (x .active) 0) _ e .0))
-    by false e =
-        let rest = both-parts (leb (x .split) 24) _ (both-parts (leb 2 (x .split)) _ e .1) .1 in
-        leb-true (x .active) 1 (both-parts (leb (x .active) 1) _ rest .0)

@@ -27,8 +27,8 @@ use Rattle.rules.specs.declared.Send.the-variants as Send
 use Rattle.rules.specs.declared.Place.the-variants as Place
 use Rattle.rules.specs.declared.Sending.{Sending}
 use Rattle.rules.specs.declared.Sending.the-variants as Sending
-use Rattle.rules.specs.Cell.{pick, both, either, among, code, kind, sent}
-use Rattle.rules.specs.State.{widthOf, pageLength, segmentStart, awaiting, idle, isIdle, sends, withSending, changed, sendingAfter, gatheredAfter, setupAfter, Inside}
+use Rattle.rules.specs.Cell.{pick, either, among, code, kind, sent}
+use Rattle.rules.specs.State.{widthOf, segmentStart, awaiting, idle, isIdle, sends, withSending, changed, sendingAfter, gatheredAfter, setupAfter, Inside}
 use Rattle.rules.specs.Possible.{good}
 use Rattle.rules.specs.Good.{GoodSend}
 use Rattle.rules.specs.Decode.{lookup, idleRule, escapeRule, decodeRule}
@@ -41,7 +41,7 @@ use Rattle.rules.specs.Calls.{Ran, ended, joined, repeated, runInside, runRule}
 use Rattle.rules.specs.Noninterference.{Alike}
 use Rattle.rules.proofs.Tests.{both-true, both-parts}
 use Rattle.rules.proofs.Screens.{screen-inside}
-use Rattle.rules.proofs.Sends.{places-small, bytes-beyond, places-left, left-ok, some-left, not-sending, sent-fits, sent-full, sent-bound}
+use Rattle.rules.proofs.Sends.{places-small, bytes-beyond, places-left, left-ok, some-left, idle-is, not-sending, sent-fits, sent-full, sent-bound}
 use Rattle.rules.proofs.Kept.{good-parts, possible-parts, step-good}
 use Rattle.rules.proofs.Labels.{labels-stay-in}
 use Rattle.rules.proofs.Run.{run-refused, run-go, run-stop, run-done}
@@ -164,19 +164,6 @@ pub record Stopped (p : List ℕ) (s : State) (r : Ran) : Type 0 where
   pub state : r .state ≡ under s Pending.Escape
   pub page : r .page ≡ p
   pub reply : r .reply ≡ []
-
-idle-is : (q : Pending) → isIdle q ≡ true → q ≡ Pending.Idle
-idle-is Pending.Idle e = refl
-idle-is Pending.Escape e = absurd (false≢true e)
-idle-is (Pending.Awaits a) e = absurd (false≢true e)
-idle-is (Pending.AddressRow r) e = absurd (false≢true e)
-idle-is (Pending.SegmentNumber n) e = absurd (false≢true e)
-idle-is (Pending.SegmentRow n r) e = absurd (false≢true e)
-idle-is (Pending.DecimalRow n r) e = absurd (false≢true e)
-idle-is (Pending.DecimalColumn r n c) e = absurd (false≢true e)
-idle-is (Pending.FieldNumber n) e = absurd (false≢true e)
-idle-is (Pending.Text x n) e = absurd (false≢true e)
-idle-is (Pending.Spoilt x) e = absurd (false≢true e)
 
 ready-parts : (s : State) → isReady s ≡ true → (s .core .pending ≡ Pending.Idle) × (sends (s .sending) ≡ false)
 unfolding isReady

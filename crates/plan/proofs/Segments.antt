@@ -1,5 +1,4 @@
 -- Numbers of segments: subtractions and sums of them stay in range.
---     active-most     of a possible screen the active segment is 0 or 1
 --     segment-code    a segment's code is no less than 30h
 --     segment-rows    the segment that a code names, made active, has rows of the page
 -- Assumes nothing.
@@ -7,26 +6,16 @@ use mathlib.Core.Path.{_≡_, refl}
 use mathlib.Core.Bool.{Bool, true, false, not}
 use Prim.Native.Nat.{ℕ, _-_, _≤_}
 use native.Mathlib.Omega.{arith}
-use lib.Dec.{leb, eqb}
-use borrow.Author.Tests.{leb-true, eqb-true}
+use lib.Dec.{eqb}
+use borrow.Author.Tests.{eqb-true}
 use Rattle.rules.specs.declared.Screen.{Screen}
-use Rattle.rules.specs.Cell.{pick, both, either}
-use Rattle.rules.specs.Possible.{unsplitOk, splitOk, screenOk}
+use Rattle.rules.specs.Cell.{both, either}
+use Rattle.rules.specs.Possible.{screenOk}
 use Rattle.rules.specs.State.{activated, Inside}
 use Rattle.rules.specs.Plan.{isSegment}
 use Rattle.rules.proofs.Tests.{both-parts}
 use Rattle.rules.proofs.Screens.{screen-inside, activated-kept}
 use Rattle.rules.proofs.Places.{segment-there}
-
-pub active-most : (x : Screen) → screenOk x ≡ true → x .active ≤ 1
-unfolding screenOk unsplitOk splitOk
-active-most x h = by (eqb (x .split) 0) h
-  where
-    by : (t : Bool) → pick t (unsplitOk x) (splitOk x) ≡ true → x .active ≤ 1
-    by true e = omega (arith, eqb-true (x .active) 0 (both-parts (eqb (x .active) 0) _ e .0))
-    by false e =
-        let rest = both-parts (leb (x .split) 24) _ (both-parts (leb 2 (x .split)) _ e .1) .1 in
-        leb-true (x .active) 1 (both-parts (leb (x .active) 1) _ rest .0)
 
 pub segment-code : (x : Screen) (n : ℕ) → isSegment x n ≡ true → 0x30 ≤ n
 unfolding isSegment

@@ -1,5 +1,5 @@
 -- A possible screen is what commands need, and stays possible where commands change it.
---     screen-inside     the active segment has a row, and the cursor is in it
+--     screen-inside, active-most     the active segment has a row, and the cursor is in it; it is segment 0 or 1
 --     cursor-kept       the active cursor put into the active segment
 --     activated-kept    another segment made active
 --     unsplit-screen, split-screen     the screens of ESC x
@@ -93,6 +93,13 @@ screen-inside x h = by (screen-parts x h) (either-way (eqb (x .active) 0))
         inside x (rw (s .some, a) (omega arith)) (rw (s .some, a) (omega arith)) (rw a (omega arith)) (rw (s .some, a) (s .low))
     by (inr s) (inr a) =
         inside x (rw (s .some, a) (omega arith)) (rw (s .some, a) (omega arith)) (rw a (s .top)) (rw (s .some, a) (s .high))
+
+pub active-most : (x : Screen) → screenOk x ≡ true → x .active ≤ 1
+active-most x h = by (screen-parts x h)
+  where
+    by : Unsplit x ⊎ Split x → x .active ≤ 1
+    by (inl u) = omega (arith, eqb-true (x .active) 0 (u .first))
+    by (inr s) = s .one
 
 pub cursor-kept : (x : Screen) (n : ℕ) → screenOk x ≡ true → segmentStart x ≤ n → n < segmentEnd x → screenOk (withCursor x n) ≡ true
 unfolding segmentTop segmentBottom withCursor

@@ -4,13 +4,13 @@
 use mathlib.Core.Path.{_≡_, refl, sym, ap, subst, _∙_}
 use mathlib.Core.Bool.{Bool, true, false, false≢true}
 use mathlib.Core.List.{List, [], _∷_}
-use Prim.Native.Nat.{ℕ, zero, suc, _+_, _-_, _*_, _<_, _≤_}
+use Prim.Native.Nat.{ℕ, zero, suc, _+_, _-_, _<_, _≤_}
 use native.Mathlib.Nat.{sub-zero}
 use native.Mathlib.Omega.{arith}
 use lib.Dec.{eqb, ltb, leb}
 use lib.ListN.{length, getD, drop, replicate, length-replicate, getD-replicate}
-use lib.Seq.{drop-cons, drop-nil}
-use borrow.Author.Tests.{eqb-true, ltb-true, leb-true, eq-eqb, ne-eqb, lt-ltb}
+use lib.Seq.{drop-cons}
+use borrow.Author.Tests.{eqb-true, ltb-true, leb-true, eq-eqb, ne-eqb}
 use Rattle.rules.specs.declared.Core.{Core}
 use Rattle.rules.specs.declared.State.{State}
 use Rattle.rules.specs.declared.Command.{Command}
@@ -26,21 +26,20 @@ use Rattle.rules.specs.declared.Place.{Place}
 use Rattle.rules.specs.declared.Place.the-variants as Place
 use Rattle.rules.specs.declared.Sending.{Sending}
 use Rattle.rules.specs.declared.Sending.the-variants as Sending
-use Rattle.rules.specs.Cell.{pick, both}
 use Rattle.rules.specs.Row.{columnOf}
 use Rattle.rules.specs.Search.{guardedAt}
-use Rattle.rules.specs.State.{widthOf, pageLength, cursorOf, textStart, awaiting, idle, isIdle, sends, withSending, Inside, changed, sendingAfter, gatheredAfter, setupAfter}
+use Rattle.rules.specs.State.{widthOf, pageLength, cursorOf, textStart, awaiting, idle, isIdle, sends, Inside, changed, sendingAfter, gatheredAfter, setupAfter}
 use Rattle.rules.specs.Possible.{shortLength, placeOk, sendingOk, possible, good}
 use Rattle.rules.specs.Decode.{lookup, idleRule, escapeRule, decodeRule}
 use Rattle.rules.specs.Plan.{replying, sendPlan, excludedPlan, planRule}
-use Rattle.rules.specs.Send.{Spot, spot, shortReply, each, leavesOut, leftOut, cellPlace, followsLeftOut, places, beyond, standing, leftFrom}
+use Rattle.rules.specs.Send.{Spot, spot, shortReply, each, leavesOut, cellPlace, followsLeftOut, places, beyond, standing, leftFrom}
 use Rattle.rules.specs.Carry.{begun, carried}
 use Rattle.rules.specs.Step.{Outcome, obeyed, innerRule, stepRule}
-use Rattle.rules.specs.Calls.{Ran, joined, repeated, runRule, Call, play}
-use Rattle.rules.specs.SendReach.{shortAsked, asked, unsent, blankFor, LeftBy, SendReach}
+use Rattle.rules.specs.Calls.{Ran, joined, runRule}
+use Rattle.rules.specs.SendReach.{asked, unsent, blankFor, LeftBy, SendReach}
 use Rattle.rules.proofs.Tests.{both-parts, pick-if}
 use Rattle.rules.proofs.Screens.{screen-inside}
-use Rattle.rules.proofs.Sends.{ok-good, sending-idle, places-small, beyond-zero, beyond-one, beyond-add, nextPlace, own-cell, own-break, own-return, short-long}
+use Rattle.rules.proofs.Sends.{sending-idle, idle-is, places-small, beyond-zero, beyond-one, beyond-add, nextPlace, own-cell, own-break, own-return, short-long}
 use Rattle.rules.proofs.Kept.{PossibleState, possible-parts, possible-whole, good-whole, play-keeps, step-good}
 use Rattle.rules.proofs.Run.{run-go, run-done}
 
@@ -187,19 +186,6 @@ short-comes p c r n = each-comes r 0 n (shortReply p c r) ∙ ap (λ (k : ℕ). 
 
 idle-same : (c : Core) → c .pending ≡ Pending.Idle → idle c ≡ c
 idle-same c e = ap (awaiting c) (sym e)
-
-idle-is : (q : Pending) → isIdle q ≡ true → q ≡ Pending.Idle
-idle-is Pending.Idle e = refl
-idle-is Pending.Escape e = absurd (false≢true e)
-idle-is (Pending.Awaits a) e = absurd (false≢true e)
-idle-is (Pending.AddressRow r) e = absurd (false≢true e)
-idle-is (Pending.SegmentNumber n) e = absurd (false≢true e)
-idle-is (Pending.SegmentRow n r) e = absurd (false≢true e)
-idle-is (Pending.DecimalRow n row) e = absurd (false≢true e)
-idle-is (Pending.DecimalColumn row n column) e = absurd (false≢true e)
-idle-is (Pending.FieldNumber n) e = absurd (false≢true e)
-idle-is (Pending.Text x n) e = absurd (false≢true e)
-idle-is (Pending.Spoilt x) e = absurd (false≢true e)
 
 -- a state in another core, with another send
 abbrev changedTo : State → Core → Sending → State

@@ -5,6 +5,7 @@
 --     Row, Ahead, ahead                   each place of a reply behind the one where it stands is possible, and the places from there are those that
 --                                         follow in the row
 --     places-left, left-ok, sent-add, left-add     a send in two parts
+--     idle-is, not-sending                no sequence, no send under way
 --     sent-bound                          a byte for each cell and one for each row at the most
 -- Assumes nothing.
 use mathlib.Core.Path.{_≡_, refl, sym, ap, subst, _∙_}
@@ -361,6 +362,19 @@ unfolding sendingOk
 idle-ok x q Sending.Nothing i h = refl
 idle-ok x q (Sending.Short r n) i h = rw i h
 idle-ok x q (Sending.Text all segment z) i h = rw i h
+
+pub idle-is : (q : Pending) → isIdle q ≡ true → q ≡ Pending.Idle
+idle-is Pending.Idle e = refl
+idle-is Pending.Escape e = absurd (false≢true e)
+idle-is (Pending.Awaits a) e = absurd (false≢true e)
+idle-is (Pending.AddressRow r) e = absurd (false≢true e)
+idle-is (Pending.SegmentNumber n) e = absurd (false≢true e)
+idle-is (Pending.SegmentRow n r) e = absurd (false≢true e)
+idle-is (Pending.DecimalRow n row) e = absurd (false≢true e)
+idle-is (Pending.DecimalColumn row n column) e = absurd (false≢true e)
+idle-is (Pending.FieldNumber n) e = absurd (false≢true e)
+idle-is (Pending.Text x n) e = absurd (false≢true e)
+idle-is (Pending.Spoilt x) e = absurd (false≢true e)
 
 pub not-sending : (y : Sending) → sends y ≡ false → y ≡ Sending.Nothing
 not-sending Sending.Nothing h = refl

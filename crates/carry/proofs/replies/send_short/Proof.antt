@@ -3,8 +3,8 @@ use native.Mathlib.Omega.{arith}
 use denote.Ref.{now}
 use Rattle.rules.specs.Send.{shortReply, places}
 use Rattle.rules.proofs.Rows.{columns-width, page-small}
-use Rattle.rules.proofs.Screens.{screen-inside}
-use Rattle.carry.proofs.Went.{cell-went, cursor-went, segment-went, decimal-went, cursor-below, row-below, column-below, active-most}
+use Rattle.rules.proofs.Screens.{screen-inside, active-most}
+use Rattle.carry.proofs.Went.{cell-went, cursor-went, segment-went, decimal-went, cursor-below, row-below, column-below}
 use borrow.Author.Needs.{needs}
 use Rattle.carry.proofs.replies.send_short.Statement.{statement}
 use Rattle.carry.proofs.replies.send_short.Tie as tie

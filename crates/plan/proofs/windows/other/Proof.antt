@@ -4,7 +4,7 @@ use native.Mathlib.Omega.{arith}
 use borrow.Author.Needs.{needs}
 use borrow.Author.Tests.{eq-eqb, ne-eqb}
 use Rattle.rules.specs.Plan.{windowPlan}
-use Rattle.plan.proofs.Segments.{active-most}
+use Rattle.rules.proofs.Screens.{active-most}
 use Rattle.plan.proofs.windows.other.Statement.{statement}
 use Rattle.plan.proofs.windows.other.Tie as tie
 
