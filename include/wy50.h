@@ -4,8 +4,8 @@
  * The library keeps nothing between calls, allocates nothing and calls nothing but memcpy, memmove and memset, so different terminals may run in
  * different threads.
  *
- * Every call returns, whatever numbers it is handed. It relies on this much of its caller: a pointer goes with a count of elements, is not
- * NULL even where the count is 0, and points to that many; and the page, the row list, the input and the reply room do not overlap.
+ * Every call returns, whatever numbers it is handed. It relies on this much of its caller: a pointer goes with a count of elements and points to
+ * that many, so where the count is 0 it may be NULL; and the page, the row list, the input and the reply room do not overlap.
  *
  * Start from wy50_power_on: a page and a state of one's own making may well be no terminal, and answer 7.
  *

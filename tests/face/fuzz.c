@@ -1,6 +1,6 @@
 /* Calls the library with random pages, states, bytes, rooms and row lists, and checks what holds of every call. Compiled with the address and undefined
  * behaviour sanitizers. Each buffer lies against a page of memory that may not be touched, before it or behind it by turns, and has guard
- * bytes on its other side.
+ * bytes on its other side. One of no bytes is often NULL.
  *
  *     fuzz SECONDS [SEED]
  */
@@ -16,7 +16,7 @@
 
 enum { MOST_ROOM = 2000, MOST_INPUT = 600, MOST_PAGE = 2100, MOST_ROWS = 60, GUARD = 64 };
 
-static uint64_t seed, calls, bytes, turns, answered_7, replies, lists, wrong_lists;
+static uint64_t seed, calls, bytes, turns, answered_7, replies, lists, wrong_lists, nulls;
 
 static uint64_t next(void)
 {
@@ -70,7 +70,23 @@ static void *place(buffer *b, size_t size)
     b->size = size;
     b->start = b->at_end ? first + b->space - size : first;
     memset(b->at_end ? b->start - GUARD : b->start + size, 0xa5, GUARD);
+    if (size == 0 && below(4)) {
+        nulls++;
+        return NULL;
+    }
     return b->start;
+}
+
+/* memcpy and memcmp want no NULL, not even with 0 */
+static void copy(void *to, const void *from, size_t n)
+{
+    if (n > 0)
+        memcpy(to, from, n);
+}
+
+static int equal(const void *a, const void *b, size_t n)
+{
+    return n == 0 || memcmp(a, b, n) == 0;
 }
 
 static void untouched(const buffer *b)
@@ -158,7 +174,7 @@ static void beyond(const uint8_t *reply, size_t room, size_t replied)
 {
     replies += replied;
     expect(replied <= room, "the reply fits");
-    expect(memcmp(reply + replied, room_before + replied, room - replied) == 0, "the room beyond the reply is untouched");
+    expect(replied == room || memcmp(reply + replied, room_before + replied, room - replied) == 0, "the room beyond the reply is untouched");
 }
 
 /* zeros where nothing is gathered, as a call gives them */
@@ -181,7 +197,7 @@ static void repeated(size_t cells, wy50_state x, const uint8_t *input, size_t n,
 {
     size_t taken = 0, replied = 0, refused = 0;
     int answer = 0;
-    memcpy(page_stepped, page_before, cells * sizeof *page);
+    copy(page_stepped, page_before, cells * sizeof *page);
     /* a send goes on by a step, whose own byte waits */
     if (x.sending.command != 0 && room > 0) {
         wy50_step_result s = wy50_step(page_stepped, cells, x, 0xe9, joined, room);
@@ -202,11 +218,11 @@ static void repeated(size_t cells, wy50_state x, const uint8_t *input, size_t n,
     }
     expect(r->answer == answer || (n == 0 && r->answer == WY50_BAD_CALL), "a run answers as the steps do");
     expect(r->taken == taken && r->replied == replied && r->refused == refused, "a run counts as the steps do");
-    expect(memcmp(reply, joined, replied) == 0, "a run replies as the steps do");
+    expect(equal(reply, joined, replied), "a run replies as the steps do");
     if (r->answer != WY50_BAD_CALL)
         x = tidied(x);
     expect(same(&r->state, &x), "a run leaves the state of the steps");
-    expect(memcmp(page, page_stepped, cells * sizeof *page) == 0, "a run leaves the page of the steps");
+    expect(equal(page, page_stepped, cells * sizeof *page), "a run leaves the page of the steps");
     calls += taken;
 }
 
@@ -227,7 +243,7 @@ static void narrowed(size_t cells, wy50_state x, const uint8_t *input, size_t n)
     x = tidied(x);
     do {
         size_t room = 1 + below(below(3) ? 70 : WY50_LONGEST_REPLY);
-        s = wy50_run(page_parts, cells, x, input + taken, n - taken, parts + all, room < sizeof parts - all ? room : sizeof parts - all);
+        s = wy50_run(page_parts, cells, x, n ? input + taken : NULL, n - taken, parts + all, room < sizeof parts - all ? room : sizeof parts - all);
         expect(s.answer != WY50_BAD_CALL, "a good state stays good");
         expect(s.taken + s.replied > 0 || n == 0, "each call takes a byte or sends one");
         expect(s.taken == n - taken || s.replied == room, "a run stops only where the room is used up");
@@ -271,16 +287,16 @@ static int lend(size_t cells, size_t room, const wy50_state *x)
     int is_right;
     lent_page = (uint16_t *)place(&lent_page_buffer, cells * sizeof *lent_page);
     lent_reply = (uint8_t *)place(&lent_reply_buffer, room);
-    memcpy(lent_page, page_before, cells * sizeof *lent_page);
-    memcpy(lent_reply, room_before, room);
+    copy(lent_page, page_before, cells * sizeof *lent_page);
+    copy(lent_reply, room_before, room);
     count_rows(right, page_before, x->modes.protect);
-    rows_len = k == 0 ? below(MOST_ROWS + 1) : WY50_ROW_NUMBERS;
+    rows_len = k == 0 ? below(2) * below(MOST_ROWS + 1) : WY50_ROW_NUMBERS;
     rows = (uint16_t *)place(&rows_buffer, rows_len * sizeof *rows);
     for (i = 0; i < rows_len; i++)
         rows[i] = k == 1 || i >= WY50_ROW_NUMBERS ? (uint16_t)next() : right[i];
     if (k == 2)
         rows[below(WY50_ROW_NUMBERS)] ^= (uint16_t)(1 << below(16));
-    memcpy(rows_before, rows, rows_len * sizeof *rows);
+    copy(rows_before, rows, rows_len * sizeof *rows);
     is_right = rows_len == WY50_ROW_NUMBERS && memcmp(rows, right, sizeof right) == 0;
     lists++;
     wrong_lists += !is_right;
@@ -291,11 +307,11 @@ static int lend(size_t cells, size_t room, const wy50_state *x)
 /* The call gave this page and this room. The list is right after every answer but 7, which left it. */
 static void lent(size_t cells, const uint16_t *page, size_t room, const uint8_t *reply, int answer, const wy50_state *x)
 {
-    expect(memcmp(lent_page, page, cells * sizeof *page) == 0, "a row list does not change the page");
-    expect(memcmp(lent_reply, reply, room) == 0, "a row list does not change the reply");
+    expect(equal(lent_page, page, cells * sizeof *page), "a row list does not change the page");
+    expect(equal(lent_reply, reply, room), "a row list does not change the reply");
     if (answer != WY50_BAD_CALL)
         count_rows(rows_before, lent_page, x->modes.protect);
-    expect(memcmp(rows, rows_before, rows_len * sizeof *rows) == 0, "the row list is right, and 7 leaves it");
+    expect(equal(rows, rows_before, rows_len * sizeof *rows), "the row list is right, and 7 leaves it");
     untouched(&lent_page_buffer);
     untouched(&lent_reply_buffer);
     untouched(&rows_buffer);
@@ -341,7 +357,7 @@ static void rebuilt(size_t cells, wy50_state x)
 
 static wy50_state turn(wy50_state last, uint16_t *kept)
 {
-    size_t i, cells = below(20) ? WY50_CELLS : below(MOST_PAGE + 1);
+    size_t i, cells = below(20) ? WY50_CELLS : below(2) * below(MOST_PAGE + 1);
     size_t room = below(3) ? below(MOST_ROOM + 1) : below(12);
     uint16_t *page = (uint16_t *)place(&page_buffer, cells * sizeof *page);
     uint8_t *reply = (uint8_t *)place(&reply_buffer, room);
@@ -357,8 +373,8 @@ static wy50_state turn(wy50_state last, uint16_t *kept)
     }
     for (i = 0; i < room; i++)
         reply[i] = (uint8_t)next();
-    memcpy(page_before, page, cells * sizeof *page);
-    memcpy(room_before, reply, room);
+    copy(page_before, page, cells * sizeof *page);
+    copy(room_before, reply, room);
 
     switch (below(5)) {
     case 0: {
@@ -369,7 +385,7 @@ static wy50_state turn(wy50_state last, uint16_t *kept)
         expect(r.answer <= 7, "a step answers 0 to 7");
         expect(r.taken == (r.answer < 6 && x.sending.command == 0), "a byte is taken outside a send, unless it answers 6 or 7");
         expect(r.answer == 7 || x.sending.command == 0 || (r.answer == (room ? 0 : 6) && (r.replied > 0) == (room > 0)), "during a send a step sends");
-        expect(r.answer == 0 || (r.replied == 0 && memcmp(page, page_before, cells * sizeof *page) == 0), "a refusal replies and writes nothing");
+        expect(r.answer == 0 || (r.replied == 0 && equal(page, page_before, cells * sizeof *page)), "a refusal replies and writes nothing");
         expect(r.answer != 7 || same(&r.state, &x), "7 leaves the state, bytes that mean nothing too");
         expect(r.state.personality == x.personality, "a step leaves the personality");
         listed_step(cells, x, b, room, r, page, reply);
@@ -385,7 +401,7 @@ static wy50_state turn(wy50_state last, uint16_t *kept)
         beyond(reply, room, r.replied);
         expect(r.answer == 0 || r.answer == 3 || r.answer == 6 || r.answer == 7 || r.answer == 8, "a press answers 0, 3, 6, 7 or 8");
         expect(r.answer == 0 || r.replied == 0, "a refused press replies nothing");
-        expect(memcmp(page, page_before, cells * sizeof *page) == 0, "a press leaves the page");
+        expect(equal(page, page_before, cells * sizeof *page), "a press leaves the page");
         answered_7 += r.answer == 7;
         break;
     }
@@ -395,9 +411,9 @@ static wy50_state turn(wy50_state last, uint16_t *kept)
     default: {
         uint8_t text[MOST_INPUT];
         wy50_run_result r;
-        n = host(text, MOST_INPUT);
+        n = below(16) ? host(text, MOST_INPUT) : 0;
         input = (uint8_t *)place(&input_buffer, n);
-        memcpy(input, text, n);
+        copy(input, text, n);
         r = wy50_run(page, cells, x, input, n, reply, room);
         bytes += r.taken;
         beyond(reply, room, r.replied);
@@ -409,7 +425,7 @@ static wy50_state turn(wy50_state last, uint16_t *kept)
         expect(r.answer == 7 || r.state.sending.command == 0 || r.replied == room, "a send is left only where the room is used up");
         expect(r.answer != 7 || (r.taken == 0 && r.replied == 0 && r.refused == 0 && same(&r.state, &x)), "7 gives zeros and the state as it came");
         expect(r.state.personality == x.personality, "a run leaves the personality");
-        expect(memcmp(input, text, n) == 0, "the input is not written");
+        expect(equal(input, text, n), "the input is not written");
         untouched(&input_buffer);
         repeated(cells, x, input, n, room, &r, page, reply);
         listed_run(cells, x, input, n, room, r, page, reply);
@@ -452,8 +468,8 @@ int main(int argc, char **argv)
         turns++;
         clock_gettime(CLOCK_MONOTONIC, &to);
     } while ((double)(to.tv_sec - from.tv_sec) + 1e-9 * (double)(to.tv_nsec - from.tv_nsec) < seconds);
-    printf("fuzz: nothing found in %.0f seconds: %llu turns (%llu answered 7), %llu row lists (%llu wrong), %llu calls, %llu host bytes, %llu reply bytes (seed %llu)\n",
+    printf("fuzz: nothing found in %.0f seconds: %llu turns (%llu answered 7), %llu row lists (%llu wrong), %llu NULLs, %llu calls, %llu host bytes, %llu reply bytes (seed %llu)\n",
         seconds, (unsigned long long)turns, (unsigned long long)answered_7, (unsigned long long)lists, (unsigned long long)wrong_lists,
-        (unsigned long long)calls, (unsigned long long)bytes, (unsigned long long)replies, (unsigned long long)seed);
+        (unsigned long long)nulls, (unsigned long long)calls, (unsigned long long)bytes, (unsigned long long)replies, (unsigned long long)seed);
     return 0;
 }
