@@ -362,6 +362,10 @@ static void usage(void)
 int main(int argc, char **argv)
 {
     int option, first_wait = 1000, wait;
+    if (wy50_version() != WY50_VERSION_NUMBER || wy50_counter_version() != WY50_COUNTER_VERSION_NUMBER) {
+        fputs("gateway: a library is of another version than its header\n", stderr);
+        return 1;
+    }
     while ((option = getopt(argc, argv, "6f:l:w:")) != -1) {
         if (option == '6')
             personality = WY50_PERSONALITY_60;

@@ -16,6 +16,8 @@
  * What ESC 4 to ESC 7 send ends at the cursor. A program that wants a whole form has the host go to its last cell first, or reads the page itself.
  *
  * Threads: a terminal is its page and its state. Different terminals may be used at the same time, one terminal by one thread at a time.
+ *
+ * Header and library are of one version, or structs that cross may differ: at its start a program compares wy50_version() with WY50_VERSION_NUMBER.
  */
 #ifndef WY50_H
 #define WY50_H
@@ -23,9 +25,19 @@
 #include <stddef.h>
 #include <stdint.h>
 
+/* The version of this header. Its number is for #if, and to be compared with that of the library. */
+#define WY50_VERSION "0.9.0"
+#define WY50_VERSION_MAJOR 0
+#define WY50_VERSION_MINOR 9
+#define WY50_VERSION_PATCH 0
+#define WY50_VERSION_NUMBER (1000000 * WY50_VERSION_MAJOR + 1000 * WY50_VERSION_MINOR + WY50_VERSION_PATCH)
+
 #ifdef __cplusplus
 extern "C" {
 #endif
+
+/* The version of the library that is linked: the WY50_VERSION_NUMBER of its header. In every version this call is as it is here. */
+uint32_t wy50_version(void);
 
 enum {
     WY50_ROWS = 24,

@@ -13,9 +13,19 @@
 #include <stddef.h>
 #include <stdint.h>
 
+/* The version of this header. Its number is for #if, and to be compared with that of the library. */
+#define WY50_COUNTER_VERSION "0.9.0"
+#define WY50_COUNTER_VERSION_MAJOR 0
+#define WY50_COUNTER_VERSION_MINOR 9
+#define WY50_COUNTER_VERSION_PATCH 0
+#define WY50_COUNTER_VERSION_NUMBER (1000000 * WY50_COUNTER_VERSION_MAJOR + 1000 * WY50_COUNTER_VERSION_MINOR + WY50_COUNTER_VERSION_PATCH)
+
 #ifdef __cplusplus
 extern "C" {
 #endif
+
+/* The version of the library that is linked: the WY50_COUNTER_VERSION_NUMBER of its header. In every version this call is as it is here. */
+uint32_t wy50_counter_version(void);
 
 /* Why a text is not counted. */
 enum {

@@ -117,8 +117,18 @@ static void nothing(void)
     part("NULL with 0 bytes");
 }
 
+static void version(void)
+{
+    char text_of_it[16];
+    sprintf(text_of_it, "%d.%d.%d", WY50_COUNTER_VERSION_MAJOR, WY50_COUNTER_VERSION_MINOR, WY50_COUNTER_VERSION_PATCH);
+    CHECK(strcmp(text_of_it, WY50_COUNTER_VERSION) == 0);
+    CHECK(wy50_counter_version() == WY50_COUNTER_VERSION_NUMBER);
+    part("one version of header and library");
+}
+
 int main(void)
 {
+    version();
     texts();
     bytes();
     replies();

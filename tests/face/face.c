@@ -773,6 +773,20 @@ static void impossible(void)
     part("bytes beyond a text are not looked at, and those gathered come back as zeros");
 }
 
+static void version(void)
+{
+    char text[16];
+    uint32_t number = wy50_version();
+    sprintf(text, "%d.%d.%d", WY50_VERSION_MAJOR, WY50_VERSION_MINOR, WY50_VERSION_PATCH);
+    CHECK(strcmp(text, WY50_VERSION) == 0);
+    CHECK(number == WY50_VERSION_NUMBER);
+    CHECK(number / 1000000 == WY50_VERSION_MAJOR && number / 1000 % 1000 == WY50_VERSION_MINOR && number % 1000 == WY50_VERSION_PATCH);
+#if WY50_VERSION_NUMBER < 9000
+    CHECK(0);
+#endif
+    part("one version of header and library");
+}
+
 /* The WY-60 beside the WY-50. */
 static void personalities(void)
 {
@@ -818,6 +832,7 @@ int main(void)
     bench();
     sends();
     row_lists();
+    version();
     personalities();
     impossible();
     if (failures)

@@ -6,6 +6,7 @@ mod unpack; // the state that numbers name
 
 ghost use mathlib.Core.Path.{_≡_};
 ghost use lib.ListN.{length};
+ghost use Prim.Native.Nat.{_+_, _*_};
 ghost use Rattle.rules.specs.Cell.{code, protected, kind, attribute, sent};
 ghost use Rattle.wy50.specs.Raw.{flag};
 ghost use Rattle.wy50.specs.Rows.{rawStepRows, rawRunRows, rawRowsAfter, rawRebuildAnswer, rawRebuilt};
@@ -36,6 +37,17 @@ use unpack::is_named;
 use unpack::is_personality;
 use unpack::personality_at;
 use unpack::unpack;
+
+// The version of this library as one number: a million times the major number, a thousand times the minor one and the patch. tools/version writes
+// it here and in the contract. Ruled out: one that gives another.
+const VERSION: u32 = 9000;
+
+#[no_mangle]
+pub extern "C" fn wy50_version() -> u32
+    ensures { λ r. ⌜ r ≡ 1000000 * 0 + 1000 * 9 + 0 ⌝ }
+{
+    VERSION
+}
 
 // All cells 0, and the numbers of a personality's power-on state. Ruled out: one that gives a mode or a cursor for another, or takes a number
 // that is no personality.

@@ -1,10 +1,22 @@
 // The alert counter for C and Rust. A slice crosses as a pointer and a count, and a count comes back as numbers.
 ghost use mathlib.Core.Path.{_≡_};
+ghost use Prim.Native.Nat.{_+_, _*_};
 ghost use Rattle.counter.specs.Count.{textCount, countRule};
 ghost use Rattle.wy50_counter.specs.Raw.{raw as rawOf, billed as billedOf};
 use counter::Counted;
 use counter::count;
 use counter::count_text;
+
+// The version of this library as one number: a million times the major number, a thousand times the minor one and the patch. tools/version writes
+// it here and in the contract.
+const VERSION: u32 = 9000;
+
+#[no_mangle]
+pub extern "C" fn wy50_counter_version() -> u32
+    ensures { λ r. ⌜ r ≡ 1000000 * 0 + 1000 * 9 + 0 ⌝ }
+{
+    VERSION
+}
 
 // The units and parts of a text that is counted; else why it is not: 1 no final CR, 2 a bad first number, 3 a bad last one, 4 a byte outside
 // the alphabet, at `place`. What does not apply is 0.

@@ -23,6 +23,15 @@ mod sys;
 
 pub use refusal::Refusal;
 
+/// The version of this crate: that of the library that it is made for.
+pub const VERSION: &str = env!("CARGO_PKG_VERSION");
+
+/// The version of the library that is linked, as [`VERSION`] has it: major, minor, patch. With another library no call may be made.
+pub fn library_version() -> [u32; 3] {
+    let number = sys::version();
+    [number / 1_000_000, number / 1_000 % 1_000, number % 1_000]
+}
+
 /// The units and the parts of a text without its trailing spaces. The characters `^ { } \ [ ~ ] |` are two units, others one; no unit is no part,
 /// up to 160 units are one, and beyond that the parts are the fewest that hold at most 153 units each, no character cut.
 #[derive(Clone, Copy, Debug, PartialEq, Eq, Hash)]

@@ -24,8 +24,14 @@ impl RawCount {
 }
 
 extern "C" {
+    fn wy50_counter_version() -> u32;
     fn wy50_count_text(text: *const u8, count: usize) -> RawCount;
     fn wy50_count_reply(reply: *const u8, count: usize, first: usize, last: usize) -> RawCount;
+}
+
+pub fn version() -> u32 {
+    // SAFETY: it takes and gives numbers alone.
+    unsafe { wy50_counter_version() }
 }
 
 pub fn count_text(text: &[u8]) -> RawCount {

@@ -1,7 +1,7 @@
 //! The wrapper against the worked texts, each refusal with its words, and the terminal beside it.
 use std::error::Error;
 use wy50::{Terminal, LONGEST_REPLY};
-use wy50_counter::{count_reply, count_text, Count, Refusal};
+use wy50_counter::{count_reply, count_text, library_version, Count, Refusal, VERSION};
 
 fn counted(units: u64, parts: u64) -> Result<Count, Refusal> {
     Ok(Count { units, parts })
@@ -25,6 +25,11 @@ fn refusals_in_their_order() {
     assert_eq!(count_reply(b"a`\r", 1, 2), Err(Refusal::BadLast));
     assert_eq!(count_reply(b"a`\r", 1, 1), Err(Refusal::BadByte { place: 1 }));
     assert_eq!(count_reply(b"", 1, 1), Err(Refusal::NoReturn));
+}
+
+#[test]
+fn one_version() {
+    assert_eq!(library_version().map(|n| n.to_string()).join("."), VERSION);
 }
 
 #[test]

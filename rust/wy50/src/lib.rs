@@ -61,6 +61,15 @@ pub const LONGEST_REPLY: usize = 1944;
 /// The longest host message.
 pub const MESSAGE_BYTES: usize = 46;
 
+/// The version of this crate: that of the library that it is made for.
+pub const VERSION: &str = env!("CARGO_PKG_VERSION");
+
+/// The version of the library that is linked, as [`VERSION`] has it: major, minor, patch. With another library no call may be made.
+pub fn library_version() -> [u32; 3] {
+    let number = sys::version();
+    [number / 1_000_000, number / 1_000 % 1_000, number % 1_000]
+}
+
 /// What the bytes of a [`Terminal::feed`] came to.
 #[must_use]
 #[derive(Clone, Copy, Debug, PartialEq, Eq)]

@@ -120,6 +120,7 @@ mod linked {
 
     // SAFETY: these are the calls of include/wy50.h, with its types. Those marked safe take and give numbers alone.
     unsafe extern "C" {
+        pub safe fn wy50_version() -> u32;
         pub fn wy50_power_on(page: *mut u16, page_len: usize, personality: u8) -> RawPowerOn;
         pub fn wy50_step(page: *mut u16, page_len: usize, state: State, byte: u8, reply: *mut u8, reply_len: usize) -> RawStep;
         pub fn wy50_run(
@@ -164,7 +165,7 @@ mod linked {
 
 pub use linked::{
     wy50_cell_attribute as cell_attribute, wy50_cell_code as cell_code, wy50_cell_kind as cell_kind, wy50_cell_protected as cell_protected,
-    wy50_cell_sent as cell_sent,
+    wy50_cell_sent as cell_sent, wy50_version as version,
 };
 
 pub fn power_on(page: &mut [u16; CELLS], personality: u8) -> RawPowerOn {
