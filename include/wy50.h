@@ -66,6 +66,31 @@ enum {
     WY50_LOCKED = 8        /* a key is pressed while the keyboard is locked; nothing changed */
 };
 
+/* An answer in a few words, for a log. A number that is no answer has some too. */
+static inline const char *wy50_answer_name(uint8_t answer)
+{
+    switch (answer) {
+    case WY50_DONE:
+        return "done";
+    case WY50_HIGH_BYTE:
+        return "a byte of 80h or above";
+    case WY50_UNKNOWN:
+        return "no such byte after ESC";
+    case WY50_BAD_ARGUMENT:
+        return "an argument outside its range";
+    case WY50_BARRED:
+        return "barred by protection";
+    case WY50_NO_ROOM:
+        return "no room for the reply";
+    case WY50_BAD_CALL:
+        return "a page, state or row list that is not possible";
+    case WY50_LOCKED:
+        return "the keyboard is locked";
+    default:
+        return "no answer";
+    }
+}
+
 /* Whose rules the terminal follows: chosen at power-on, changed by no byte. */
 enum {
     WY50_PERSONALITY_50 = 50, /* an attribute of ESC G takes a cell */
@@ -178,6 +203,26 @@ enum {
     WY50_PROTECTED_LOOK = 2, /* '6' reverse, '7' dim, 'A' normal */
     WY50_SCREEN_SHOWN = 3,   /* '8' dark, '9' shown */
     WY50_SCROLLING = 4       /* '<' '=' '>' '?' smooth at 1, 2, 4, 8 rows a second, '@' jump */
+};
+
+/* These codes by name. Each is of one place alone. */
+enum {
+    WY50_CURSOR_OFF = '0',
+    WY50_CURSOR_ON = '1',
+    WY50_STEADY_BLOCK = '2',
+    WY50_BLINKING_LINE = '3',
+    WY50_STEADY_LINE = '4',
+    WY50_BLINKING_BLOCK = '5',
+    WY50_PROTECTED_REVERSE = '6',
+    WY50_PROTECTED_DIM = '7',
+    WY50_PROTECTED_NORMAL = 'A',
+    WY50_SCREEN_OFF = '8',
+    WY50_SCREEN_ON = '9',
+    WY50_SMOOTH_1 = '<', /* rows a second */
+    WY50_SMOOTH_2 = '=',
+    WY50_SMOOTH_4 = '>',
+    WY50_SMOOTH_8 = '?',
+    WY50_JUMP = '@'
 };
 
 /* The state: numbers alone, without padding, so that memcmp compares two states and a state can be saved as its 642 bytes.

@@ -787,6 +787,47 @@ static void version(void)
     part("one version of header and library");
 }
 
+/* Words for each number, those of an answer for no other. */
+static void names(void)
+{
+    static const char *const words[] = {"done", "a byte of 80h or above", "no such byte after ESC", "an argument outside its range",
+        "barred by protection", NULL, "no room for the reply", "a page, state or row list that is not possible", "the keyboard is locked"};
+    int i;
+    for (i = 0; i < 256; i++)
+        CHECK(strcmp(wy50_answer_name((uint8_t)i), i <= WY50_LOCKED && words[i] ? words[i] : "no answer") == 0);
+    part("the answers' names, of all 256 numbers");
+}
+
+/* The codes of ESC `, each by its name at its place. */
+static void features(void)
+{
+    static const uint8_t places[][6] = {{WY50_CURSOR_SHOWN, WY50_CURSOR_OFF, WY50_CURSOR_ON},
+        {WY50_CURSOR_STYLE, WY50_STEADY_BLOCK, WY50_BLINKING_LINE, WY50_STEADY_LINE, WY50_BLINKING_BLOCK},
+        {WY50_PROTECTED_LOOK, WY50_PROTECTED_REVERSE, WY50_PROTECTED_DIM, WY50_PROTECTED_NORMAL},
+        {WY50_SCREEN_SHOWN, WY50_SCREEN_OFF, WY50_SCREEN_ON},
+        {WY50_SCROLLING, WY50_SMOOTH_1, WY50_SMOOTH_2, WY50_SMOOTH_4, WY50_SMOOTH_8, WY50_JUMP}};
+    size_t i, j, named = 0, taken = 0;
+    for (i = 0; i < sizeof places / sizeof *places; i++) {
+        for (j = 1; j < sizeof *places && places[i][j] != 0; j++) {
+            char bytes[3] = "\033`";
+            power_on();
+            expected = state;
+            expected.features[places[i][0]] = places[i][j];
+            bytes[2] = (char)places[i][j];
+            CHECK(feed(bytes, 3) == WY50_DONE && same(&state, &expected));
+            named++;
+        }
+    }
+    for (i = 0; i < 128; i++) {
+        char bytes[3] = "\033`";
+        power_on();
+        bytes[2] = (char)i;
+        taken += feed(bytes, 3) == WY50_DONE && i != ':'; /* which changes nothing */
+    }
+    CHECK(named == taken);
+    part("the codes of the features, by name, and no other code");
+}
+
 /* The WY-60 beside the WY-50. */
 static void personalities(void)
 {
@@ -833,6 +874,8 @@ int main(void)
     sends();
     row_lists();
     version();
+    names();
+    features();
     personalities();
     impossible();
     if (failures)

@@ -29,6 +29,11 @@ impl Answer {
         self as u8
     }
 
+    /// The answer of this number, if there is one.
+    pub fn from_number(number: u8) -> Option<Answer> {
+        Some(Answer::of(number)).filter(|answer| answer.number() == number)
+    }
+
     // The library gives 0 to 4 and 6 to 8 and no other number.
     pub(crate) fn of(number: u8) -> Answer {
         match number {
@@ -44,6 +49,7 @@ impl Answer {
     }
 }
 
+/// In a few words, those of `wy50_answer_name`.
 impl fmt::Display for Answer {
     fn fmt(&self, f: &mut fmt::Formatter<'_>) -> fmt::Result {
         f.write_str(match self {
@@ -53,7 +59,7 @@ impl fmt::Display for Answer {
             Answer::BadArgument => "an argument outside its range",
             Answer::Barred => "barred by protection",
             Answer::NoRoom => "no room for the reply",
-            Answer::BadCall => "the state is not possible",
+            Answer::BadCall => "a page, state or row list that is not possible",
             Answer::Locked => "the keyboard is locked",
         })
     }

@@ -2,6 +2,7 @@
 
 use crate::sys;
 use core::fmt::{self, Write};
+use core::ops::BitOr;
 
 /// What a cell holds.
 #[derive(Clone, Copy, Debug, PartialEq, Eq, Hash)]
@@ -11,33 +12,64 @@ pub enum Kind {
     Graphic,
 }
 
+impl Kind {
+    /// As wy50.h has it: 0 to 2.
+    pub fn number(self) -> u8 {
+        self as u8
+    }
+
+    /// The kind of this number, if there is one.
+    pub fn from_number(number: u8) -> Option<Self> {
+        [Kind::Text, Kind::Attribute, Kind::Graphic].into_iter().find(|k| k.number() == number)
+    }
+}
+
 /// A cell's attribute: its flags. A WY-50 sets none of them.
 #[derive(Clone, Copy, Debug, PartialEq, Eq, Hash)]
 pub struct Attributes(pub u8);
 
 impl Attributes {
+    pub const BLANK: Attributes = Attributes(1);
+    pub const BLINK: Attributes = Attributes(2);
+    pub const REVERSE: Attributes = Attributes(4);
+    pub const UNDERSCORE: Attributes = Attributes(8);
+    pub const DIM: Attributes = Attributes(16);
+
+    /// All of these flags are set.
+    pub fn has(self, flags: Attributes) -> bool {
+        self.0 & flags.0 == flags.0
+    }
+
     pub fn is_normal(self) -> bool {
         self.0 == 0
     }
 
     pub fn dim(self) -> bool {
-        self.0 & 16 != 0
+        self.has(Self::DIM)
     }
 
     pub fn underscore(self) -> bool {
-        self.0 & 8 != 0
+        self.has(Self::UNDERSCORE)
     }
 
     pub fn reverse(self) -> bool {
-        self.0 & 4 != 0
+        self.has(Self::REVERSE)
     }
 
     pub fn blink(self) -> bool {
-        self.0 & 2 != 0
+        self.has(Self::BLINK)
     }
 
     pub fn blank(self) -> bool {
-        self.0 & 1 != 0
+        self.has(Self::BLANK)
+    }
+}
+
+impl BitOr for Attributes {
+    type Output = Attributes;
+
+    fn bitor(self, other: Attributes) -> Attributes {
+        Attributes(self.0 | other.0)
     }
 }
 

@@ -39,15 +39,19 @@
 
 mod answer;
 mod cell;
+mod features;
 mod personality;
 mod sending;
+mod sequence;
 mod sys;
 
 pub use answer::Answer;
 pub use cell::{Attributes, Cell, Field, Kind, Row};
 use core::fmt;
+pub use features::{CursorStyle, Features, ProtectedLook, Scrolling};
 pub use personality::Personality;
 pub use sending::{Place, Sending};
+pub use sequence::SequenceKind;
 pub use sys::{Key, Message, Modes, RawSending, Screen, Sequence, State};
 
 pub const ROWS: usize = 24;
@@ -58,6 +62,12 @@ pub const CELLS: usize = ROWS * COLUMNS;
 pub const ROW_NUMBERS: usize = 2 * ROWS;
 /// No reply is longer: a byte that has this room begins no send that goes on at the next call.
 pub const LONGEST_REPLY: usize = 1944;
+/// The function keys, and the longest text of one.
+pub const KEYS: usize = 32;
+pub const KEY_BYTES: usize = 8;
+/// The key labels, and the longest.
+pub const LABELS: usize = 16;
+pub const LABEL_BYTES: usize = 8;
 /// The longest host message.
 pub const MESSAGE_BYTES: usize = 46;
 
@@ -193,7 +203,7 @@ impl Terminal {
 
     /// The personality that it was powered on with. A state that is filled in may have none.
     pub fn personality(&self) -> Option<Personality> {
-        Personality::at(self.state.personality)
+        Personality::from_number(self.state.personality)
     }
 
     /// The attribute that ESC G set last in a WY-60: what is stored next has it.
@@ -204,6 +214,16 @@ impl Terminal {
     /// The send under way, if there is one. A state that is filled in may have one that is not possible.
     pub fn sending(&self) -> Option<Sending> {
         Sending::at(self.state.sending)
+    }
+
+    /// Which sequence is under way; its numbers are in the state. A state that is filled in may have none of a kind.
+    pub fn sequence(&self) -> Option<SequenceKind> {
+        SequenceKind::from_number(self.state.sequence.kind)
+    }
+
+    /// The features that ESC ` set. A state that is filled in may have codes of none.
+    pub fn features(&self) -> Option<Features> {
+        Features::from_codes(self.state.features)
     }
 
     /// The row list, if it is kept: for each row the number of its open cells, then the column of the first one, from 1, or 0.

@@ -12,14 +12,15 @@ pub enum Personality {
 
 impl Personality {
     /// As wy50.h has it: 50 or 60.
-    pub(crate) fn number(self) -> u8 {
+    pub fn number(self) -> u8 {
         match self {
             Personality::Wy50 => 50,
             Personality::Wy60 => 60,
         }
     }
 
-    pub(crate) fn at(number: u8) -> Option<Self> {
+    /// The personality of this number, if there is one.
+    pub fn from_number(number: u8) -> Option<Self> {
         [Personality::Wy50, Personality::Wy60].into_iter().find(|p| p.number() == number)
     }
 }

@@ -22,8 +22,21 @@ pub enum Place {
     Return,
 }
 
+impl Place {
+    /// What stands at the place, as wy50.h has it: 0 to 3.
+    pub fn number(self) -> u8 {
+        match self {
+            Place::Byte(_) => 0,
+            Place::Cell(_) => 1,
+            Place::Break(_) => 2,
+            Place::Return => 3,
+        }
+    }
+}
+
 impl Sending {
-    pub(crate) fn at(raw: RawSending) -> Option<Self> {
+    /// What these numbers say, if they are of a send. It may be one that is not possible.
+    pub fn at(raw: RawSending) -> Option<Self> {
         let n = usize::from(raw.place);
         let place = match raw.kind {
             0 => Place::Byte(n),

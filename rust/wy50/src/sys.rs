@@ -1,13 +1,13 @@
 //! What crosses to the library: the structs of include/wy50.h and its calls. All members are numbers, so every bit pattern is a value.
 
-use crate::{CELLS, COLUMNS, MESSAGE_BYTES, ROW_NUMBERS};
+use crate::{CELLS, COLUMNS, KEYS, KEY_BYTES, LABELS, MESSAGE_BYTES, ROW_NUMBERS};
 
 /// A function key or a key label: the first `len` of `bytes`.
 #[repr(C)]
 #[derive(Clone, Copy, Debug, PartialEq, Eq)]
 pub struct Key {
     pub len: u8,
-    pub bytes: [u8; 8],
+    pub bytes: [u8; KEY_BYTES],
 }
 
 /// The host message: the first `len` of `bytes`.
@@ -40,7 +40,7 @@ pub struct Modes {
     pub local_edit: u8,
 }
 
-/// The sequence under way: its kind (0: none) and its numbers, as the constants of wy50.h say.
+/// The sequence under way: its kind, by the number of a [`SequenceKind`](crate::SequenceKind) (0: none), and its numbers, as that says.
 #[repr(C)]
 #[derive(Clone, Copy, Debug, PartialEq, Eq)]
 pub struct Sequence {
@@ -51,7 +51,7 @@ pub struct Sequence {
 }
 
 /// The send under way: the byte after ESC of its command (0: none), what stands at its place and the number of the place, as the constants of wy50.h
-/// say. [`Sending`](crate::Sending) has them by name.
+/// say. [`Sending::at`](crate::Sending::at) has them by name.
 #[repr(C)]
 #[derive(Clone, Copy, Debug, PartialEq, Eq)]
 pub struct RawSending {
@@ -79,9 +79,10 @@ pub struct State {
     pub gathered: [u8; MESSAGE_BYTES],
     pub tabs: [u8; COLUMNS],
     pub attributes: [u8; 4],
+    /// By code, as [`Features`](crate::Features) has them.
     pub features: [u8; 5],
-    pub keys: [Key; 32],
-    pub labels: [Key; 16],
+    pub keys: [Key; KEYS],
+    pub labels: [Key; LABELS],
     pub message: Message,
     pub shifted: u16,
 }
