@@ -3,7 +3,7 @@
 --                       reply that does not end uses the room up
 --     goes-bounded      the same of a send that goes on, which sends a byte at least
 --     reply-bound, reply-fits, press-bound     of any page and state: a bad one replies nothing
---     step-taken, step-full     on a good page and state, outside a send
+--     step-taken, step-full, step-begins     on a good page and state, outside a send
 -- Assumes nothing.
 use mathlib.Core.Path.{_≡_, refl, sym, ap, subst, _∙_}
 use mathlib.Core.Bool.{Bool, true, false, false≢true}
@@ -53,10 +53,11 @@ pub record Bounded (x : Screen) (room : ℕ) (e : Effect) : Type 0 where
   pub taken : 0 < room → eqb (e .answer) 6 ≡ false
   -- a reply that begins and does not end uses the room up
   pub full : sends (sendingAfter (e .change) Sending.Nothing) ≡ true → length (e .reply) ≡ room
+  pub some : sends (sendingAfter (e .change) Sending.Nothing) ≡ true → 0 < room
 
 silent : {x : Screen} {room : ℕ} {e : Effect} → length (e .reply) ≡ 0 → eqb (e .answer) 6 ≡ false → sends (sendingAfter (e .change) Sending.Nothing) ≡ false
     → Bounded x room e
-silent z a s = record { fits = omega arith; bound = omega arith; taken = λ r. a; full = λ t. absurd (false≢true (sym s ∙ t)) }
+silent z a s = record { fits = omega arith; bound = omega arith; taken = λ r. a; full = λ t. absurd (false≢true (sym s ∙ t)); some = λ t. absurd (false≢true (sym s ∙ t)) }
 
 module _ (p : List ℕ) (c : Core) (n : length p ≡ pageLength (c .screen)) (g : List ℕ) (h : PossibleCore c g) where
   begun-bounded : {t : Bool} (x : Plan) (room : ℕ) → PlanKept t (idle c) x → 0 < room → Bounded (c .screen) room (begun p x room)
@@ -68,6 +69,7 @@ module _ (p : List ℕ) (c : Core) (n : length p ≡ pageLength (c .screen)) (g 
         bound = omega (arith, sent-bound p (x .next) i (x .reply) (k .good .reply) room, ap columns (k .wide));
         taken = λ r. k .answer;
         full = sent-full p (x .next) (n ∙ ap (λ (b : Bool). 24 * columns b) (sym (k .wide))) i (x .reply) (k .good .reply) room r;
+        some = λ t. r;
       }
 
   carried-bounded : {t : Bool} (x : Plan) (room : ℕ) → PlanKept t (idle c) x → Bounded (c .screen) room (carried p c x room)
@@ -80,6 +82,7 @@ module _ (p : List ℕ) (c : Core) (n : length p ≡ pageLength (c .screen)) (g 
         bound = omega arith;
         taken = λ r. absurd (omega (arith, eqb-true room 0 e));
         full = λ t. absurd (false≢true t);
+        some = λ t. absurd (false≢true t);
       })
       (λ e. begun-bounded x room k (omega (arith, eqb-false room 0 e))))
       (λ d. silent refl (k .answer) refl)
@@ -158,15 +161,24 @@ module _ (p : List ℕ) (s : State) (b room : ℕ) where
   unfolding stepRule
   step-taken g u h = rw (g, u) (step-bounded p s g b room .taken h)
 
-  -- where a byte leaves a send under way, it has used the room up
+  begins : good p s ≡ true → sends (s .sending) ≡ false → sends (stepRule p s b room .state .sending) ≡ true
+      → sends (sendingAfter (innerRule p (s .core) (s .setup .tabs) b room .change) Sending.Nothing) ≡ true
+  unfolding stepRule
+  begins g u h = by (not-sending (s .sending) u) (rw (g, u) at h)
+    where
+      by : s .sending ≡ Sending.Nothing → sends (sendingAfter (innerRule p (s .core) (s .setup .tabs) b room .change) (s .sending)) ≡ true
+          → sends (sendingAfter (innerRule p (s .core) (s .setup .tabs) b room .change) Sending.Nothing) ≡ true
+      by e t = subst (λ (y : Sending). sends (sendingAfter (innerRule p (s .core) (s .setup .tabs) b room .change) y) ≡ true) e t
+
+  -- where a byte leaves a send under way, it has used the room up, and has replied
   pub step-full : good p s ≡ true → sends (s .sending) ≡ false → sends (stepRule p s b room .state .sending) ≡ true
       → length (stepRule p s b room .reply) ≡ room
   unfolding stepRule
-  step-full g u h = rw (g, u) (step-bounded p s g b room .full (begins (not-sending (s .sending) u) (rw (g, u) at h)))
-    where
-      begins : s .sending ≡ Sending.Nothing → sends (sendingAfter (innerRule p (s .core) (s .setup .tabs) b room .change) (s .sending)) ≡ true
-          → sends (sendingAfter (innerRule p (s .core) (s .setup .tabs) b room .change) Sending.Nothing) ≡ true
-      begins e t = subst (λ (y : Sending). sends (sendingAfter (innerRule p (s .core) (s .setup .tabs) b room .change) y) ≡ true) e t
+  step-full g u h = rw (g, u) (step-bounded p s g b room .full (begins g u h))
+
+  pub step-begins : good p s ≡ true → sends (s .sending) ≡ false → sends (stepRule p s b room .state .sending) ≡ true
+      → 0 < length (stepRule p s b room .reply)
+  step-begins g u h = omega (arith, step-full g u h, step-bounded p s g b room .some (begins g u h))
 
 key-bound : (k : ShortText) (v : ℕ) → textOk 0 8 (k .len) (k .bytes) ≡ true → length (keySends k v) ≤ 8
 unfolding keySends

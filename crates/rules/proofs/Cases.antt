@@ -26,8 +26,10 @@ use Rattle.rules.specs.CallCases.{callCases}
 use Rattle.rules.specs.LabelCases.{message, labelling, labelCases}
 use Rattle.rules.specs.SendCases.{twoFields, twoLabelRows, labelOverRowEnd, sendCases}
 use Rattle.rules.specs.NarrowCases.{form, twoRows, narrowCases}
+use Rattle.rules.specs.Next.{atEvent, toEvent, nextInside, nextRule, replyCommand}
+use Rattle.rules.specs.NextCases.{nextHolds, nextCasesHold, inSend, nextCases, nextRefuses, impossible}
 use Rattle.rules.specs.RowList.{firstColumn, rowNumbers}
-use Rattle.rules.specs.RowCalls.{stepRowsRule, runRowsRule, rowsAfter, canRebuild, rowCallRule, rowAfter, rowPlay}
+use Rattle.rules.specs.RowCalls.{stepRowsRule, runRowsRule, nextRowsRule, rowsAfter, canRebuild, rowCallRule, rowAfter, rowPlay}
 use Rattle.rules.specs.RowCases.{rowsWith, openRows, rowHolds, rowCasesHold, fromPowerOn, rowCases}
 use Rattle.rules.specs.PersonalityCases.{as60, obeys60, refuses60, attr, graphic, flaggedCells, personalityCases}
 use Rattle.rules.specs.ByteCases.{span, lastAnswer, triedHold, bytesHold, low, high, digitBytes, attributeBytes, escapeBytes, firstBytes, argumentBytes, addressBytes, decimalBytes}
@@ -46,8 +48,8 @@ unfolding completes runCompletes insideCompletes callCompletes anyCompleted comp
     featureRule fieldRule splitRule digitRule decimalRowRule decimalColumnRule slotRule textRule spoiltRule argumentRule decodeRule unlessGuarded
     scrolls nextCell atTop upCell reversePlan downPlan tabCell backTabCell addressPlan movePlan activate isSegment windowPlan storing
     advancing storePlan takesCell attributePlan rowEditPlan editPlan clearPlan settingPlan sendPlan excludedPlan planRule applied model openCell shortReply each cellPlace textPlaces followsLeftOut textAt places bytesOf beyond standing sentFrom leftFrom landed done begun carried obeyed innerRule goesOn stepInside stepRule joined repeated behind runInside runRule keySends pressRule ofStep ofRun
-    ofPress callRule after play firstColumn rowNumbers stepRowsRule runRowsRule rowsAfter canRebuild rowCallRule rowAfter rowPlay rowsWith openRows
-    rowHolds rowCasesHold fromPowerOn rowCases
+    ofPress callRule after play firstColumn rowNumbers stepRowsRule runRowsRule nextRowsRule rowsAfter canRebuild rowCallRule rowAfter rowPlay rowsWith openRows
+    rowHolds rowCasesHold fromPowerOn rowCases atEvent toEvent nextInside nextRule replyCommand nextHolds nextCasesHold inSend nextCases nextRefuses impossible
 cases = record {
   moving = refl;
   writing = refl;
@@ -56,6 +58,9 @@ cases = record {
   labels = refl;
   sending = refl;
   narrow = refl;
+  next = refl;
+  next-page = refl;
+  next-state = refl;
   rows = refl;
   wide-rows = refl;
   personalities = refl;

@@ -37,10 +37,10 @@ pub data Ended (p : List ℕ) (c : Core) : Effect → Type 0 where
   keeps : (n : ℕ) → among 2 3 n ≡ false → (n ≤ 6) × (n ≡ 5 → ⊥) → Ended p c (quiet n c p)
 
 module _ (p : List ℕ) (c : Core) where
-  carried-ends : (x : Plan) (room : ℕ) → Planned (idle c) x → Ended p c (carried p c x room)
+  carried-ends : {n : ℕ} (x : Plan) (room : ℕ) → Planned n (idle c) x → Ended p c (carried p c x room)
   unfolding carried begun done applied landed
   carried-ends x room (obeys e r) = rw (ap sends r) (ends (ap number e))
-  carried-ends x room (replies y s) =
+  carried-ends x room (replies y s k) =
       rw s (pick-if (Ended p c) (eqb room 0) (λ t. keeps 6 refl (omega arith, λ e. omega (arith, e))) (λ t. ends refl))
   carried-ends x room (refuses a e) = clears (number a) e
 

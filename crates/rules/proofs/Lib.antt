@@ -19,7 +19,9 @@ pub mod Decoding
 pub mod Kept
 pub mod Bound
 pub mod Run
+pub mod AskedBytes
 pub mod Narrow
+pub mod Next
 pub mod Planned
 pub mod Left
 pub mod Press

@@ -20,6 +20,7 @@ use Rattle.rules.specs.declared.Decoded.{Decoded}
 use Rattle.rules.specs.declared.Decoded.the-variants as Decoded
 use Rattle.rules.specs.declared.Pending.the-variants as Pending
 use Rattle.rules.specs.declared.Change.the-variants as Change
+use Rattle.rules.specs.declared.Short.the-variants as Short
 use Rattle.rules.specs.declared.Sending.{Sending}
 use Rattle.rules.specs.declared.Sending.the-variants as Sending
 use Rattle.rules.specs.Cell.{pick}
@@ -27,7 +28,7 @@ use Rattle.rules.specs.Row.{columns}
 use Rattle.rules.specs.State.{number, pageLength, awaiting, Inside, idle, sends, withSending, sendingAfter, gatheredAfter, setupAfter, changed}
 use Rattle.rules.specs.Possible.{good}
 use Rattle.rules.specs.Good.{GoodSend}
-use Rattle.rules.specs.Send.{places, bytesOf, beyond, standing, sentFrom, leftFrom}
+use Rattle.rules.specs.Send.{commandOf, places, bytesOf, beyond, standing, sentFrom, leftFrom}
 use Rattle.rules.specs.Search.{guardedAt}
 use Rattle.rules.specs.Decode.{decodeRule}
 use Rattle.rules.specs.Plan.{replying, planRule}
@@ -42,16 +43,17 @@ use Rattle.rules.proofs.Sends.{ok-good, not-sending, stands-still, sent
 use Rattle.rules.proofs.Good.{PlanKept}
 use Rattle.rules.proofs.Decoding.{decodedOk, decoded-ok}
 use Rattle.rules.proofs.Planned.{Planned, obeys, replies, refuses, planned}
+use Rattle.rules.proofs.AskedBytes.{asked, asked-byte}
 use Rattle.rules.proofs.Kept.{planned-kept, possible-parts, good-parts, step-good, run-good}
 use Rattle.rules.proofs.Bound.{step-taken, goes-bounded}
 use Rattle.rules.proofs.Left.{step-good-most}
 use Rattle.rules.proofs.Run.{run-waits, run-stop, run-go, run-done, run-repeats, run-resumes, run-unheard, goes-good}
 
 -- a run, and then another from where it stands
-abbrev next : Ran → ℕ → Ran
-next r room = preceded (r .taken) (r .refused) (r .reply) (runRule (r .page) (r .state) (r .rest) room)
+abbrev pub thenRun : Ran → ℕ → Ran
+thenRun r room = preceded (r .taken) (r .refused) (r .reply) (runRule (r .page) (r .state) (r .rest) room)
 
-same-joined : (o : Outcome) (r q : Ran) (b : ℕ) → Same (next r b) q → Same (next (joined o r) b) (joined o q)
+pub same-joined : (o : Outcome) (r q : Ran) (b : ℕ) → Same (thenRun r b) q → Same (thenRun (joined o r) b) (joined o q)
 unfolding joined
 same-joined o r q b x = record {
   taken = suc-add (r .taken) _ ∙ ap suc (x .taken);
@@ -62,7 +64,7 @@ same-joined o r q b x = record {
   state = x .state;
 }
 
-same-behind : (a : List ℕ) (r q : Ran) (b : ℕ) → Same (next r b) q → Same (next (behind a r) b) (behind a q)
+pub same-behind : (a : List ℕ) (r q : Ran) (b : ℕ) → Same (thenRun r b) q → Same (thenRun (behind a r) b) (behind a q)
 unfolding behind
 same-behind a r q b x = record {
   taken = x .taken;
@@ -74,10 +76,10 @@ same-behind a r q b x = record {
 }
 
 -- a run over nothing taken, and then a run
-same-ended : (p : List ℕ) (s : State) (n : ℕ) (bytes : List ℕ) (b : ℕ) → Same (next (ended p s n bytes) b) (runRule p s bytes b)
+pub same-ended : (p : List ℕ) (s : State) (n : ℕ) (bytes : List ℕ) (b : ℕ) → Same (thenRun (ended p s n bytes) b) (runRule p s bytes b)
 same-ended p s n bytes b = record { taken = zero-add _; refused = zero-add _; reply = refl; rest = refl; page = refl; state = refl }
 
-same-trans : {a b c : Ran} → Same a b → Same b c → Same a c
+pub same-trans : {a b c : Ran} → Same a b → Same b c → Same a c
 same-trans x y = record {
   taken = x .taken ∙ y .taken;
   refused = x .refused ∙ y .refused;
@@ -87,15 +89,15 @@ same-trans x y = record {
   state = x .state ∙ y .state;
 }
 
-same-refl : (a : Ran) → Same a a
+pub same-refl : (a : Ran) → Same a a
 same-refl a = record { taken = refl; refused = refl; reply = refl; rest = refl; page = refl; state = refl }
 
 -- a run that takes no byte, for a send is under way
-waits : (bytes p : List ℕ) (s : State) (room : ℕ) → sends (s .sending) ≡ true → repeated bytes p s room ≡ ended p s 0 bytes
+pub waits : (bytes p : List ℕ) (s : State) (room : ℕ) → sends (s .sending) ≡ true → repeated bytes p s room ≡ ended p s 0 bytes
 waits [] p s room u = run-done p s room
 waits (b ∷ bs) p s room u = run-waits b bs p s room u
 
-outside : (p : List ℕ) (s : State) (bytes : List ℕ) (room : ℕ) → good p s ≡ true → sends (s .sending) ≡ false
+pub outside : (p : List ℕ) (s : State) (bytes : List ℕ) (room : ℕ) → good p s ≡ true → sends (s .sending) ≡ false
     → runRule p s bytes room ≡ repeated bytes p s room
 unfolding runRule
 outside p s bytes room g u = rw (g, u)
@@ -106,7 +108,7 @@ unfolding runRule
 inside p s bytes room g u = rw (g, u)
 
 -- nothing under way: nothing is sent
-nothing-left : (p : List ℕ) (s : State) (room : ℕ) → s .sending ≡ Sending.Nothing → goesOn p s room .state ≡ s
+pub nothing-left : (p : List ℕ) (s : State) (room : ℕ) → s .sending ≡ Sending.Nothing → goesOn p s room .state ≡ s
 unfolding goesOn leftFrom places beyond standing
 nothing-left p s room e =
     ap (withSending s) (subst (λ (y : Sending). leftFrom p (s .core) y room ≡ y) (sym e) refl)
@@ -116,22 +118,22 @@ unfolding goesOn sentFrom places bytesOf
 nothing-sent p s room e = subst (λ (y : Sending). sentFrom p (s .core) y room ≡ []) (sym e) (take-nil room)
 
 -- inside a send with room, and without
-inside-room : (p : List ℕ) (s : State) (bytes : List ℕ) (room : ℕ) → good p s ≡ true → sends (s .sending) ≡ true → 0 < room
+pub inside-room : (p : List ℕ) (s : State) (bytes : List ℕ) (room : ℕ) → good p s ≡ true → sends (s .sending) ≡ true → 0 < room
     → runRule p s bytes room ≡ behind (goesOn p s room .reply) (repeated bytes p (goesOn p s room .state) (room - length (goesOn p s room .reply)))
 unfolding runRule runInside
 inside-room p s bytes room g u h = rw (g, u, ne-eqb room 0 (omega arith))
 
-still : (bytes p : List ℕ) (s : State) → good p s ≡ true → sends (s .sending) ≡ true → Same (runRule p s bytes 0) (ended p s 0 bytes)
+pub still : (bytes p : List ℕ) (s : State) → good p s ≡ true → sends (s .sending) ≡ true → Same (runRule p s bytes 0) (ended p s 0 bytes)
 unfolding runRule runInside
 still bytes p s g u = rw (g, u) record { taken = refl; refused = refl; reply = refl; rest = refl; page = refl; state = refl }
 
 none-more : (bytes p : List ℕ) (s : State) (x : List ℕ) (m : ℕ) → repeated bytes p s m ≡ ended p s 0 bytes → Same (runRule p s bytes 0) (ended p s 0 bytes)
-    → Same (next (behind x (repeated bytes p s m)) 0) (behind x (repeated bytes p s m))
+    → Same (thenRun (behind x (repeated bytes p s m)) 0) (behind x (repeated bytes p s m))
 none-more bytes p s x m q y = rw q (same-behind x (ended p s 0 bytes) (ended p s 0 bytes) 0 (same-trans (same-ended p s 0 bytes 0) y))
 
 rest-of : (bytes p : List ℕ) (a b : ℕ) (x y z : List ℕ) (s v w : State) → x ++ y ≡ z → v ≡ w → length x ≡ a
     → repeated bytes p s (a - length x) ≡ ended p s 0 bytes → runRule p s bytes (suc b) ≡ behind y (repeated bytes p v (suc b - length y))
-    → Same (next (behind x (repeated bytes p s (a - length x))) (suc b)) (behind z (repeated bytes p w (a + suc b - length z)))
+    → Same (thenRun (behind x (repeated bytes p s (a - length x))) (suc b)) (behind z (repeated bytes p w (a + suc b - length z)))
 unfolding behind
 rest-of bytes p a b x y z s v w e f l q r =
     let m : a + suc b - length z ≡ suc b - length y = omega (arith, ap length e, length-append x y, l) in
@@ -182,9 +184,9 @@ module _ (p : List ℕ) (t : State) (n : length p ≡ pageLength (t .core .scree
       none-reply z = nothing-sent p (goesOn p t a .state) b z
 
   split-over : (bytes : List ℕ) (a b : ℕ) → 0 < a → sends (goesOn p t a .state .sending) ≡ false
-      → Same (next (repeated bytes p (goesOn p t a .state) (a - length (goesOn p t a .reply))) b)
+      → Same (thenRun (repeated bytes p (goesOn p t a .state) (a - length (goesOn p t a .reply))) b)
       (repeated bytes p (goesOn p t a .state) (a - length (goesOn p t a .reply) + b))
-      → Same (next (sentThen bytes a) b) (sentThen bytes (a + b))
+      → Same (thenRun (sentThen bytes a) b) (sentThen bytes (a + b))
   split-over bytes a b h u x =
       let o = over-within a b h u in
       let e : a + b - length (goesOn p t a .reply) ≡ a - length (goesOn p t a .reply) + b = omega (arith, goes-fits a) in
@@ -192,7 +194,7 @@ module _ (p : List ℕ) (t : State) (n : length p ≡ pageLength (t .core .scree
 
   -- it is not
   split-on : (bytes : List ℕ) (a b : ℕ) → 0 < a → sends (goesOn p t a .state .sending) ≡ true → good p (goesOn p t a .state) ≡ true
-      → Same (next (sentThen bytes a) b) (sentThen bytes (a + b))
+      → Same (thenRun (sentThen bytes a) b) (sentThen bytes (a + b))
   split-on bytes a zero h u g =
       rw (add-zero a) (none-more bytes p (goesOn p t a .state) (goesOn p t a .reply) (a - length (goesOn p t a .reply))
       (waits bytes p (goesOn p t a .state) (a - length (goesOn p t a .reply)) u) (still bytes p (goesOn p t a .state) g u))
@@ -205,7 +207,7 @@ module _ (p : List ℕ) (t : State) (n : length p ≡ pageLength (t .core .scree
 -- ---- a byte, with any room
 
 -- t is the state whose send, from its first place, is the reply of a byte
-abbrev begins : List ℕ → State → ℕ → Outcome
+abbrev pub begins : List ℕ → State → ℕ → Outcome
 begins p t room =
     record { answer = 0; taken = true; state = goesOn p t room .state; page = p; reply = goesOn p t room .reply }
 
@@ -214,7 +216,7 @@ pub data Byte (p : List ℕ) (s : State) (b : ℕ) : Type 0 where
   same : (o : Outcome) → ((room : ℕ) → stepRule p s b room ≡ o) → o .reply ≡ [] → sends (o .state .sending) ≡ false → eqb (o .answer) 6 ≡ false → Byte p s b
   -- a reply is due
   due : (t : State) → length p ≡ pageLength (t .core .screen) → Inside (t .core .screen) → GoodSend (t .core .screen) (t .sending)
-      → stepRule p s b 0 .answer ≡ 6 → ((room : ℕ) → 0 < room → stepRule p s b room ≡ begins p t room) → Byte p s b
+      → (sends (t .sending) ≡ true) × (commandOf (t .sending) ≡ b) → stepRule p s b 0 .answer ≡ 6 → ((room : ℕ) → 0 < room → stepRule p s b room ≡ begins p t room) → Byte p s b
 
 none-due : (p : List ℕ) (c d : Core) (y : Sending) → sends y ≡ true → carried p c (replying d y) 0 ≡ quiet 6 c p
 unfolding carried
@@ -224,6 +226,23 @@ some-due : (p : List ℕ) (c d : Core) (y : Sending) (room : ℕ) → sends y �
     → carried p c (replying d y) room ≡ begun p (replying d y) room
 unfolding carried
 some-due p c d y room w h = rw (w, ne-eqb room 0 (omega arith))
+
+command-some : (y : Sending) → sends y ≡ true → commandOf y ≡ 0 → ⊥
+command-some Sending.Nothing w e = false≢true w
+command-some (Sending.Short Short.Acknowledge n) w e = omega (arith, e)
+command-some (Sending.Short Short.Cell n) w e = omega (arith, e)
+command-some (Sending.Short Short.Identity n) w e = omega (arith, e)
+command-some (Sending.Short Short.Cursor n) w e = omega (arith, e)
+command-some (Sending.Short Short.SegmentCursor n) w e = omega (arith, e)
+command-some (Sending.Short Short.DecimalCursor n) w e = omega (arith, e)
+command-some (Sending.Text true true k) w e = omega (arith, e)
+command-some (Sending.Text true false k) w e = omega (arith, e)
+command-some (Sending.Text false true k) w e = omega (arith, e)
+command-some (Sending.Text false false k) w e = omega (arith, e)
+
+command-is : (y : Sending) → sends y ≡ true → {n b : ℕ} → commandOf y ≡ n → (n ≡ 0) ⊎ (n ≡ b) → commandOf y ≡ b
+command-is y w m (inl e) = absurd (command-some y w (m ∙ e))
+command-is y w m (inr e) = m ∙ e
 
 module _ (p : List ℕ) (s : State) (g : good p s ≡ true) (u : sends (s .sending) ≡ false) (b : ℕ) where
   step-is : (room : ℕ) → stepRule p s b room ≡ outcomeOf s (innerRule p (s .core) (s .setup .tabs) b room)
@@ -239,16 +258,20 @@ module _ (p : List ℕ) (s : State) (g : good p s ≡ true) (u : sends (s .sendi
   high-byte h = quiet-inner (quiet 1 (s .core) p) (λ room. rw h) refl u refl
 
   -- a plan carried out
-  carried-byte : (x : Plan) → Planned (idle (s .core)) x → {t : Bool} → PlanKept t (idle (s .core)) x
+  carried-byte : {n : ℕ} → (n ≡ 0) ⊎ (n ≡ b) → (x : Plan) → Planned n (idle (s .core)) x → {t : Bool} → PlanKept t (idle (s .core)) x
       → ((room : ℕ) → innerRule p (s .core) (s .setup .tabs) b room ≡ carried p (s .core) x room) → Byte p s b
   unfolding carried begun done sendingAfter gatheredAfter setupAfter changed goesOn
-  carried-byte x (obeys e r) k is =
+  carried-byte h x (obeys e r) k is =
       quiet-inner (done (s .core .modes .protect) p x) (λ room. is room ∙ rw (ap sends r) refl) refl u (k .answer)
-  carried-byte x (refuses a e) k is = quiet-inner (done (s .core .modes .protect) p x) (λ room. is room) refl u (k .answer)
-  carried-byte x (replies y w) k is =
+  carried-byte h x (refuses a e) k is = quiet-inner (done (s .core .modes .protect) p x) (λ room. is room) refl u (k .answer)
+  carried-byte h x (replies y w m) k is =
       due record { core = idle (s .core); sending = y; gathered = s .gathered; setup = s .setup } (good-parts p s g .0) (screen-inside (s .core .screen) (k .good .screen))
-      (k .good .reply) (ap (λ (o : Outcome). o .answer) (step-is 0 ∙ ap (outcomeOf s) (is 0 ∙ none-due p (s .core) (idle (s .core)) y w)))
+      (k .good .reply) (w, command-is y w m h) (ap (λ (o : Outcome). o .answer) (step-is 0 ∙ ap (outcomeOf s) (is 0 ∙ none-due p (s .core) (idle (s .core)) y w)))
       (λ room h. step-is room ∙ ap (outcomeOf s) (is room ∙ some-due p (s .core) (idle (s .core)) y room w h))
+
+  ap-asked : {d : Decoded} → decodeRule (s .core .pending) b ≡ d
+      → (asked (decodeRule (s .core .pending) b) ≡ 0) ⊎ (asked (decodeRule (s .core .pending) b) ≡ b) → (asked d ≡ 0) ⊎ (asked d ≡ b)
+  ap-asked e h = subst (λ (d : Decoded). (asked d ≡ 0) ⊎ (asked d ≡ b)) e h
 
   low-byte : ltb b 128 ≡ true → (d : Decoded) → decodeRule (s .core .pending) b ≡ d → decodedOk (s .gathered) d ≡ true → Byte p s b
   unfolding innerRule obeyed sendingAfter decodedOk
@@ -260,7 +283,7 @@ module _ (p : List ℕ) (s : State) (g : good p s ≡ true) (u : sends (s .sendi
       quiet-inner (quiet (number a) (idle (s .core)) p) (λ room. rw (h, e)) refl u (ne-eqb (number a) 6 (omega (arith, among-parts 2 3 (number a) k)))
   low-byte h (Decoded.Do d) e k =
       let x = planRule (guardedAt (s .core .modes .protect) p) (s .setup .tabs) (idle (s .core)) d in
-      carried-byte x (planned (idle (s .core)) (guardedAt (s .core .modes .protect) p) (s .setup .tabs) d)
+      carried-byte (ap-asked e (asked-byte (s .core .pending) b (ltb-true b 128 h))) x (planned (idle (s .core)) (guardedAt (s .core .modes .protect) p) (s .setup .tabs) d)
       (planned-kept p (s .core) (good-parts p s g .0) (s .gathered) (possible-parts s (good-parts p s g .1) .core) (s .setup .tabs) d) (λ room. rw (h, e))
 
   pub byte-is : Byte p s b
@@ -286,7 +309,7 @@ taken-byte r = record {
   page = r .page;
 }
 
-same-taken : (r q : Ran) (b : ℕ) → Same (next r b) q → Same (next (taken-byte r) b) (taken-byte q)
+same-taken : (r q : Ran) (b : ℕ) → Same (thenRun r b) q → Same (thenRun (taken-byte r) b) (taken-byte q)
 unfolding taken-byte
 same-taken r q b x = record {
   taken = suc-add (r .taken) _ ∙ ap suc (x .taken);
@@ -311,14 +334,14 @@ quiet-run b bs p s room o u e r a =
     rw (u, e, a, z)
 
 module _ (b : ℕ) (bs p : List ℕ) (s : State) (g : good p s ≡ true) (u : sends (s .sending) ≡ false)
-    (ih : (q : List ℕ) (t : State) → good q t ≡ true → sends (t .sending) ≡ false → (c d : ℕ) → Same (next (repeated bs q t c) d) (repeated bs q t (c + d))) where
-  split-byte : Byte p s b → (c d : ℕ) → Same (next (repeated (b ∷ bs) p s c) d) (repeated (b ∷ bs) p s (c + d))
+    (ih : (q : List ℕ) (t : State) → good q t ≡ true → sends (t .sending) ≡ false → (c d : ℕ) → Same (thenRun (repeated bs q t c) d) (repeated bs q t (c + d))) where
+  split-byte : Byte p s b → (c d : ℕ) → Same (thenRun (repeated (b ∷ bs) p s c) d) (repeated (b ∷ bs) p s (c + d))
   split-byte (same o is r w a) c d =
       rw (quiet-run b bs p s c o u (is c) r a, quiet-run b bs p s (c + d) o u (is (c + d)) r a)
       (same-joined o _ _ d (ih (o .page) (o .state) (subst (λ (z : Outcome). good (z .page) (z .state) ≡ true) (is c) (step-good p s b c g)) w c d))
-  split-byte (due t n i k z is) zero d =
+  split-byte (due t n i k m z is) zero d =
       rw (run-stop b bs p s 0 u z, zero-add d) (rw (← (outside p s (b ∷ bs) d g u)) (same-ended p s 6 (b ∷ bs) d))
-  split-byte (due t n i k z is) (suc c) d =
+  split-byte (due t n i k m z is) (suc c) d =
       let h : 0 < suc c = omega arith in
       let l : good p (goesOn p t (suc c) .state) ≡ true = subst (λ (o : Outcome). good p (o .state) ≡ true) (is (suc c) h) (good-step (is (suc c) h)) in
       rw (begun-run b bs p s t (suc c) u (is (suc c) h), begun-run b bs p s t (suc c + d) u (is (suc c + d) (omega arith)))
@@ -328,18 +351,18 @@ module _ (b : ℕ) (bs p : List ℕ) (s : State) (g : good p s ≡ true) (u : se
       good-step e = subst (λ (q : List ℕ). good q (stepRule p s b (suc c) .state) ≡ true) (ap (λ (o : Outcome). o .page) e) (step-good p s b (suc c) g)
 
       by : (v : Bool) → sends (goesOn p t (suc c) .state .sending) ≡ v → good p (goesOn p t (suc c) .state) ≡ true
-          → Same (next (sentThen p t n i k bs (suc c)) d) (sentThen p t n i k bs (suc c + d))
+          → Same (thenRun (sentThen p t n i k bs (suc c)) d) (sentThen p t n i k bs (suc c + d))
       by true v l = split-on p t n i k bs (suc c) d (omega arith) v l
       by false v l = split-over p t n i k bs (suc c) d (omega arith) v (ih p (goesOn p t (suc c) .state) l v _ d)
 
 split-repeated : (bytes p : List ℕ) (s : State) → good p s ≡ true → sends (s .sending) ≡ false → (c d : ℕ)
-    → Same (next (repeated bytes p s c) d) (repeated bytes p s (c + d))
+    → Same (thenRun (repeated bytes p s c) d) (repeated bytes p s (c + d))
 split-repeated [] p s g u c d =
     rw (run-done p s c, run-done p s (c + d)) (same-trans (same-ended p s 0 [] d) (rw (outside p s [] d g u, run-done p s d) (same-refl (ended p s 0 []))))
 split-repeated (b ∷ bs) p s g u c d = split-byte b bs p s g u (λ q t h v. split-repeated bs q t h v) (byte-is p s g u b) c d
 
 split-inside : (bytes p : List ℕ) (s : State) → good p s ≡ true → sends (s .sending) ≡ true → (c d : ℕ)
-    → Same (next (runRule p s bytes c) d) (runRule p s bytes (c + d))
+    → Same (thenRun (runRule p s bytes c) d) (runRule p s bytes (c + d))
 split-inside bytes p s g u zero d =
     rw (zero-add d, run-unheard p s bytes g u) (same-ended p s (pick (eqb (length bytes) 0) 0 6) bytes d)
 split-inside bytes p s g u (suc c) d =
@@ -352,15 +375,15 @@ split-inside bytes p s g u (suc c) d =
   where
     by : (n : length p ≡ pageLength (s .core .screen)) (i : Inside (s .core .screen)) (k : GoodSend (s .core .screen) (s .sending)) (v : Bool)
         → sends (goesOn p s (suc c) .state .sending) ≡ v → good p (goesOn p s (suc c) .state) ≡ true
-        → Same (next (sentThen p s n i k bytes (suc c)) d) (sentThen p s n i k bytes (suc c + d))
+        → Same (thenRun (sentThen p s n i k bytes (suc c)) d) (sentThen p s n i k bytes (suc c + d))
     by n i k true v l = split-on p s n i k bytes (suc c) d (omega arith) v l
     by n i k false v l = split-over p s n i k bytes (suc c) d (omega arith) v (split-repeated bytes p (goesOn p s (suc c) .state) l v _ d)
 
 -- one room, and then another
-split-run : (bytes p : List ℕ) (s : State) → good p s ≡ true → (c d : ℕ) → Same (next (runRule p s bytes c) d) (runRule p s bytes (c + d))
+pub split-run : (bytes p : List ℕ) (s : State) → good p s ≡ true → (c d : ℕ) → Same (thenRun (runRule p s bytes c) d) (runRule p s bytes (c + d))
 split-run bytes p s g c d = by (sends (s .sending)) refl
   where
-    by : (v : Bool) → sends (s .sending) ≡ v → Same (next (runRule p s bytes c) d) (runRule p s bytes (c + d))
+    by : (v : Bool) → sends (s .sending) ≡ v → Same (thenRun (runRule p s bytes c) d) (runRule p s bytes (c + d))
     by true u = split-inside bytes p s g u c d
     by false u = rw (outside p s bytes c g u, outside p s bytes (c + d) g u) (split-repeated bytes p s g u c d)
 
@@ -381,7 +404,7 @@ stays p s g u =
     ap (withSending s) (stands-still p (s .core) (good-parts p s g .0) (screen-inside (s .core .screen) (w .core .screen)) (s .core .pending) (s .sending) (w .sending) u)
 
 -- the same first run
-same-next : (r a b : Ran) → Same a b → Same (preceded (r .taken) (r .refused) (r .reply) a) (preceded (r .taken) (r .refused) (r .reply) b)
+pub same-next : (r a b : Ran) → Same a b → Same (preceded (r .taken) (r .refused) (r .reply) a) (preceded (r .taken) (r .refused) (r .reply) b)
 same-next r a b x = record {
   taken = ap (λ (n : ℕ). r .taken + n) (x .taken);
   refused = ap (λ (n : ℕ). r .refused + n) (x .refused);
@@ -404,15 +427,15 @@ over-rests : (p : List ℕ) (s : State) (bytes : List ℕ) (room : ℕ) → good
     → runRule p s bytes room ≡ ended p s 0 []
 over-rests p s bytes room g e u = rw e (outside p s [] room g u ∙ run-done p s room)
 
-over-next : (r : Ran) (room : ℕ) → good (r .page) (r .state) ≡ true → Over r → Same r (next r room)
+pub over-next : (r : Ran) (room : ℕ) → good (r .page) (r .state) ≡ true → Over r → Same r (thenRun r room)
 over-next r room g o =
     rw (over-rests (r .page) (r .state) (r .rest) room g (o .taken) (o .sent))
     record { taken = sym (add-zero (r .taken)); refused = sym (add-zero (r .refused)); reply = sym (append-nil (r .reply)); rest = o .taken; page = refl; state = refl }
 
-same-over : {a b : Ran} → Same a b → Over a → Over b
+pub same-over : {a b : Ran} → Same a b → Over a → Over b
 same-over x o = record { taken = sym (x .rest) ∙ o .taken; sent = ap (λ (s : State). sends (s .sending)) (sym (x .state)) ∙ o .sent }
 
-fed-enough : (rooms p : List ℕ) (s : State) (bytes : List ℕ) (room more : ℕ) → good p s ≡ true → Over (fed rooms p s bytes room)
+pub fed-enough : (rooms p : List ℕ) (s : State) (bytes : List ℕ) (room more : ℕ) → good p s ≡ true → Over (fed rooms p s bytes room)
     → Same (fed rooms p s bytes room) (runRule p s bytes (room + sum rooms + more))
 fed-enough rooms p s bytes room more g o =
     let x = fed-as-one rooms p s bytes room g in

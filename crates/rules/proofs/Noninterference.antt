@@ -9,7 +9,8 @@ use mathlib.Core.Path.{_≡_, refl, sym, ap, _∙_}
 use mathlib.Core.Bool.{Bool, true, false, false≢true}
 use mathlib.Core.List.{List, [], _∷_}
 use Prim.Native.Nat.{ℕ, _-_}
-use borrow.Author.Tests.{ltb-true, eqb-true}
+use native.Mathlib.Omega.{arith}
+use borrow.Author.Tests.{ltb-true, eqb-true, ne-eqb}
 use lib.Dec.{ltb, eqb}
 use lib.ListN.{length, take}
 use Rattle.rules.specs.declared.Core.{Core}
@@ -31,10 +32,13 @@ use Rattle.rules.specs.Send.{Spot, bytesOf, beyond, standing, sentFrom, 
 use Rattle.rules.specs.Carry.{Effect, effect, quiet, planWidth, landed, pageAfter, done, begun, carried}
 use Rattle.rules.specs.Step.{obeyed, innerRule, Outcome, unheard, outcomeOf, goesOn, stepInside, stepRule}
 use Rattle.rules.specs.Calls.{Ran, ended, joined, repeated, behind, runInside, runRule, pressRule, Call, Step, Run, Press, Called, ofStep, ofRun, ofPress, callRule, Played, after, play}
+use Rattle.rules.specs.Next.{tells, atEvent, toEvent, nextInside, nextRule}
 use Rattle.rules.specs.Noninterference.{afterEscape, anyOf, excludedBytes, completes, runCompletes, insideCompletes, callCompletes, anyCompleted, revealing, AlikePages, KeptPages, Demand3}
 use Rattle.rules.proofs.Related.{Related, related-alike, related-cell, related-length, related-guards, related-write, related-places, left-conceals}
 use Rattle.rules.proofs.Unrevealing.{both-false, isExcluded, Unrevealing, unrevealing}
 use Rattle.rules.proofs.ExcludedBytes.{givesExcluded, excluded-bytes}
+use Rattle.rules.proofs.Kept.{step-good}
+use Rattle.rules.proofs.Next.{no-event, to-done, to-event, to-go, event-taken, begun-tells, next-outside, next-refused}
 
 abbrev pub protects : State → Bool
 protects s = s .core .modes .protect
@@ -298,6 +302,110 @@ module _ {p q x y : List ℕ} (h : Related p q x y) (s : State) (closed : Closed
       let a = run-agrees bs room c in
       rw (a .but-page) record { given = refl; related = a .related; closed = a .closed }
   call-agrees (Press v room) c = rw (good-agrees h s closed) record { given = refl; related = h; closed = closed }
+
+-- ---- next
+
+event-agrees : {p q : List ℕ} (o : Outcome) (page : List ℕ) (b : ℕ) (bs : List ℕ) → Related p q (o .page) page → Closed (o .state)
+    → AgreeRun p q (atEvent o b bs) (atEvent (withPage o page) b bs)
+unfolding atEvent
+event-agrees o page b bs h closed = record { page = page; but-page = refl; related = h; closed = closed }
+
+module _ (b : ℕ) (bs x : List ℕ) (s : State) (room : ℕ) (g : good x s ≡ true) (u : sends (s .sending) ≡ false) where
+  abbrev outcome : Outcome
+  outcome = stepRule x s b room
+
+  -- a byte that the run over the bytes taken takes
+  first-completes : (l : List ℕ) → runCompletes (b ∷ l) x s room ≡ false → completes s b (outcome .answer) ≡ false
+  unfolding runCompletes
+  first-completes l c = byte-completes s b (outcome .answer) _ (rw u at c)
+
+  event-completes : (t : Bool) → eqb (outcome .answer) 6 ≡ t → runCompletes (take (atEvent outcome b bs .taken) (b ∷ bs)) x s room ≡ false
+      → completes s b (outcome .answer) ≡ false
+  unfolding joined
+  event-completes true e c = rw (eqb-true (outcome .answer) 6 e) (refused s b)
+  event-completes false e c = first-completes [] (rw (event-taken b bs x s room g u e) at c)
+
+  rest-completes : eqb (outcome .answer) 6 ≡ false → (l : List ℕ) → runCompletes (b ∷ l) x s room ≡ false
+      → runCompletes l (outcome .page) (outcome .state) (room - length (outcome .reply)) ≡ false
+  unfolding runCompletes
+  rest-completes e l c = either-right (completes s b (outcome .answer)) _ (rw (u, e) at c)
+
+-- one byte, over what is known of the bytes after it
+module _ {p q x y : List ℕ} (h : Related p q x y) (s : State) (closed : Closed s) (b : ℕ) (bs : List ℕ) (room : ℕ) (g : good x s ≡ true)
+    (u : sends (s .sending) ≡ false) where
+  abbrev o : Outcome
+  o = stepRule x s b room
+
+  abbrev left : ℕ
+  left = room - length (o .reply)
+
+  turn-agrees : ((y′ : List ℕ) → Related p q (o .page) y′ → Closed (o .state) → sends (o .state .sending) ≡ false
+      → runCompletes (take (toEvent bs (o .page) (o .state) left .taken) bs) (o .page) (o .state) left ≡ false
+      → AgreeRun p q (toEvent bs (o .page) (o .state) left) (toEvent bs y′ (o .state) left))
+      → runCompletes (take (toEvent (b ∷ bs) x s room .taken) (b ∷ bs)) x s room ≡ false
+      → AgreeRun p q (toEvent (b ∷ bs) x s room) (toEvent (b ∷ bs) y s room)
+  unfolding joined
+  turn-agrees ih c = by (tells o) refl
+    where
+      by : (t : Bool) → tells o ≡ t → AgreeRun p q (toEvent (b ∷ bs) x s room) (toEvent (b ∷ bs) y s room)
+      by true e =
+          let d = rw (to-event b bs x s room e) at c in
+          let a = step-agrees h s closed b room (event-completes b bs x s room g u (eqb (o .answer) 6) refl d) in
+          rw (to-event b bs x s room e, to-event b bs y s room (ap tells (a .but-page) ∙ e), a .but-page)
+          (event-agrees o (a .page) b bs (a .related) (a .closed))
+      by false e =
+          let six : eqb (o .answer) 6 ≡ false = ne-eqb (o .answer) 6 (λ z. omega (arith, z, no-event (o .answer) (length (o .reply)) e .0)) in
+          let l = take (toEvent bs (o .page) (o .state) left .taken) bs in
+          let d : runCompletes (b ∷ l) x s room ≡ false = rw (to-go b bs x s room e) at c in
+          let a = step-agrees h s closed b room (first-completes b bs x s room g u l d) in
+          rw (to-go b bs x s room e, to-go b bs y s room (ap tells (a .but-page) ∙ e), a .but-page)
+          (joined-agrees o (a .page) _ _
+          (ih (a .page) (a .related) (a .closed) (begun-tells b bs x s room g u e) (rest-completes b bs x s room g u six l d)))
+
+to-agrees : (bs : List ℕ) {p q x y : List ℕ} → Related p q x y → (s : State) → Closed s → (room : ℕ) → good x s ≡ true → sends (s .sending) ≡ false
+    → runCompletes (take (toEvent bs x s room .taken) bs) x s room ≡ false → AgreeRun p q (toEvent bs x s room) (toEvent bs y s room)
+to-agrees [] {x = x} {y = y} h s closed room g u c = rw (to-done x s room, to-done y s room) (ended-agrees h s closed 0 [])
+to-agrees (b ∷ bs) {x = x} h s closed room g u c =
+    turn-agrees h s closed b bs room g u (λ y′ k w v d. to-agrees bs k _ w _ (step-good x s b room g) v d) c
+
+module _ {p q x y : List ℕ} (h : Related p q x y) (s : State) (closed : Closed s) where
+  next-inside-agrees : (bs : List ℕ) (room : ℕ) → AgreeRun p q (nextInside x s bs room) (nextInside y s bs room)
+  unfolding nextInside
+  next-inside-agrees bs room =
+      let a = goes-agrees h s closed room in
+      rw (a .but-page)
+      (pick-agrees (AgreeRun p q) (eqb room 0) (λ t. ended-agrees h s closed _ bs)
+      (λ t. behind-agrees (goesOn x s room .reply) _ _ (ended-agrees h (goesOn x s room .state) (a .closed) 0 bs)))
+
+  inside-next : (bs : List ℕ) (room : ℕ) → good x s ≡ true → sends (s .sending) ≡ true → AgreeRun p q (nextRule x s bs room) (nextRule y s bs room)
+  unfolding nextRule
+  inside-next bs room g u = rw (← (good-agrees h s closed), g, u) (next-inside-agrees bs room)
+
+  outside-completes : (bs : List ℕ) (room : ℕ) → good x s ≡ true → sends (s .sending) ≡ false
+      → callCompletes x s (Run (take (nextRule x s bs room .taken) bs) room) ≡ false
+      → runCompletes (take (toEvent bs x s room .taken) bs) x s room ≡ false
+  unfolding nextRule callCompletes
+  outside-completes bs room g u c = rw (g, u) at c
+
+  next-agrees : (bs : List ℕ) (room : ℕ) → callCompletes x s (Run (take (nextRule x s bs room .taken) bs) room) ≡ false
+      → AgreeRun p q (nextRule x s bs room) (nextRule y s bs room)
+  next-agrees bs room c = by (good x s) (sends (s .sending)) refl refl
+    where
+      by : (t v : Bool) → good x s ≡ t → sends (s .sending) ≡ v → AgreeRun p q (nextRule x s bs room) (nextRule y s bs room)
+      by false v g u =
+          rw (next-refused x s bs room g, next-refused y s bs room (sym (good-agrees h s closed) ∙ g)) (ended-agrees h s closed 7 bs)
+      by true true g u = inside-next bs room g u
+      by true false g u =
+          let k = sym (good-agrees h s closed) ∙ g in
+          rw (next-outside x s bs room g u, next-outside y s bs room k u)
+          (to-agrees bs h s closed room g u (outside-completes bs room g u c))
+
+  pub next-call-agrees : (bs : List ℕ) (room : ℕ) → callCompletes x s (Run (take (nextRule x s bs room .taken) bs) room) ≡ false
+      → AgreeCall p q (ofRun (nextRule x s bs room)) (ofRun (nextRule y s bs room))
+  unfolding ofRun
+  next-call-agrees bs room c =
+      let a = next-agrees bs room c in
+      rw (a .but-page) record { given = refl; related = a .related; closed = a .closed }
 
 -- ---- lists of calls
 

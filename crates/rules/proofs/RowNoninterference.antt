@@ -6,16 +6,18 @@ use mathlib.Core.Bool.{Bool, true, false}
 use mathlib.Core.List.{List, [], _∷_, _++_}
 use Prim.Native.Nat.{ℕ}
 use Rattle.rules.specs.declared.State.{State}
-use Rattle.rules.specs.Cell.{pick, either}
+use lib.Dec.{eqb}
+use lib.ListN.{length}
+use Rattle.rules.specs.Cell.{pick, either, same}
 use Rattle.rules.specs.State.{widthOf}
 use Rattle.rules.specs.Step.{unheard, stepRule}
 use Rattle.rules.specs.Calls.{Call, Step, Run, Called, runRule, ended, ofStep, ofRun, callRule, Given, after, play}
 use Rattle.rules.specs.Noninterference.{callCompletes, anyCompleted}
 use Rattle.rules.specs.RowList.{rowList, rowsOf, agrees}
-use Rattle.rules.specs.RowCalls.{stepRowsRule, runRowsRule, rowsAfter, canRebuild, Session, RowCall, Bare, ListStep, ListRun, Rebuild, RowCalled, left, rowCallRule, RowPlayed, rowAfter, rowPlay, bareCall, bareCalls, RowDemand3}
+use Rattle.rules.specs.RowCalls.{stepRowsRule, runRowsRule, rowsAfter, canRebuild, Session, RowCall, Bare, ListStep, ListRun, Next, Rebuild, RowCalled, left, suits, nextRowsRule, handed, heard, runOf, rowCallRule, RowPlayed, rowAfter, rowPlay, bareCall, bareCalls, RowDemand3}
 use Rattle.rules.proofs.Related.{Related}
 use Rattle.rules.proofs.RowSteps.{call-leaves}
-use Rattle.rules.proofs.Noninterference.{protects, Closed, guards-agree, good-agrees, AgreeCall, call-agrees, either-left, either-right, start-related, related-kept}
+use Rattle.rules.proofs.Noninterference.{protects, Closed, guards-agree, good-agrees, AgreeCall, call-agrees, next-call-agrees, either-left, either-right, start-related, related-kept}
 
 record AgreeRows (p q : List ℕ) (a b : RowCalled) : Type 0 where
   called : AgreeCall p q (a .called) (b .called)
@@ -46,6 +48,35 @@ module _ {p q x y : List ℕ} (h : Related p q x y) (l : List ℕ) (s : State) (
       (record { called = callRule y s c; rows = rowsOf (callRule y s c .page) (callRule y s c .given .state) })
   taken-agrees c e = let k = call-agrees h s closed c e in record { called = k; rows = left-rows k }
 
+  refused-agrees : (bytes : List ℕ) → AgreeCall p q (ofRun (ended x s 7 bytes)) (ofRun (ended y s 7 bytes))
+  unfolding ofRun
+  refused-agrees bytes = record { given = refl; related = h; closed = closed }
+
+  -- `next`, with the list or with none
+  suits-agrees : (k : List ℕ) → suits k x s ≡ suits k y s
+  suits-agrees k = ap (λ (r : List ℕ). either (eqb (length k) 0) (same k r)) rows-agree
+
+  heard-agrees : (with : Bool) (a b : Called) → AgreeCall p q a b → AgreeRows p q (heard with (session x l s) a) (heard with (session y l s) b)
+  unfolding rowsAfter
+  heard-agrees true a b k = record { called = k; rows = rw (← rows-agree) (by (agrees l x s)) }
+    where
+      by : (t : Bool) → pick t (rowsOf (a .page) (a .given .state)) l ≡ pick t (rowsOf (b .page) (b .given .state)) l
+      by true = left-rows k
+      by false = refl
+  heard-agrees false a b k = record { called = k; rows = refl }
+
+  next-with : (with : Bool) (bytes : List ℕ) (room : ℕ) (t : Bool) → suits (handed with (session x l s)) x s ≡ t
+      → anyCompleted (pick t (runOf (session x l s) bytes room ∷ []) []) x s ≡ false
+      → AgreeRows p q (heard with (session x l s) (ofRun (nextRowsRule x (handed with (session x l s)) s bytes room)))
+      (heard with (session y l s) (ofRun (nextRowsRule y (handed with (session y l s)) s bytes room)))
+  unfolding nextRowsRule
+  next-with with bytes room true k e =
+      rw (k, sym (suits-agrees (handed with (session x l s))) ∙ k)
+      (heard-agrees with _ _ (next-call-agrees h s closed bytes room (first-completes (runOf (session x l s) bytes room) [] x s e .0)))
+  next-with with bytes room false k e =
+      rw (k, sym (suits-agrees (handed with (session x l s))) ∙ k)
+      (heard-agrees with (ofRun (ended x s 7 bytes)) (ofRun (ended y s 7 bytes)) (refused-agrees bytes))
+
   call-with : (c : RowCall) → anyCompleted (bareCall (session x l s) c) x s ≡ false
       → AgreeRows p q (rowCallRule (session x l s) c) (rowCallRule (session y l s) c)
   unfolding rowCallRule bareCall rowsAfter canRebuild stepRowsRule runRowsRule callRule ofStep ofRun
@@ -68,6 +99,7 @@ module _ {p q x y : List ℕ} (h : Related p q x y) (l : List ℕ) (s : State) (
           (record { called = d; rows = pick t (rowsOf (d .page) (d .given .state)) l })
       by true e = taken-agrees (Run bytes room) (first-completes (Run bytes room) [] x s e .0)
       by false e = record { called = record { given = refl; related = h; closed = closed }; rows = refl }
+  call-with (Next with bytes room) e = next-with with bytes room (suits (handed with (session x l s)) x s) refl e
   call-with Rebuild e = rw (← rows-agree, ← (good-agrees h s closed)) (record { called = record { given = refl; related = h; closed = closed }; rows = refl })
 
 -- what two lists of calls come to

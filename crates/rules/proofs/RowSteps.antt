@@ -15,15 +15,17 @@ use borrow.Author.Tests.{eqb-true, eq-eqb, ne-eqb}
 use lib.Dec.{eqb}
 use lib.ListN.{length, drop}
 use Rattle.rules.specs.declared.State.{State}
-use Rattle.rules.specs.Cell.{pick, both, same}
+use Rattle.rules.specs.Cell.{pick, both, either, same}
 use Rattle.rules.specs.State.{widthOf}
 use Rattle.rules.specs.Possible.{good}
 use Rattle.rules.specs.Search.{guardedAt}
 use Rattle.rules.specs.Step.{stepRule}
-use Rattle.rules.specs.Calls.{runRule, Call, Step, Run, ofStep, ofRun, callRule, Given, Played, after, play}
+use Rattle.rules.specs.Calls.{ended, runRule, Call, Step, Run, ofStep, ofRun, callRule, Given, Played, after, play}
+use Rattle.rules.specs.Next.{nextRule}
 use Rattle.rules.specs.RowList.{rowNumbers, rowList, rowsOf, agrees}
-use Rattle.rules.specs.RowCalls.{stepRowsRule, runRowsRule, rowsAfter, canRebuild, rebuildAnswer, rebuilt, Session, RowCall, Bare, ListStep, ListRun, Rebuild, left, rowCallRule, rowAfter, rowPlay, bareCall, bareCalls, EqualResults, Disagreeing, Rebuilding}
+use Rattle.rules.specs.RowCalls.{stepRowsRule, runRowsRule, suits, nextRowsRule, rowsAfter, canRebuild, rebuildAnswer, rebuilt, Session, RowCall, Bare, ListStep, ListRun, Next, Rebuild, handed, left, rowCallRule, rowAfter, rowPlay, bareCall, bareCalls, EqualResults, Disagreeing, Rebuilding}
 use Rattle.rules.proofs.Tests.{both-parts, both-true}
+use Rattle.rules.proofs.Next.{next-run}
 
 pub same-is : (k l : List ℕ) → same k l ≡ true → k ≡ l
 unfolding same
@@ -55,6 +57,18 @@ run-with : (p l : List ℕ) (s : State) (bytes : List ℕ) (room : ℕ) → agre
 unfolding runRowsRule
 run-with p l s bytes room e = rw e
 
+next-with : (p l : List ℕ) (s : State) (bytes : List ℕ) (room : ℕ) → agrees l p s ≡ true → nextRowsRule p l s bytes room ≡ nextRule p s bytes room
+unfolding nextRowsRule
+next-with p l s bytes room e = by (eqb (length l) 0)
+  where
+    by : (t : Bool) → pick (either t (agrees l p s)) (nextRule p s bytes room) (ended p s 7 bytes) ≡ nextRule p s bytes room
+    by true = refl
+    by false = rw e
+
+next-without : (p : List ℕ) (s : State) (bytes : List ℕ) (room : ℕ) → nextRowsRule p [] s bytes room ≡ nextRule p s bytes room
+unfolding nextRowsRule
+next-without p s bytes room = refl
+
 rows-agree : (p l : List ℕ) (s : State) (p′ : List ℕ) (s′ : State) → agrees l p s ≡ true → agrees (rowsAfter p l s p′ s′) p′ s′ ≡ true
 unfolding rowsAfter
 rows-agree p l s p′ s′ e = rw e (same-refl (rowsOf p′ s′))
@@ -74,7 +88,7 @@ pub record Leaves (x : Session) (c : RowCall) : Type 0 where
   pub state : left (rowCallRule x c) .state ≡ play (bareCall x c) (x .page) (x .state) .state
 
 pub call-leaves : (x : Session) (c : RowCall) → Leaves x c
-unfolding rowCallRule bareCall play after callRule stepRowsRule runRowsRule ofStep ofRun
+unfolding rowCallRule bareCall play after callRule stepRowsRule runRowsRule nextRowsRule ofStep ofRun
 call-leaves x (Bare c) = record { page = refl; state = refl }
 call-leaves x (ListStep b room) = by (agrees (x .rows) (x .page) (x .state)) refl
   where
@@ -85,6 +99,11 @@ call-leaves x (ListRun bytes room) = by (agrees (x .rows) (x .page) (x .state)) 
   where
     by : (t : Bool) → agrees (x .rows) (x .page) (x .state) ≡ t → Leaves x (ListRun bytes room)
     by true e = record { page = rw e; state = rw e }
+    by false e = record { page = rw e; state = rw e }
+call-leaves x (Next with bytes room) = by (suits (handed with x) (x .page) (x .state)) refl
+  where
+    by : (t : Bool) → suits (handed with x) (x .page) (x .state) ≡ t → Leaves x (Next with bytes room)
+    by true e = let r = next-run (x .page) (x .state) bytes room in record { page = rw e (r .0); state = rw e (r .1) }
     by false e = record { page = rw e; state = rw e }
 call-leaves x Rebuild = record { page = refl; state = refl }
 
@@ -105,6 +124,8 @@ pub equal-results : EqualResults
 equal-results = record {
   step = step-with;
   run = run-with;
+  next = next-with;
+  none = next-without;
   agreed = rows-agree;
   page = λ cs x. play-leaves cs x .0;
   state = λ cs x. play-leaves cs x .1;
@@ -120,10 +141,11 @@ not-the-same k l n = by (same k l) refl
     by false e = refl
 
 pub disagreeing : Disagreeing
-unfolding stepRowsRule runRowsRule rowsAfter
+unfolding stepRowsRule runRowsRule nextRowsRule rowsAfter
 disagreeing = record {
   step = λ p l s b room e. rw e;
   run = λ p l s bytes room e. rw e;
+  next = λ p l s bytes room e n. rw (ne-eqb (length l) 0 n, e);
   kept = λ p l s p′ s′ e. rw e;
   length = λ p l s n. not-the-same l (rowsOf p s)
       (λ e. n (ap length e ∙ length-list (widthOf (s .core .screen)) (guardedAt (s .core .modes .protect) p)));

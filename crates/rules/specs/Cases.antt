@@ -16,6 +16,7 @@ use Rattle.rules.specs.CallCases.{callCases}
 use Rattle.rules.specs.LabelCases.{labelCases}
 use Rattle.rules.specs.SendCases.{sendCases}
 use Rattle.rules.specs.NarrowCases.{narrowCases}
+use Rattle.rules.specs.NextCases.{nextCases, nextCasesHold, nextRefuses, impossible}
 use Rattle.rules.specs.RowCases.{rowsWith, rowCases, rowCasesHold}
 use Rattle.rules.specs.PersonalityCases.{personalityCases}
 use Rattle.rules.specs.ByteCases.{bytesHold, firstBytes, argumentBytes, addressBytes, decimalBytes}
@@ -29,6 +30,9 @@ pub record CaseList : Type 0 where
   pub labels : casesHold labelCases ≡ true
   pub sending : casesHold sendCases ≡ true
   pub narrow : casesHold narrowCases ≡ true
+  pub next : nextCasesHold nextCases ≡ true
+  pub next-page : nextRefuses (replicate 1919 0) wy50 ≡ true
+  pub next-state : nextRefuses (replicate 1920 0) impossible ≡ true
   pub rows : rowCasesHold rowCases ≡ true
   pub wide-rows : rowList 132 (replicate 79 true ++ replicate 3089 false) ≡ 53 ∷ 80 ∷ rowsWith 132 1 23
   pub personalities : casesHold personalityCases ≡ true

@@ -21,6 +21,7 @@ pub mod Labels
 pub mod Good
 pub mod Steps
 pub mod Narrow
+pub mod Next
 pub mod Left
 pub mod Press
 pub mod Reach
@@ -34,6 +35,7 @@ pub mod ReplyCases
 pub mod CallCases
 pub mod SendCases
 pub mod NarrowCases
+pub mod NextCases
 pub mod RowCases
 pub mod ByteCases
 pub mod PossibleCases

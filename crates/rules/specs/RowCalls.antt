@@ -5,13 +5,14 @@ use mathlib.Core.Bool.{Bool, true, false}
 use mathlib.Core.List.{List, [], _∷_, _++_}
 use Prim.Native.Nat.{ℕ, _*_}
 use lib.Dec.{eqb}
-use lib.ListN.{length}
+use lib.ListN.{length, take}
 use Rattle.rules.specs.declared.State.{State}
-use Rattle.rules.specs.Cell.{pick, both}
+use Rattle.rules.specs.Cell.{pick, both, either}
 use Rattle.rules.specs.Row.{height}
 use Rattle.rules.specs.Possible.{good}
 use Rattle.rules.specs.Step.{Outcome, unheard, stepRule}
 use Rattle.rules.specs.Calls.{Ran, ended, runRule, Call, Step, Run, Called, ofStep, ofRun, callRule, Given, Played, play}
+use Rattle.rules.specs.Next.{nextRule}
 use Rattle.rules.specs.Noninterference.{revealing, anyCompleted, AlikePages, Indistinguishable}
 use Rattle.rules.specs.RowList.{rowsOf, agrees}
 
@@ -22,6 +23,13 @@ stepRowsRule p l s b room =
 
 unfoldable pub runRowsRule : List ℕ → List ℕ → State → List ℕ → ℕ → Ran
 runRowsRule p l s bytes room = let r = runRule p s bytes room in pick (agrees l p s) r (ended p s 7 bytes)
+
+-- `next` takes a list that agrees, or none: one of no numbers
+abbrev pub suits : List ℕ → List ℕ → State → Bool
+suits l p s = either (eqb (length l) 0) (agrees l p s)
+
+unfoldable pub nextRowsRule : List ℕ → List ℕ → State → List ℕ → ℕ → Ran
+nextRowsRule p l s bytes room = let r = nextRule p s bytes room in pick (suits l p s) r (ended p s 7 bytes)
 
 -- the list after a call that left the page p′ and the state s′
 unfoldable pub rowsAfter : List ℕ → List ℕ → State → List ℕ → State → List ℕ
@@ -45,11 +53,12 @@ pub record Session : Type 0 where
   pub rows : List ℕ
   pub state : State
 
--- a call without the list, the step and the run with it, the rebuild; the key press takes none
+-- a call without the list, the step and the run with it, `next` with it or with none, the rebuild; the key press takes none
 pub data RowCall : Type 0 where
   Bare : Call → RowCall
   ListStep : ℕ → ℕ → RowCall
   ListRun : List ℕ → ℕ → RowCall
+  Next : Bool → List ℕ → ℕ → RowCall
   Rebuild : RowCall
 
 pub record RowCalled : Type 0 where
@@ -63,6 +72,14 @@ left r = record { page = r .called .page; rows = r .rows; state = r .called .giv
 abbrev pub listed : Session → Called → RowCalled
 listed x r = record { called = r; rows = rowsAfter (x .page) (x .rows) (x .state) (r .page) (r .given .state) }
 
+-- the list that `next` is handed
+abbrev pub handed : Bool → Session → List ℕ
+handed with x = pick with (x .rows) []
+
+-- it is left alone where it was not handed in
+abbrev pub heard : Bool → Session → Called → RowCalled
+heard with x r = record { called = r; rows = pick with (rowsAfter (x .page) (x .rows) (x .state) (r .page) (r .given .state)) (x .rows) }
+
 -- the rebuild changes neither page nor state
 abbrev pub answering : Session → ℕ → Called
 answering x n = record { given = record { answer = n; counts = []; reply = []; rest = []; state = x .state }; page = x .page }
@@ -71,6 +88,7 @@ unfoldable pub rowCallRule : Session → RowCall → RowCalled
 rowCallRule x (Bare c) = record { called = callRule (x .page) (x .state) c; rows = x .rows }
 rowCallRule x (ListStep b room) = listed x (ofStep (stepRowsRule (x .page) (x .rows) (x .state) b room))
 rowCallRule x (ListRun bytes room) = listed x (ofRun (runRowsRule (x .page) (x .rows) (x .state) bytes room))
+rowCallRule x (Next with bytes room) = heard with x (ofRun (nextRowsRule (x .page) (handed with x) (x .state) bytes room))
 rowCallRule x Rebuild = record {
   called = answering x (rebuildAnswer (x .page) (x .rows) (x .state));
   rows = rebuilt (x .page) (x .rows) (x .state);
@@ -89,22 +107,29 @@ unfoldable pub rowPlay : List RowCall → Session → RowPlayed
 rowPlay [] x = record { given = []; lists = []; session = x }
 rowPlay (c ∷ cs) x = let r = rowCallRule x c in rowAfter r (rowPlay cs (left r))
 
+-- the run that `next` comes to: over the bytes that it takes
+abbrev pub runOf : Session → List ℕ → ℕ → Call
+runOf x bytes room = Run (take (nextRule (x .page) (x .state) bytes room .taken) bytes) room
+
 -- the calls without lists that a list of calls comes to: one refused for its list comes to none, and so does the rebuild
 unfoldable pub bareCall : Session → RowCall → List Call
 bareCall x (Bare c) = c ∷ []
 bareCall x (ListStep b room) = pick (agrees (x .rows) (x .page) (x .state)) (Step b room ∷ []) []
 bareCall x (ListRun bytes room) = pick (agrees (x .rows) (x .page) (x .state)) (Run bytes room ∷ []) []
+bareCall x (Next with bytes room) = pick (suits (handed with x) (x .page) (x .state)) (runOf x bytes room ∷ []) []
 bareCall x Rebuild = []
 
 unfoldable pub bareCalls : List RowCall → Session → List Call
 bareCalls [] x = []
 bareCalls (c ∷ cs) x = bareCall x c ++ bareCalls cs (left (rowCallRule x c))
 
--- what the request says: with a list that agrees a step, and a run, give what they give without it, and the list agrees after it; so do the
+-- what the request says: with a list that agrees a step, a run and `next` give what they give without it, and the list agrees after it; so do the
 -- page and the state after a list of calls
 pub record EqualResults : Type 0 where
   pub step : (p l : List ℕ) (s : State) (b room : ℕ) → agrees l p s ≡ true → stepRowsRule p l s b room ≡ stepRule p s b room
   pub run : (p l : List ℕ) (s : State) (bytes : List ℕ) (room : ℕ) → agrees l p s ≡ true → runRowsRule p l s bytes room ≡ runRule p s bytes room
+  pub next : (p l : List ℕ) (s : State) (bytes : List ℕ) (room : ℕ) → agrees l p s ≡ true → nextRowsRule p l s bytes room ≡ nextRule p s bytes room
+  pub none : (p : List ℕ) (s : State) (bytes : List ℕ) (room : ℕ) → nextRowsRule p [] s bytes room ≡ nextRule p s bytes room
   pub agreed : (p l : List ℕ) (s : State) (p′ : List ℕ) (s′ : State) → agrees l p s ≡ true → agrees (rowsAfter p l s p′ s′) p′ s′ ≡ true
   pub page : (cs : List RowCall) (x : Session) → rowPlay cs x .session .page ≡ play (bareCalls cs x) (x .page) (x .state) .page
   pub state : (cs : List RowCall) (x : Session) → rowPlay cs x .session .state ≡ play (bareCalls cs x) (x .page) (x .state) .state
@@ -114,6 +139,8 @@ pub record Disagreeing : Type 0 where
   pub step : (p l : List ℕ) (s : State) (b room : ℕ) → agrees l p s ≡ false
       → stepRowsRule p l s b room ≡ unheard 7 p s
   pub run : (p l : List ℕ) (s : State) (bytes : List ℕ) (room : ℕ) → agrees l p s ≡ false → runRowsRule p l s bytes room ≡ ended p s 7 bytes
+  pub next : (p l : List ℕ) (s : State) (bytes : List ℕ) (room : ℕ) → agrees l p s ≡ false → (length l ≡ 0 → ⊥)
+      → nextRowsRule p l s bytes room ≡ ended p s 7 bytes
   pub kept : (p l : List ℕ) (s : State) (p′ : List ℕ) (s′ : State) → agrees l p s ≡ false → rowsAfter p l s p′ s′ ≡ l
   -- such are all lists that are not 48 long
   pub length : (p l : List ℕ) (s : State) → (lib.ListN.length l ≡ 48 → ⊥) → agrees l p s ≡ false

@@ -9,7 +9,7 @@ use Rattle.rules.specs.Possible.{blank}
 use Rattle.rules.specs.Calls.{Run, Press}
 use Rattle.rules.specs.Bench.{wy50, answers}
 use Rattle.rules.specs.Inputs.{esc, goTo, labelled, pageOf, protectAt}
-use Rattle.rules.specs.RowCalls.{Session, RowCall, Bare, ListStep, ListRun, Rebuild, RowPlayed, rowPlay}
+use Rattle.rules.specs.RowCalls.{Session, RowCall, Bare, ListStep, ListRun, Next, Rebuild, RowPlayed, rowPlay}
 
 -- n rows with the same two numbers; n open rows of 80 columns
 unfoldable pub rowsWith : ℕ → ℕ → ℕ → List ℕ
@@ -52,6 +52,12 @@ rowCases =
     ∷ from blank (replicate 48 7) (protectAt 1920) (Rebuild ∷ []) (7 ∷ []) (replicate 48 7)
     -- a step and a run with the list: text leaves it
     ∷ fromPowerOn (ListStep 0x41 0 ∷ ListRun (0x42 ∷ 0x43 ∷ []) 0 ∷ []) (0 ∷ 0 ∷ []) (openRows 24)
+    -- `next` with it, or with none, which leaves it behind
+    ∷ fromPowerOn (Next true (labelled 1 0 ++ esc 0x26 ++ 0xe9 ∷ esc 0x27) 0 ∷ []) (1 ∷ []) (80 ∷ 1 ∷ 79 ∷ 2 ∷ openRows 22)
+    ∷ fromPowerOn (Next false (labelled 1 0 ++ esc 0x26) 0 ∷ ListRun [] 0 ∷ []) (0 ∷ 7 ∷ []) (openRows 24)
+    ∷ from blank (79 ∷ 1 ∷ openRows 23) wy50 (Next true (0x41 ∷ []) 0 ∷ Next false (0x41 ∷ []) 0 ∷ []) (7 ∷ 0 ∷ []) (79 ∷ 1 ∷ openRows 23)
+    ∷ from blank [] wy50 (Next true (0x41 ∷ 0xe9 ∷ []) 0 ∷ []) (1 ∷ []) []
+    ∷ from blank (openRows 25) wy50 (Next true (0x41 ∷ []) 0 ∷ []) (7 ∷ []) (openRows 25)
     -- a label, ESC & and ESC ': the list follows protect mode
     ∷ fromPowerOn (ListRun (labelled 1 0 ++ esc 0x26) 0 ∷ []) (0 ∷ []) (80 ∷ 1 ∷ 79 ∷ 2 ∷ openRows 22)
     ∷ fromPowerOn (ListRun (labelled 1 0 ++ esc 0x26 ++ esc 0x27) 0 ∷ []) (0 ∷ []) (openRows 24)

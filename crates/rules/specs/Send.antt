@@ -18,6 +18,23 @@ use Rattle.rules.specs.Cell.{pick, both, protected, guarded, sent}
 use Rattle.rules.specs.Row.{columnOf}
 use Rattle.rules.specs.State.{widthOf, cursorOf, cursorRow, cursorColumn}
 
+-- the command that a send answers: 05h, or the byte after ESC
+abbrev pub shortCommand : Short → ℕ
+shortCommand Short.Acknowledge = 0x05
+shortCommand Short.Cell = 0x4d
+shortCommand Short.Identity = 0x20
+shortCommand Short.Cursor = 0x3f
+shortCommand Short.SegmentCursor = 0x2f
+shortCommand Short.DecimalCursor = 0x62
+
+abbrev pub textCommand : Bool → Bool → ℕ
+textCommand all segment = pick all (pick segment 0x37 0x36) (pick segment 0x35 0x34)
+
+abbrev pub commandOf : Sending → ℕ
+commandOf Sending.Nothing = 0
+commandOf (Sending.Short r n) = shortCommand r
+commandOf (Sending.Text all segment k) = textCommand all segment
+
 -- a place: the send that goes on from there, and the byte that it gives, if any
 pub record Spot : Type 0 where
   pub from : Sending

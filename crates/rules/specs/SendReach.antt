@@ -1,33 +1,28 @@
 -- A send under way is possible exactly if some page, bytes and rooms leave it so, in a state otherwise the same (document 02, A9): the bytes, and the
 -- statement.
 use mathlib.Core.Path.{_≡_}
-use mathlib.Core.Bool.{Bool, true}
+use mathlib.Core.Bool.{true}
 use mathlib.Core.List.{List, [], _∷_}
 use Prim.Native.Nat.{ℕ}
+use lib.Dec.{eqb}
 use lib.ListN.{replicate}
 use Rattle.rules.specs.declared.State.{State}
-use Rattle.rules.specs.declared.Short.{Short}
-use Rattle.rules.specs.declared.Short.the-variants as Short
 use Rattle.rules.specs.declared.Sending.{Sending}
 use Rattle.rules.specs.declared.Sending.the-variants as Sending
 use Rattle.rules.specs.Cell.{pick}
 use Rattle.rules.specs.State.{pageLength, sends, withSending}
 use Rattle.rules.specs.Possible.{possible}
+use Rattle.rules.specs.Send.{shortCommand, textCommand}
 use Rattle.rules.specs.Calls.{Call, runRule, play}
 
 -- the bytes that a reply answers
-abbrev pub shortAsked : Short → List ℕ
-shortAsked Short.Acknowledge = 0x05 ∷ []
-shortAsked Short.Cell = 0x1b ∷ 0x4d ∷ []
-shortAsked Short.Identity = 0x1b ∷ 0x20 ∷ []
-shortAsked Short.Cursor = 0x1b ∷ 0x3f ∷ []
-shortAsked Short.SegmentCursor = 0x1b ∷ 0x2f ∷ []
-shortAsked Short.DecimalCursor = 0x1b ∷ 0x62 ∷ []
+abbrev pub commandBytes : ℕ → List ℕ
+commandBytes b = pick (eqb b 0x05) (b ∷ []) (0x1b ∷ b ∷ [])
 
 unfoldable pub asked : Sending → List ℕ
 asked Sending.Nothing = []
-asked (Sending.Short r n) = shortAsked r
-asked (Sending.Text all segment k) = 0x1b ∷ pick all (pick segment 0x37 0x36) (pick segment 0x35 0x34) ∷ []
+asked (Sending.Short r n) = commandBytes (shortCommand r)
+asked (Sending.Text all segment k) = commandBytes (textCommand all segment)
 
 -- the same state with no send under way
 abbrev pub unsent : State → State
