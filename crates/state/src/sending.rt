@@ -1,6 +1,7 @@
 // The send under way.
 ghost use mathlib.Core.Path.{_≡_};
 ghost use Rattle.rules.specs.State.{sends, sendingAfter};
+ghost use Rattle.rules.specs.Send.{shortCommand, textCommand, commandOf};
 ghost use Rattle.rules.specs.Possible.{shortLength, inText, placeOk, sendingOk};
 use crate::core::is_idle;
 use crate::logic::and;
@@ -51,6 +52,43 @@ pub fn short_length(r: Short) -> u8
         Short::Cursor => 3,
         Short::SegmentCursor => 4,
         Short::DecimalCursor => 7,
+    }
+}
+
+// The command that a send answers: 05h, or the byte after ESC.
+pub fn short_command(r: Short) -> u8
+    ensures { λ n. ⌜ n ≡ shortCommand r ⌝ }
+{
+    match r {
+        Short::Acknowledge => 0x05,
+        Short::Cell => 0x4d,
+        Short::Identity => 0x20,
+        Short::Cursor => 0x3f,
+        Short::SegmentCursor => 0x2f,
+        Short::DecimalCursor => 0x62,
+    }
+}
+
+pub fn text_command(all: bool, segment: bool) -> u8
+    ensures { λ r. ⌜ r ≡ textCommand all segment ⌝ }
+{
+    if all {
+        return if segment { 0x37 } else { 0x36 };
+    }
+    if segment { 0x35 } else { 0x34 }
+}
+
+pub fn command_of(sending: Sending) -> u8
+    ensures { λ r. ⌜ r ≡ commandOf sending ⌝ }
+{
+    match sending {
+        Sending::Nothing => 0,
+        Sending::Short(r, _) => short_command(r),
+        Sending::Text {
+            all,
+            segment,
+            at: _,
+        } => text_command(all, segment),
     }
 }
 

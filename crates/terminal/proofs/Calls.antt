@@ -1,23 +1,25 @@
 -- The public calls: from what the functions below them promise to the rules.
 --     powered-on, power-on-refused, step-refused, run-refused     power-on; a bad page or state
---     step-none, step-sent, run-none, run-sent, run-on     inside a send, without room, where it is not over, and where the bytes come behind it
---     quiet-state, same-core     a state outside a send; a call that leaves the core
---     one-byte         the loop over one byte is the single step
+--     nothing-taken     a run that takes nothing and replies nothing
+--     run-none, run-sent, run-on     inside a send, without room, where it is not over or is the event, and where the bytes come behind it
+--     same-core         a call that leaves the core
+--     one-byte          the run over one byte to the first event is the single step
 --     text-sent, text-refused     a text put to the front of the room
 --     unprogrammed, programmed     what a key sends
 --     press-bad, press-locked, press-unknown, press-waits, press-sends, key-size     the key press
+--     told-nothing, told-send, told-none, told-byte, past     which command a reply answers
 --     copied-suc       a turn of the loop that copies a text to the front of the room
 -- Assumes nothing.
 use mathlib.Core.Path.{_≡_, refl, sym, ap, ap₂, subst, _∙_}
-use mathlib.Core.Bool.{Bool, true, false}
+use mathlib.Core.Bool.{Bool, true, false, false≢true}
 use mathlib.Core.List.{List, [], _∷_, _++_, append-nil, append-assoc}
-use Prim.Native.Nat.{ℕ, suc, _+_, _-_, _<_, _≤_}
+use Prim.Native.Nat.{ℕ, zero, suc, _+_, _-_, _<_, _≤_}
 use native.Mathlib.Nat.{le-of-lt, sub-zero}
 use native.Mathlib.Omega.{arith}
 use lib.Dec.{leb, ltb, eqb}
 use lib.ListN.{length, getD, take, drop, set, replicate, length-append, length-drop, drop-of-length-le}
 use lib.Seq.{take-all, take-nil, take-at, drop-at, drop-drop, drop-cons, set-at, take-suc, append-snoc, length-take-le}
-use borrow.Author.Tests.{eqb-true, eqb-false, leb-true, ne-eqb}
+use borrow.Author.Tests.{eqb-true, eqb-false, ltb-true, ltb-false, leb-true, ne-eqb}
 use Rattle.rules.specs.declared.Answer.{Answer}
 use Rattle.rules.specs.declared.Answer.the-variants as Answer
 use Rattle.rules.specs.declared.ShortText.{ShortText}
@@ -28,7 +30,7 @@ use Rattle.rules.specs.declared.Sending.the-variants as Sending
 use Rattle.rules.specs.declared.Personality.{Personality}
 use Rattle.rules.specs.declared.RunResult.{RunResult}
 use Rattle.rules.specs.declared.PressResult.{PressResult}
-use Rattle.rules.specs.Cell.{pick, both}
+use Rattle.rules.specs.Cell.{pick, both, either}
 use Rattle.rules.specs.Change.{within, filled}
 use Rattle.rules.specs.Search.{guardedAt}
 use Rattle.rules.specs.RowList.{Beside}
@@ -37,19 +39,20 @@ use Rattle.rules.specs.Arguments.{isKey}
 use Rattle.rules.specs.Slot.{allText, textOk}
 use Rattle.rules.specs.Possible.{powerOn, blank, screenOk, sendingOk, good}
 use Rattle.rules.specs.Good.{GoodSend}
-use Rattle.rules.specs.Send.{places, bytesOf, beyond, standing, sentFrom, leftFrom}
-use Rattle.rules.specs.Step.{Outcome, goesOn, stepInside, stepRule}
-use Rattle.rules.specs.Calls.{powerOnRule, Ran, behind, runInside, runRule, pressed, joined, repeated, keySends, keyAt, pressRule}
-use Rattle.rules.specs.Left.{leaves}
+use Rattle.rules.specs.Send.{commandOf, places, bytesOf, beyond, standing, sentFrom, leftFrom}
+use Rattle.rules.specs.Step.{Outcome, goesOn, stepRule}
+use Rattle.rules.specs.Next.{atEvent, nextRule, replyCommand}
+use Rattle.rules.specs.Calls.{powerOnRule, Ran, ended, behind, runInside, runRule, pressed, repeated, keySends, keyAt, pressRule}
 use Rattle.rules.specs.Room.{over}
-use Rattle.rules.proofs.Tests.{pick-if}
 use Rattle.rules.proofs.Texts.{text-parts, texts-at}
 use Rattle.rules.proofs.Kept.{good-parts, good-whole, possible-parts, possible-whole}
-use Rattle.rules.proofs.Left.{step-left}
+use Rattle.rules.proofs.Noninterference.{either-left, either-right}
+use Rattle.rules.proofs.Next.{next-tells, next-inside, next-unheard, next-refused}
+use Rattle.rules.proofs.Run.{run-unheard}
 use Rattle.rules.proofs.Sends.{ok-good, not-sending, sent-fits}
 use Rattle.carry.specs.Went.{Went}
 use Rattle.terminal.specs.Promise.{PoweredOn, Stepped, Completed, sending, KeySent}
-use Rattle.terminal.specs.Loop.{stateWith, stateOf, lastAnswer}
+use Rattle.terminal.specs.Loop.{stateOf, ranTo, callTo}
 use Rattle.terminal.proofs.Carrying.{over-none}
 use Rattle.terminal.proofs.Loop.{run-rests, lentTail, backTail, tail-lent, tail-back}
 
@@ -75,6 +78,28 @@ pub power-on-refused : (m : Personality) (p : List ℕ) (s : State) → (length 
 unfolding powerOnRule
 power-on-refused m p s n e = rw (ne-eqb (length p) 1920 n) (record { answer = refl; state = e; page = refl })
 
+-- ---- a run that takes nothing and replies nothing
+
+pub nothing-taken : {o : Ran} {p : List ℕ} {s : State} {l : List ℕ} (a : Answer) (w : List ℕ) → o ≡ ended p s (number a) l
+    → Completed o (record { answer = a; taken = 0; replied = 0; refused = 0; state = s }) l p w w
+nothing-taken {p = p} {s = s} {l = l} a w e =
+    subst (λ (o : Ran). Completed o (record { answer = a; taken = 0; replied = 0; refused = 0; state = s }) l p w w) (sym e) (record {
+      answer = refl;
+      taken = refl;
+      replied = refl;
+      refused = refl;
+      rest = refl;
+      state = refl;
+      page = refl;
+      room = over-none w;
+      fits = omega arith;
+      within = omega arith;
+    })
+
+refused : (p : List ℕ) (s : State) (l : List ℕ) (room : ℕ) → good p s ≡ false → runRule p s l room ≡ ended p s 7 l
+unfolding runRule
+refused p s l room g = rw g
+
 -- ---- a bad page or state: 7, and nothing changes
 
 module _ (p : List ℕ) (s : State) (g : good p s ≡ false) where
@@ -82,22 +107,10 @@ module _ (p : List ℕ) (s : State) (g : good p s ≡ false) where
   unfolding stepRule
   step-refused b w = rw g (record { answer = refl; taken = refl; state = refl; replied = refl; page = refl; room = over-none w; fits = omega arith })
 
-  pub run-refused : (l w : List ℕ)
-      → Completed (runRule p s l (length w)) (record { answer = Answer.BadCall; taken = 0; replied = 0; refused = 0; state = s }) l p w w
-  unfolding runRule
-  run-refused l w =
-      rw g (record {
-        answer = refl;
-        taken = refl;
-        replied = refl;
-        refused = refl;
-        rest = refl;
-        state = refl;
-        page = refl;
-        room = over-none w;
-        fits = omega arith;
-        within = omega arith;
-      })
+  pub run-refused : (stop : Bool) (l w : List ℕ)
+      → Completed (callTo stop p s l (length w)) (record { answer = Answer.BadCall; taken = 0; replied = 0; refused = 0; state = s }) l p w w
+  run-refused true l w = nothing-taken Answer.BadCall w (next-refused p s l (length w) g)
+  run-refused false l w = let r = refused p s l (length w) g in nothing-taken Answer.BadCall w r
 
 -- ---- inside a send
 
@@ -110,42 +123,13 @@ module _ (p : List ℕ) (s : State) (g : good p s ≡ true) where
   leftBy room = leftFrom p (s .core) (s .sending) room
 
   module _ (u : sends (s .sending) ≡ true) where
-    pub step-none : (b : ℕ) (w : List ℕ) → length w ≡ 0
-        → Stepped (stepRule p s b (length w)) (record { answer = Answer.NoRoom; taken = false; replied = 0; state = s }) p w w
-    unfolding stepRule stepInside
-    step-none b w e =
-        rw (g, u, e) (record { answer = refl; taken = refl; state = refl; replied = refl; page = refl; room = over-none w; fits = omega arith })
-
-    pub step-sent : (b n : ℕ) (y : Sending) (w w′ : List ℕ) → 0 < length w → Went p (s .core) (s .sending) w n y w′
-        → Stepped (stepRule p s b (length w)) (record { answer = Answer.Done; taken = false; replied = n; state = withSending s y }) p w w′
-    unfolding stepRule stepInside goesOn
-    step-sent b n y w w′ h x =
-        rw (g, u, ne-eqb (length w) 0 (omega arith)) (record {
-          answer = refl;
-          taken = refl;
-          state = ap (withSending s) (x .left);
-          replied = x .replied;
-          page = refl;
-          room = x .room;
-          fits = omega (arith, x .replied, sent-fits p (s .core) (s .sending) (length w));
-        })
-
-    pub run-none : (a : Answer) (l w : List ℕ) → eqb (length w) 0 ≡ true → number a ≡ pick (eqb (length l) 0) 0 6
-        → Completed (runRule p s l (length w)) (record { answer = a; taken = 0; replied = 0; refused = 0; state = s }) l p w w
-    unfolding runRule runInside
-    run-none a l w z e =
-        rw (g, u, z) (record {
-          answer = e;
-          taken = refl;
-          replied = refl;
-          refused = refl;
-          rest = refl;
-          state = refl;
-          page = refl;
-          room = over-none w;
-          fits = omega arith;
-          within = omega arith;
-        })
+    pub run-none : (stop : Bool) (a : Answer) (l w : List ℕ) → eqb (length w) 0 ≡ true → number a ≡ pick (eqb (length l) 0) 0 6
+        → Completed (callTo stop p s l (length w)) (record { answer = a; taken = 0; replied = 0; refused = 0; state = s }) l p w w
+    run-none stop a l w z e = nothing-taken a w (by stop ∙ ap (λ (n : ℕ). ended p s n l) (sym e))
+      where
+        by : (stop : Bool) → callTo stop p s l (length w) ≡ ended p s (pick (eqb (length l) 0) 0 6) l
+        by true = ap (nextRule p s l) (eqb-true (length w) 0 z) ∙ next-unheard p s l g u
+        by false = ap (runRule p s l) (eqb-true (length w) 0 z) ∙ run-unheard p s l g u
 
   -- what sending asks, and a state with no send in place of this one
   pub send-ready : (w : List ℕ) → 0 < length w
@@ -177,21 +161,31 @@ module _ (p : List ℕ) (s : State) (g : good p s ≡ true) where
   unfolding leftFrom places beyond standing
   none-left room e = subst (λ (y : Sending). leftFrom p (s .core) y room ≡ y) (sym e) refl
 
-  behind-none : (l : List ℕ) (room : ℕ) → sends (s .sending) ≡ false
-      → runRule p s l room ≡ behind (sentBy room) (repeated l p (withSending s (leftBy room)) (room - length (sentBy room)))
-  unfolding runRule behind
-  behind-none l room u =
+  behind-none : (stop : Bool) (l : List ℕ) (room : ℕ) → sends (s .sending) ≡ false
+      → callTo stop p s l room ≡ behind (sentBy room) (ranTo stop l p (withSending s (leftBy room)) (room - length (sentBy room)))
+  unfolding runRule nextRule behind
+  behind-none true l room u =
+      let e = not-sending (s .sending) u in
+      rw (g, u, none-sent room e, none-left room e, sub-zero)
+  behind-none false l room u =
       let e = not-sending (s .sending) u in
       rw (g, u, none-sent room e, none-left room e, sub-zero)
 
-  run-behind : (l : List ℕ) (room : ℕ) → (sends (s .sending) ≡ true → 0 < room)
-      → runRule p s l room ≡ behind (sentBy room) (repeated l p (withSending s (leftBy room)) (room - length (sentBy room)))
-  run-behind l room h = by (sends (s .sending)) refl
+  -- inside a send a run to the first event ends with it
+  call-behind : (stop : Bool) (l : List ℕ) (room : ℕ) → (sends (s .sending) ≡ true → 0 < room) → both stop (sends (s .sending)) ≡ false
+      → callTo stop p s l room ≡ behind (sentBy room) (ranTo stop l p (withSending s (leftBy room)) (room - length (sentBy room)))
+  call-behind stop l room h d = by stop (sends (s .sending)) refl d
     where
-      by : (t : Bool) → sends (s .sending) ≡ t
-          → runRule p s l room ≡ behind (sentBy room) (repeated l p (withSending s (leftBy room)) (room - length (sentBy room)))
-      by true u = behind-room l room u (h u)
-      by false u = behind-none l room u
+      by : (stop t : Bool) → sends (s .sending) ≡ t → both stop t ≡ false
+          → callTo stop p s l room ≡ behind (sentBy room) (ranTo stop l p (withSending s (leftBy room)) (room - length (sentBy room)))
+      by true true u d = absurd (false≢true (sym d))
+      by false true u d = behind-room l room u (h u)
+      by stop false u d = behind-none stop l room u
+
+  inside-event : (l : List ℕ) (room : ℕ) → sends (s .sending) ≡ true → 0 < room
+      → nextRule p s l room ≡ behind (sentBy room) (ended p (withSending s (leftBy room)) 0 l)
+  unfolding goesOn
+  inside-event l room u h = next-inside p s l room g u h
 
   module _ {n : ℕ} {y : Sending} {w w₁ : List ℕ} (x : Went p (s .core) (s .sending) w n y w₁) (h : sends (s .sending) ≡ true → 0 < length w) where
     went-size : length (sentBy (length w)) ≡ n
@@ -206,12 +200,28 @@ module _ (p : List ℕ) (s : State) (g : good p s ≡ true) where
         ap length (x .room)
         ∙ (length-append (sentBy (length w)) (drop (length (sentBy (length w))) w) ∙ omega (arith, x .replied, went-fits, length-drop (length (sentBy (length w))) w))
 
-    -- the send is not over
-    pub run-sent : (l : List ℕ) → sends y ≡ true
-        → Completed (runRule p s l (length w)) (record { answer = Answer.Done; taken = 0; replied = n; refused = 0; state = withSending s y }) l p w w₁
+    -- the send is not over, or is the event to stop at
+    sent-call : (stop : Bool) (l : List ℕ) → either (sends y) (both stop (sends (s .sending))) ≡ true
+        → callTo stop p s l (length w) ≡ behind (sentBy (length w)) (ended p (withSending s (leftBy (length w))) 0 l)
+    sent-call stop l e = by stop (sends (s .sending)) (sends y) refl refl e
+      where
+        waits : sends y ≡ true → repeated l p (withSending s (leftBy (length w))) (length w - length (sentBy (length w))) ≡ ended p (withSending s (leftBy (length w))) 0 l
+        waits v = run-rests l p (withSending s (leftBy (length w))) _ (ap sends (sym (x .left)) ∙ v)
+
+        by : (stop t v : Bool) → sends (s .sending) ≡ t → sends y ≡ v → either v (both stop t) ≡ true
+            → callTo stop p s l (length w) ≡ behind (sentBy (length w)) (ended p (withSending s (leftBy (length w))) 0 l)
+        by true true v u d e = inside-event l (length w) u (h u)
+        by true false true u d e = absurd (false≢true (sym (ap sends (x .left ∙ none-left (length w) (not-sending (s .sending) u)) ∙ u) ∙ d))
+        by true false false u d e = absurd (false≢true e)
+        by false t true u d e =
+            call-behind false l (length w) h refl ∙ ap (behind (sentBy (length w))) (waits d)
+        by false t false u d e = absurd (false≢true e)
+
+    pub run-sent : (stop : Bool) (l : List ℕ) → either (sends y) (both stop (sends (s .sending))) ≡ true
+        → Completed (callTo stop p s l (length w)) (record { answer = Answer.Done; taken = 0; replied = n; refused = 0; state = withSending s y }) l p w w₁
     unfolding behind
-    run-sent l under =
-        rw (run-behind l (length w) h, ← (x .left), run-rests l p (withSending s y) (length w - length (sentBy (length w))) under, append-nil) (record {
+    run-sent stop l e =
+        rw (sent-call stop l e, ← (x .left), append-nil) (record {
           answer = refl;
           taken = refl;
           replied = x .replied;
@@ -242,19 +252,19 @@ module _ (p : List ℕ) (s : State) (g : good p s ≡ true) where
     lent-size : length (lentTail n w₁) ≡ length w - length (sentBy (length w))
     lent-size = ap length (tail-lent n w₁ ∙ rest-is) ∙ (length-drop n w ∙ ap (λ (k : ℕ). length w - k) (x .replied))
 
-    pub run-on : {r : RunResult} {l p′ part : List ℕ} → sends y ≡ false
-        → Completed (repeated l p (stateOf (s .core) (s .gathered) (s .setup)) (length (lentTail n w₁))) r l p′ (lentTail n w₁) part
-        → Completed (runRule p s l (length w)) (record { answer = r .answer; taken = r .taken; replied = n + r .replied; refused = r .refused; state = r .state }) l
+    pub run-on : (stop : Bool) {r : RunResult} {l p′ part : List ℕ} → either (sends y) (both stop (sends (s .sending))) ≡ false
+        → Completed (ranTo stop l p (stateOf (s .core) (s .gathered) (s .setup)) (length (lentTail n w₁))) r l p′ (lentTail n w₁) part
+        → Completed (callTo stop p s l (length w)) (record { answer = r .answer; taken = r .taken; replied = n + r .replied; refused = r .refused; state = r .state }) l
         p′ w (backTail n w₁ part)
     unfolding behind over
-    run-on {r} {l} {p′} {part} done k =
-        let z : leftBy (length w) ≡ Sending.Nothing = sym (x .left) ∙ not-sending y done in
-        let o = repeated l p (stateOf (s .core) (s .gathered) (s .setup)) (length w - length (sentBy (length w))) in
+    run-on stop {r} {l} {p′} {part} done k =
+        let z : leftBy (length w) ≡ Sending.Nothing = sym (x .left) ∙ not-sending y (either-left (sends y) _ done) in
+        let o = ranTo stop l p (stateOf (s .core) (s .gathered) (s .setup)) (length w - length (sentBy (length w))) in
         let q : Completed o r l p′ (lentTail n w₁) part =
-        subst (λ (m : ℕ). Completed (repeated l p (stateOf (s .core) (s .gathered) (s .setup)) m) r l p′ (lentTail n w₁) part) lent-size k in
+        subst (λ (m : ℕ). Completed (ranTo stop l p (stateOf (s .core) (s .gathered) (s .setup)) m) r l p′ (lentTail n w₁) part) lent-size k in
         let put : part ≡ o .reply ++ drop (length (o .reply)) (drop n w) = q .room ∙ ap (λ (v : List ℕ). o .reply ++ drop (length (o .reply)) v) (tail-lent n w₁ ∙ rest-is) in
         let m : n + length (o .reply) ≡ length (sentBy (length w) ++ o .reply) = omega (arith, x .replied, length-append (sentBy (length w)) (o .reply)) in
-        rw (run-behind l (length w) h, z) (record {
+        rw (call-behind stop l (length w) h (either-right (sends y) _ done), z) (record {
           answer = q .answer;
           taken = q .taken;
           replied = omega (arith, x .replied, q .replied, length-append (sentBy (length w)) (o .reply));
@@ -276,22 +286,13 @@ none-went p s w e =
     subst (λ (y : Sending). Went p (s .core) y w 0 Sending.Nothing w) (sym e)
     (record { replied = ap length (sym (take-nil (length w))); room = over-none w ∙ ap (λ (l : List ℕ). over l w) (sym (take-nil (length w))); left = refl })
 
--- a state or a result by another name
-pub sent-is : {o : Outcome} {a : Answer} {n : ℕ} {z z′ : State} {p w w′ : List ℕ} → z ≡ z′
-    → Stepped o (record { answer = a; taken = false; replied = n; state = z′ }) p w w′ → Stepped o (record { answer = a; taken = false; replied = n; state = z }) p w w′
-sent-is {o} {a} {n} {p = p} {w = w} {w′ = w′} e h =
-    subst (λ (x : State). Stepped o (record { answer = a; taken = false; replied = n; state = x }) p w w′) (sym e) h
-
+-- a result by another name
 pub ran-is : {o : Ran} {r r′ : RunResult} {l p w w′ : List ℕ} → r ≡ r′ → Completed o r′ l p w w′ → Completed o r l p w w′
 ran-is {o} {l = l} {p = p} {w = w} {w′ = w′} e h = subst (λ (x : RunResult). Completed o x l p w w′) (sym e) h
 
 -- past the test for a send without room there is room in a send
 pub has-room : (t : Bool) (n : ℕ) → both t (eqb n 0) ≡ false → t ≡ true → 0 < n
 has-room t n e u = omega (arith, eqb-false n 0 (ap (λ (z : Bool). both z (eqb n 0)) (sym u) ∙ e))
-
--- with no send under way
-pub quiet-state : (s : State) → sends (s .sending) ≡ false → stateOf (s .core) (s .gathered) (s .setup) ≡ s
-quiet-state s u = ap (λ (y : Sending). stateWith (s .core) y (s .gathered) (s .setup)) (sym (not-sending (s .sending) u))
 
 -- the row list beside the page where the core is the one before
 pub same-core : (r s : State) (p : List ℕ) {l : List ℕ} → r .core ≡ s .core → Beside (widthOf (s .core .screen)) (guardedAt (s .core .modes .protect) p) l
@@ -300,58 +301,33 @@ same-core r s p {l} e b = subst (λ (d : Core). Beside (widthOf (d .screen)) (gu
 
 -- ---- the single step
 
--- a run over one byte changes what the step changes
-record Same (o : Outcome) (x : Ran) : Type 0 where
-  state : x .state ≡ o .state
-  page : x .page ≡ o .page
-  reply : x .reply ≡ o .reply
+by-event : (o : Outcome) {b : ℕ} {p′ w w′ : List ℕ} {r : RunResult} → eqb (pick (o .taken) 1 0) 1 ≡ o .taken → Completed (atEvent o b []) r (b ∷ []) p′ w w′
+    → Stepped o (record { answer = r .answer; taken = eqb (r .taken) 1; replied = r .replied; state = r .state }) p′ w w′
+unfolding atEvent
+by-event o e h = record {
+  answer = h .answer;
+  taken = ap (λ (n : ℕ). eqb n 1) (h .taken) ∙ e;
+  state = h .state;
+  replied = h .replied;
+  page = h .page;
+  room = h .room;
+  fits = h .fits;
+}
 
-one-same : (b : ℕ) (p : List ℕ) (s : State) (room : ℕ) → sends (s .sending) ≡ false → Same (stepRule p s b room) (repeated (b ∷ []) p s room)
-unfolding repeated joined
-one-same b p s room u =
-    let o = stepRule p s b room in
-    rw u (pick-if (Same o) (eqb (o .answer) 6)
-    (λ e.
-    let six : o .answer ≡ 6 = eqb-true _ _ e in
-    let k = step-left p s b room (λ z. absurd (omega (arith, z, six))) in
-    record { state = sym (k .state ∙ ap (λ (n : ℕ). leaves n s) six); page = sym (k .page); reply = sym (k .reply) })
-    (λ e. record { state = refl; page = refl; reply = append-nil (o .reply) }))
-
-one-last : (b : ℕ) (p : List ℕ) (s : State) (room a : ℕ) → sends (s .sending) ≡ false → lastAnswer (b ∷ []) p s room a ≡ stepRule p s b room .answer
-unfolding lastAnswer
-one-last b p s room a u = by (eqb (stepRule p s b room .answer) 6) refl
+-- the run over its byte to the first event
+pub one-byte : (b : ℕ) (p : List ℕ) (s : State) {p′ w w′ : List ℕ} {r : RunResult}
+    → Completed (nextRule p s (b ∷ []) (length w)) r (b ∷ []) p′ w w′
+    → Stepped (stepRule p s b (length w)) (record { answer = r .answer; taken = eqb (r .taken) 1; replied = r .replied; state = r .state }) p′ w w′
+one-byte b p s {p′} {w} {w′} {r} h =
+    of (stepRule p s b (length w)) (subst (λ (o : Ran). Completed o r (b ∷ []) p′ w w′) (next-tells .step p s b (length w)) h)
   where
-    by : (t : Bool) → eqb (stepRule p s b room .answer) 6 ≡ t → lastAnswer (b ∷ []) p s room a ≡ stepRule p s b room .answer
-    by true e = rw (u, e) (sym (eqb-true _ _ e))
-    by false e = rw (u, e)
+    counted : (t : Bool) → eqb (pick t 1 0) 1 ≡ t
+    counted true = refl
+    counted false = refl
 
--- the byte is taken as its answer says
-one-taken : (b : ℕ) (p : List ℕ) (s : State) (room : ℕ) → good p s ≡ true → sends (s .sending) ≡ false
-    → stepRule p s b room .taken ≡ ltb (stepRule p s b room .answer) 6
-unfolding stepRule
-one-taken b p s room g u = rw (g, u)
-
-module _ (b : ℕ) (p : List ℕ) (s : State) (p′ w w′ : List ℕ) (a : Answer) (r : RunResult)
-    (h : Completed (repeated (b ∷ []) p s (length w)) r (b ∷ []) p′ w w′) (l : number a ≡ lastAnswer (b ∷ []) p s (length w) 0) (g : good p s ≡ true)
-    (u : sends (s .sending) ≡ false) where
-  abbrev o : Outcome
-  o = stepRule p s b (length w)
-
-  answered : number a ≡ o .answer
-  answered = l ∙ one-last b p s (length w) 0 u
-
-  pub one-byte : (t : Bool) → t ≡ ltb (number a) 6 → Stepped o (record { answer = a; taken = t; replied = r .replied; state = r .state }) p′ w w′
-  one-byte t e =
-      let m = one-same b p s (length w) u in
-      record {
-        answer = answered;
-        taken = e ∙ ap (λ (n : ℕ). ltb n 6) answered ∙ sym (one-taken b p s (length w) g u);
-        state = h .state ∙ m .state;
-        replied = h .replied ∙ ap length (m .reply);
-        page = h .page ∙ m .page;
-        room = h .room ∙ ap (λ (x : List ℕ). over x w) (m .reply);
-        fits = h .fits;
-      }
+    of : (o : Outcome) → Completed (atEvent o b []) r (b ∷ []) p′ w w′
+        → Stepped o (record { answer = r .answer; taken = eqb (r .taken) 1; replied = r .replied; state = r .state }) p′ w w′
+    of o h = by-event o (counted (o .taken)) h
 
 -- ---- the key press
 
@@ -420,3 +396,41 @@ copied-suc d s j hd hs =
     ap (λ (r : List ℕ). set (take j s ++ r) j (getD s j 0)) (drop-cons d j 0 hd)
     ∙ set-at (take j s) (getD d j 0) (drop (suc j) d) (getD s j 0) j (length-take-le j s (le-of-lt hs))
     ∙ sym (ap (λ (r : List ℕ). r ++ drop (suc j) d) (take-suc s j 0 hs) ∙ append-snoc (take j s) (getD s j 0) (drop (suc j) d))
+
+-- ---- which command a reply answers
+
+-- past the test for a count that is 0 or too large
+pub past : (taken n : ℕ) → either (eqb taken 0) (ltb n taken) ≡ false → (0 < taken) × (taken ≤ n)
+past taken n e = (omega (arith, eqb-false taken 0 (either-left _ _ e)), ltb-false n taken (either-right (eqb taken 0) _ e))
+
+past-end : (l : List ℕ) (i : ℕ) → length l ≤ i → getD l i 0 ≡ 0
+past-end [] i h = refl
+past-end (x ∷ l) zero h = absurd (omega arith)
+past-end (x ∷ l) (suc i) h = past-end l i (omega arith)
+
+none-there : (l : List ℕ) (taken : ℕ) (t : Bool) → eqb taken 0 ≡ t → either t (ltb (length l) taken) ≡ true → 0 ≡ getD (0 ∷ l) taken 0
+none-there l taken true e h = rw (eqb-true taken 0 e)
+none-there l taken false e h = sym (past-end (0 ∷ l) taken (omega (arith, ltb-true (length l) taken h)))
+
+byte-there : (l : List ℕ) (taken : ℕ) → 0 < taken → getD l (taken - 1) 0 ≡ getD (0 ∷ l) taken 0
+byte-there l zero h = absurd (omega arith)
+byte-there l (suc i) h = let e : suc i - 1 ≡ i = omega arith in rw e
+
+module _ (y : Sending) (l : List ℕ) (taken replied : ℕ) where
+  pub told-nothing : replied ≡ 0 → 0 ≡ replyCommand y l taken replied
+  unfolding replyCommand
+  told-nothing e = rw e
+
+  module _ (n : replied ≡ 0 → ⊥) where
+    pub told-send : sends y ≡ true → commandOf y ≡ replyCommand y l taken replied
+    unfolding replyCommand
+    told-send u = rw (ne-eqb replied 0 n, u)
+
+    module _ (u : sends y ≡ false) where
+      pub told-none : either (eqb taken 0) (ltb (length l) taken) ≡ true → 0 ≡ replyCommand y l taken replied
+      unfolding replyCommand
+      told-none e = rw (ne-eqb replied 0 n, u) (none-there l taken (eqb taken 0) refl e)
+
+      pub told-byte : 0 < taken → getD l (taken - 1) 0 ≡ replyCommand y l taken replied
+      unfolding replyCommand
+      told-byte h = rw (ne-eqb replied 0 n, u) (byte-there l taken h)

@@ -1,8 +1,9 @@
 -- The loop over host bytes: what holds at its head, and what a turn does.
 --     step-made     the step of the rules, by the inner step
---     nothing-made, send-made     a change of nothing, and a reply that is not over
+--     nothing-made     a change of nothing
+--     event-ends, event-answer, no-event     the test for an event to stop at
 --     tail-lent, tail-none, tail-back     the rest of the room, as it is lent and when it is back
---     begin, stop, go, halt, finish     the loop's start, a byte that answers 6, any other byte, one whose reply is not over, the end of the input
+--     begin, stops, go, halt, finish     the loop's start, a byte that answers 6, any other byte, one to stop behind, the end of the input
 --     ready     what the loop hands to the inner step meets what that asks
 --     page-size, room-size, back-size     the page and the room keep their lengths
 --     stop-beside, go-beside, ended-beside     the row list after a byte, and after the loop
@@ -30,7 +31,7 @@ use Rattle.rules.specs.declared.State.{State}
 use Rattle.rules.specs.declared.Sending.{Sending}
 use Rattle.rules.specs.declared.Sending.the-variants as Sending
 use Rattle.rules.specs.declared.SetupChange.the-variants as SetupChange
-use Rattle.rules.specs.Cell.{among}
+use Rattle.rules.specs.Cell.{pick, both, either, among}
 use Rattle.rules.specs.Row.{columns}
 use Rattle.rules.specs.Search.{guardedAt}
 use Rattle.rules.specs.RowList.{Beside}
@@ -39,7 +40,8 @@ use Rattle.rules.specs.Possible.{screenOk, pendingOk, good}
 use Rattle.rules.specs.Carry.{Effect}
 use Rattle.rules.specs.Step.{Outcome, innerRule, stepRule}
 use Rattle.rules.specs.Room.{over}
-use Rattle.rules.specs.Calls.{Ran, ended, refusal, repeated}
+use Rattle.rules.specs.Calls.{Ran, ended, refusal, joined, repeated}
+use Rattle.rules.specs.Next.{isEvent, tells}
 use Rattle.rules.specs.Steps.{preceded}
 use Rattle.rules.specs.Left.{leaves}
 use Rattle.rules.proofs.Tests.{pick-if}
@@ -47,13 +49,14 @@ use Rattle.rules.proofs.Kept.{good-parts, possible-parts, step-keeps, step-good
 use Rattle.rules.proofs.Left.{step-left}
 use Rattle.rules.proofs.Numbers.{remembered-below}
 use Rattle.rules.proofs.Sends.{not-sending}
+use Rattle.rules.proofs.Next.{to-done, to-event, to-go, event-six, event-taken, begun-tells}
 use Rattle.rules.proofs.Run.{run-waits, run-stop, run-go, run-done, preceded-none, preceded-joined}
 use Rattle.page.proofs.RowList.{beside-is}
 use Rattle.carry.specs.Carried.{Carried}
 use Rattle.carry.specs.Rows.{BesideAfter}
 use Rattle.terminal.specs.declared.bytes.Ended.{Ended}
 use Rattle.terminal.specs.Promise.{Completed}
-use Rattle.terminal.specs.Loop.{isNothing, stateWith, stateOf, lastAnswer, Looped}
+use Rattle.terminal.specs.Loop.{isNothing, stateWith, stateOf, ranTo, resultOf, Looped}
 use Rattle.terminal.proofs.Carrying.{over-none}
 
 -- ---- the step of the rules, by the effect of the inner step
@@ -86,36 +89,51 @@ nothing-made (Change.Set (SetupChange.Attribute i a)) g u e = absurd (false≢tr
 nothing-made (Change.Set (SetupChange.Feature i f)) g u e = absurd (false≢true e)
 nothing-made (Change.Set SetupChange.HideLine) g u e = absurd (false≢true e)
 
--- so does a reply that is not over
-pub send-made : (x : Change) (g : List ℕ) (u : Setup) → sends (sendingAfter x Sending.Nothing) ≡ true → (g ≡ gatheredAfter x g) × (u ≡ setupAfter x g u)
-unfolding sendingAfter gatheredAfter setupAfter
-send-made (Change.Gather n b) g u e = absurd (false≢true e)
-send-made (Change.Take x n) g u e = absurd (false≢true e)
-send-made (Change.Set x) g u e = absurd (false≢true e)
-send-made (Change.Send x) g u e = (refl, refl)
+-- the test for an event to stop at
+pub event-ends : (stop e : Bool) → both stop e ≡ true → either (both stop e) false ≡ true
+event-ends stop e h = rw h
+
+pub event-answer : {a : Answer} (stop e : Bool) → both stop e ≡ true → a ≡ pick stop a Answer.Done
+event-answer true e h = refl
+event-answer false e h = absurd (false≢true h)
+
+pub no-event : (stop e : Bool) → both stop e ≡ false → stop ≡ true → e ≡ false
+no-event true e h u = h
+no-event false e h u = absurd (false≢true u)
 
 refusal-one : (n : ℕ) → refusal n ≤ 1
 refusal-one n = pick-if (λ (k : ℕ). k ≤ 1) (among 1 4 n) (λ e. omega arith) (λ e. omega arith)
 
--- the last answer after a byte that does not answer 6
-module _ (b : ℕ) (bs p : List ℕ) (s : State) (room a : ℕ) where
-  abbrev stepped : Outcome
-  stepped = stepRule p s b room
-
-  last-go : sends (s .sending) ≡ false → eqb (stepped .answer) 6 ≡ false
-      → lastAnswer (b ∷ bs) p s room a ≡ lastAnswer bs (stepped .page) (stepped .state) (room - length (stepped .reply)) (stepped .answer)
-  unfolding lastAnswer
-  last-go u e = rw (u, e)
-
--- inside a send no byte is looked at
-last-waits : (bs p : List ℕ) (s : State) (room a : ℕ) → sends (s .sending) ≡ true → lastAnswer bs p s room a ≡ a
-unfolding lastAnswer
-last-waits [] p s room a u = refl
-last-waits (b ∷ bs) p s room a u = rw u
-
 pub run-rests : (bs p : List ℕ) (s : State) (room : ℕ) → sends (s .sending) ≡ true → repeated bs p s room ≡ ended p s 0 bs
 run-rests [] p s room u = run-done p s room
 run-rests (b ∷ bs) p s room u = run-waits b bs p s room u
+
+-- ---- one turn of the run, or of the run to the first event
+
+ran-done : (stop : Bool) (p : List ℕ) (s : State) (room : ℕ) → ranTo stop [] p s room ≡ ended p s 0 []
+ran-done true p s room = to-done p s room
+ran-done false p s room = run-done p s room
+
+module _ (b : ℕ) (bs p : List ℕ) (s : State) (room : ℕ) (g : good p s ≡ true) (u : sends (s .sending) ≡ false) where
+  abbrev stepped : Outcome
+  stepped = stepRule p s b room
+
+  ran-six : (stop : Bool) → stepped .answer ≡ 6 → ranTo stop (b ∷ bs) p s room ≡ ended p s 6 (b ∷ bs)
+  ran-six true e = to-event b bs p s room (rw e refl) ∙ event-six b bs p s room g u e
+  ran-six false e = run-stop b bs p s room u e
+
+  ran-go : (stop : Bool) → eqb (stepped .answer) 6 ≡ false → (stop ≡ true → tells stepped ≡ false)
+      → ranTo stop (b ∷ bs) p s room ≡ joined stepped (ranTo stop bs (stepped .page) (stepped .state) (room - length (stepped .reply)))
+  ran-go true e h = to-go b bs p s room (h refl)
+  ran-go false e h = run-go b bs p s room u e
+
+  -- it ends behind the byte: at an event, or where a send is under way
+  ran-ends : (stop : Bool) → eqb (stepped .answer) 6 ≡ false → (stop ≡ true → tells stepped ≡ true) → (stop ≡ false → sends (stepped .state .sending) ≡ true)
+      → ranTo stop (b ∷ bs) p s room ≡ joined stepped (ended (stepped .page) (stepped .state) (pick stop (stepped .answer) 0) bs)
+  ran-ends true e h k = to-event b bs p s room (h refl) ∙ event-taken b bs p s room g u e
+  ran-ends false e h k =
+      run-go b bs p s room u e
+      ∙ ap (joined stepped) (run-rests bs (stepped .page) (stepped .state) (room - length (stepped .reply)) (k refl))
 
 -- ---- the room
 
@@ -154,11 +172,30 @@ front n w w₀ h e =
 
 -- ---- the loop
 
-looped-is : {p : List ℕ} {s : State} {l w p′ w′ : List ℕ} {r r′ : Ended} → r ≡ r′ → Looped p s l w r′ p′ w′ → Looped p s l w r p′ w′
-looped-is {p} {s} {l} {w} {p′} {w′} e h = subst (λ (x : Ended). Looped p s l w x p′ w′) (sym e) h
+looped-is : {o : Ran} {l w p′ w′ : List ℕ} {r r′ : Ended} → r ≡ r′ → Completed o (resultOf r′) l p′ w w′ → Completed o (resultOf r) l p′ w w′
+looped-is {o} {l} {w} {p′} {w′} e h = subst (λ (x : Ended). Completed o (resultOf x) l p′ w w′) (sym e) h
 
--- s₀ and p₀ are the state and the page at the start, w₀ the room; i bytes are taken, n bytes replied, f bytes refused, and a is the last answer
-pub record Running (p₀ : List ℕ) (s₀ : State) (input w₀ p w : List ℕ) (c : Core) (g : List ℕ) (u : Setup) (a : Answer) (i n f : ℕ) : Type 0 where
+-- a run that ended where it stands, i bytes taken, n bytes replied, f bytes refused
+ended-there : {o : Ran} {s : State} {input w₀ p w : List ℕ} {i n f : ℕ} {x : Answer} {rest : List ℕ} → drop i input ≡ rest → n ≤ length w → n ≤ length w₀
+    → i ≤ length input → drop n w ≡ drop n w₀ → o ≡ preceded i f (take n w) (ended p s (number x) rest)
+    → Completed o (record { answer = x; taken = i; replied = n; refused = f; state = s }) input p w₀ w
+ended-there {s = s} {input = input} {w₀ = w₀} {p = p} {w = w} {i = i} {n = n} {f = f} {x = x} e fits used within untouched is =
+    subst (λ (o : Ran). Completed o (record { answer = x; taken = i; replied = n; refused = f; state = s }) input p w₀ w) (sym is)
+    (record {
+      answer = refl;
+      taken = sym (add-zero i);
+      replied = sym (ap length (append-nil (take n w)) ∙ length-take-le n w fits);
+      refused = sym (add-zero f);
+      rest = e;
+      state = refl;
+      page = refl;
+      room = front n w w₀ fits untouched ∙ ap (λ (l : List ℕ). over l w₀) (sym (append-nil (take n w)));
+      fits = used;
+      within = within;
+    })
+
+-- s₀ and p₀ are the state and the page at the start, w₀ the room; i bytes are taken, n bytes replied and f bytes refused
+pub record Running (stop : Bool) (p₀ : List ℕ) (s₀ : State) (input w₀ p w : List ℕ) (c : Core) (g : List ℕ) (u : Setup) (i n f : ℕ) : Type 0 where
   pub within : i ≤ length input
   pub used : n ≤ length w₀
   pub few : f ≤ i
@@ -166,12 +203,11 @@ pub record Running (p₀ : List ℕ) (s₀ : State) (input w₀ p w : List ℕ) 
   pub long : length p ≡ length p₀
   pub size : length w ≡ length w₀
   pub untouched : drop n w ≡ drop n w₀
-  pub same : repeated input p₀ s₀ (length w₀) ≡ preceded i f (take n w) (repeated (drop i input) p (stateOf c g u) (length w₀ - n))
-  pub last : lastAnswer input p₀ s₀ (length w₀) 0 ≡ lastAnswer (drop i input) p (stateOf c g u) (length w₀ - n) (number a)
+  pub same : ranTo stop input p₀ s₀ (length w₀) ≡ preceded i f (take n w) (ranTo stop (drop i input) p (stateOf c g u) (length w₀ - n))
 
-pub begin : (p : List ℕ) (c : Core) (g : List ℕ) (u : Setup) (input w : List ℕ) → good p (stateOf c g u) ≡ true
-    → Running p (stateOf c g u) input w p w c g u Answer.Done 0 0 0
-begin p c g u input w k = record {
+pub begin : (stop : Bool) (p : List ℕ) (c : Core) (g : List ℕ) (u : Setup) (input w : List ℕ) → good p (stateOf c g u) ≡ true
+    → Running stop p (stateOf c g u) input w p w c g u 0 0 0
+begin stop p c g u input w k = record {
   within = zero-le;
   used = zero-le;
   few = zero-le;
@@ -179,12 +215,11 @@ begin p c g u input w k = record {
   long = refl;
   size = refl;
   untouched = refl;
-  same = rw sub-zero (preceded-none (repeated input p (stateOf c g u) (length w)));
-  last = rw sub-zero;
+  same = rw sub-zero (preceded-none (ranTo stop input p (stateOf c g u) (length w)));
 }
 
-module _ {p₀ : List ℕ} {s₀ : State} {input w₀ p w : List ℕ} {c : Core} {g : List ℕ} {u : Setup} {a : Answer} {i n f : ℕ}
-    (R : Running p₀ s₀ input w₀ p w c g u a i n f) where
+module _ {stop : Bool} {p₀ : List ℕ} {s₀ : State} {input w₀ p w : List ℕ} {c : Core} {g : List ℕ} {u : Setup} {i n f : ℕ}
+    (R : Running stop p₀ s₀ input w₀ p w c g u i n f) where
   abbrev s : State
   s = stateOf c g u
 
@@ -207,35 +242,16 @@ module _ {p₀ : List ℕ} {s₀ : State} {input w₀ p w : List ℕ} {c : Core}
   more-refused x h = omega (arith, R .few, refusal-one x)
 
   -- the loop ends here with the answer x
-  ending : (x : Answer) (rest : List ℕ) → drop i input ≡ rest → repeated rest p s (length w₀ - n) ≡ ended p s (number x) rest
-      → Completed (repeated input p₀ s₀ (length w₀)) (record { answer = x; taken = i; replied = n; refused = f; state = s }) input p w₀ w
+  ending : (x : Answer) (rest : List ℕ) → drop i input ≡ rest → ranTo stop rest p s (length w₀ - n) ≡ ended p s (number x) rest
+      → Completed (ranTo stop input p₀ s₀ (length w₀)) (record { answer = x; taken = i; replied = n; refused = f; state = s }) input p w₀ w
   ending x rest e h =
-      let size : length (take n w) ≡ n = length-take-le n w room-size in
-      subst (λ (o : Ran). Completed o (record { answer = x; taken = i; replied = n; refused = f; state = s }) input p w₀ w)
-      (sym (R .same ∙ ap (λ (l : List ℕ). preceded i f (take n w) (repeated l p s (length w₀ - n))) e ∙ ap (preceded i f (take n w)) h))
-      (record {
-        answer = refl;
-        taken = sym (add-zero i);
-        replied = sym (ap length (append-nil (take n w)) ∙ size);
-        refused = sym (add-zero f);
-        rest = e;
-        state = refl;
-        page = refl;
-        room = front n w w₀ room-size (R .untouched) ∙ ap (λ (l : List ℕ). over l w₀) (sym (append-nil (take n w)));
-        fits = R .used;
-        within = R .within;
-      })
+      ended-there {x = x} {rest = rest} e room-size (R .used) (R .within) (R .untouched)
+      (R .same ∙ ap (λ (l : List ℕ). preceded i f (take n w) (ranTo stop l p s (length w₀ - n))) e ∙ ap (preceded i f (take n w)) h)
 
   pub finish : {z : Ended} → length input ≤ i
-      → z ≡ record { answer = Answer.Done; last = a; taken = i; replied = n; refused = f; core = c; sending = Sending.Nothing; gathered = g; setup = u }
-      → Looped p₀ s₀ input w₀ z p w
-  unfolding lastAnswer
-  finish h result =
-      let e : drop i input ≡ [] = drop-of-length-le input h in
-      looped-is result (record {
-        run = ending Answer.Done [] e (run-done p s (length w₀ - n));
-        last = sym (R .last ∙ ap (λ (l : List ℕ). lastAnswer l p s (length w₀ - n) (number a)) e);
-      })
+      → z ≡ record { answer = Answer.Done; taken = i; replied = n; refused = f; core = c; sending = Sending.Nothing; gathered = g; setup = u }
+      → Looped stop p₀ s₀ input w₀ z p w
+  finish h result = looped-is result (ending Answer.Done [] (drop-of-length-le input h) (ran-done stop p s (length w₀ - n)))
 
   -- the next byte, on what is left of the room
   module _ (h : i < length input) {r : CoreResult} {p′ part : List ℕ}
@@ -268,21 +284,18 @@ module _ {p₀ : List ℕ} {s₀ : State} {input w₀ p w : List ℕ} {c : Core}
     cons = drop-cons input i 0 h
 
     -- it answers 6: the loop stops before it
-    pub stop : {z : Ended} → eqb (number (r .answer)) 6 ≡ true
-        → z ≡ record { answer = Answer.NoRoom; last = r .answer; taken = i; replied = n; refused = f; core = c; sending = Sending.Nothing; gathered = g; setup = u }
-        → Looped p₀ s₀ input w₀ z p′ w′
-    unfolding lastAnswer
-    stop t result =
+    pub stops : {z : Ended} → eqb (number (r .answer)) 6 ≡ true
+        → z ≡ record { answer = Answer.NoRoom; taken = i; replied = n; refused = f; core = c; sending = Sending.Nothing; gathered = g; setup = u }
+        → Looped stop p₀ s₀ input w₀ z p′ w′
+    stops t result =
         let a6 : o .answer ≡ 6 = made .answer ∙ sym (S .answer) ∙ eqb-true _ _ t in
         let l = step-left p s b (length w₀ - n) (λ z. absurd (omega (arith, z, a6))) in
         let page : p′ ≡ p = S .page ∙ sym (made .page) ∙ l .page in
         let none : part ≡ drop n w =
         S .room ∙ ap (λ (x : List ℕ). over x (drop n w)) (sym (made .reply) ∙ l .reply) ∙ sym (over-none (drop n w)) in
         let room : w′ ≡ w = back ∙ ap (λ (x : List ℕ). take n w ++ x) none ∙ take-append-drop n w in
-        looped-is result (rw (page, room) (record {
-          run = ending Answer.NoRoom (b ∷ drop (suc i) input) cons (run-stop b (drop (suc i) input) p s (length w₀ - n) refl a6);
-          last = eqb-true _ _ t ∙ sym (R .last ∙ rw (cons, a6));
-        }))
+        looped-is result
+        (rw (page, room) (ending Answer.NoRoom (b ∷ drop (suc i) input) cons (ran-six b (drop (suc i) input) p s (length w₀ - n) (R .fine) refl stop a6)))
 
     -- the row list after it
     pub stop-beside : eqb (number (r .answer)) 6 ≡ true → {l : List ℕ}
@@ -360,22 +373,20 @@ module _ {p₀ : List ℕ} {s₀ : State} {input w₀ p w : List ℕ} {c : Core}
           ∙ ap (drop (length (o .reply))) (R .untouched) ∙ drop-drop (length (o .reply)) n w₀
           ∙ ap (λ (j : ℕ). drop (n + j) w₀) (ap length (made .reply) ∙ sym (S .replied))
 
-      same′ : repeated input p₀ s₀ (length w₀)
-          ≡ preceded (i + 1) (f + m) (take (n + r .replied) w′) (repeated (drop (i + 1) input) p′ (stateWith (r .core) y k v) (length w₀ - (n + r .replied)))
-      same′ =
-          R .same ∙ ap (λ (l : List ℕ). preceded i f (take n w) (repeated l p s (length w₀ - n))) cons
-          ∙ ap (preceded i f (take n w)) (run-go b (drop (suc i) input) p s (length w₀ - n) refl not-six)
-          ∙ preceded-joined i f (take n w) o _ ∙ cc (turned, reached, room-left, reply, count, add-one i)
+      -- the run after the byte
+      after : (q : Ran) → ranTo stop (b ∷ drop (suc i) input) p s (length w₀ - n) ≡ joined o q
+          → ranTo stop input p₀ s₀ (length w₀) ≡ preceded (i + 1) (f + m) (take (n + r .replied) w′) q
+      after q e =
+          R .same ∙ ap (λ (l : List ℕ). preceded i f (take n w) (ranTo stop l p s (length w₀ - n))) cons ∙ ap (preceded i f (take n w)) e
+          ∙ preceded-joined i f (take n w) o q ∙ cc (reply, count)
 
-      last′ : lastAnswer input p₀ s₀ (length w₀) 0
-          ≡ lastAnswer (drop (i + 1) input) p′ (stateWith (r .core) y k v) (length w₀ - (n + r .replied)) (number (r .answer))
-      last′ =
-          R .last ∙ ap (λ (l : List ℕ). lastAnswer l p s (length w₀ - n) (number a)) cons
-          ∙ last-go b (drop (suc i) input) p s (length w₀ - n) (number a) refl not-six ∙ cc (turned, reached, room-left, answered, add-one i)
+      event-is : tells o ≡ isEvent (number (r .answer)) (r .replied)
+      event-is = ap₂ isEvent answered (ap length (made .reply) ∙ sym (S .replied))
 
-      -- no send is left: the loop goes on
-      pub go : y ≡ Sending.Nothing → Running p₀ s₀ input w₀ p′ w′ (r .core) k v (r .answer) (i + 1) (n + r .replied) (f + m)
-      go none = record {
+      -- no send is left, and no event to stop at: the loop goes on
+      pub go : y ≡ Sending.Nothing → (stop ≡ true → isEvent (number (r .answer)) (r .replied) ≡ false)
+          → Running stop p₀ s₀ input w₀ p′ w′ (r .core) k v (i + 1) (n + r .replied) (f + m)
+      go none silent = record {
         within = omega (arith, h);
         used = used′;
         few = omega (arith, R .few, refusal-one (number (r .answer)), eg);
@@ -384,17 +395,38 @@ module _ {p₀ : List ℕ} {s₀ : State} {input w₀ p w : List ℕ} {c : Core}
         long = ap length (sym turned) ∙ step-keeps p s b (length w₀ - n) .size ∙ R .long;
         size = size′;
         untouched = untouched′;
-        same = same′
-            ∙ ap (λ (x : Sending). preceded (i + 1) (f + m) (take (n + r .replied) w′) (repeated (drop (i + 1) input) p′ (stateWith (r .core) x k v) (length w₀ - (n + r .replied))))
-            none;
-        last = last′ ∙ ap (λ (x : Sending). lastAnswer (drop (i + 1) input) p′ (stateWith (r .core) x k v) (length w₀ - (n + r .replied)) (number (r .answer))) none;
+        same = after _ (ran-go b (drop (suc i) input) p s (length w₀ - n) (R .fine) refl stop not-six (λ t. event-is ∙ silent t))
+            ∙ cc (turned, reached, none, room-left, add-one i);
       }
 
-      -- one is: it stops behind the byte
-      pub halt : sends y ≡ true → {z : Ended}
+      -- it is to stop at an event or has left a send under way: this is one
+      tells-so : either (both stop (isEvent (number (r .answer)) (r .replied))) (sends y) ≡ true → stop ≡ true → tells o ≡ true
+      tells-so e t = by (tells o) refl
+        where
+          by : (d : Bool) → tells o ≡ d → d ≡ true
+          by true d = refl
+          by false d =
+              let x : sends y ≡ true = ap₂ (λ (z q : Bool). either (both z q) (sends y)) (sym t) (sym d ∙ event-is) ∙ e in
+              absurd (false≢true (sym (begun-tells b (drop (suc i) input) p s (length w₀ - n) (R .fine) refl d)
+              ∙ (ap (λ (z : State). sends (z .sending)) reached ∙ x)))
+
+      left-so : either (both stop (isEvent (number (r .answer)) (r .replied))) (sends y) ≡ true → stop ≡ false → sends (o .state .sending) ≡ true
+      left-so e t =
+          ap (λ (z : State). sends (z .sending)) reached
+          ∙ (ap (λ (z : Bool). either (both z (isEvent (number (r .answer)) (r .replied))) (sends y)) (sym t) ∙ e)
+
+      answer-is : {x : Answer} → x ≡ pick stop (r .answer) Answer.Done → pick stop (o .answer) 0 ≡ number x
+      answer-is {x} e = by stop e
+        where
+          by : (t : Bool) → x ≡ pick t (r .answer) Answer.Done → pick t (o .answer) 0 ≡ number x
+          by true e = answered ∙ ap number (sym e)
+          by false e = ap number (sym e)
+
+      -- it stops behind the byte
+      pub halt : either (both stop (isEvent (number (r .answer)) (r .replied))) (sends y) ≡ true → {x : Answer} → x ≡ pick stop (r .answer) Answer.Done
+          → {z : Ended}
           → z ≡ record {
-            answer = Answer.Done;
-            last = r .answer;
+            answer = x;
             taken = i + 1;
             replied = n + r .replied;
             refused = f + m;
@@ -403,30 +435,12 @@ module _ {p₀ : List ℕ} {s₀ : State} {input w₀ p w : List ℕ} {c : Core}
             gathered = k;
             setup = v;
           }
-          → Looped p₀ s₀ input w₀ z p′ w′
-      halt under {z} result =
-          let q = stateWith (r .core) y k v in
-          let l = n + r .replied in
-          let rest = drop (i + 1) input in
-          let room = length w₀ - l in
-          let size : length (take l w′) ≡ l = length-take-le l w′ (omega (arith, used′, size′)) in
-          looped-is result (record {
-            run = subst (λ (x : Ran). Completed x (record { answer = Answer.Done; taken = i + 1; replied = l; refused = f + m; state = q }) input p′ w₀ w′)
-                (sym (same′ ∙ ap (preceded (i + 1) (f + m) (take l w′)) (run-rests rest p′ q room under)))
-                (record {
-                  answer = refl;
-                  taken = sym (add-zero (i + 1));
-                  replied = sym (ap length (append-nil (take l w′)) ∙ size);
-                  refused = sym (add-zero (f + m));
-                  rest = refl;
-                  state = refl;
-                  page = refl;
-                  room = front l w′ w₀ (omega (arith, used′, size′)) untouched′ ∙ ap (λ (x : List ℕ). over x w₀) (sym (append-nil (take l w′)));
-                  fits = used′;
-                  within = omega (arith, h);
-                });
-            last = sym (last′ ∙ last-waits rest p′ q room (number (r .answer)) under);
-          })
+          → Looped stop p₀ s₀ input w₀ z p′ w′
+      halt e {x} a result =
+          let ends = ran-ends b (drop (suc i) input) p s (length w₀ - n) (R .fine) refl stop not-six (tells-so e) (left-so e) in
+          looped-is result
+          (ended-there {x = x} refl (omega (arith, used′, size′)) used′ (omega (arith, h)) untouched′
+          (after _ ends ∙ cc (turned, reached, answer-is a, add-one i)))
 
 -- the row list of the core that the loop ends with
 pub ended-beside : (z : Ended) {c : Core} (p : List ℕ) {l : List ℕ} → z .core ≡ c → Beside (widthOf (c .screen)) (guardedAt (c .modes .protect) p) l

@@ -6,7 +6,7 @@ use Prim.Native.Nat.{ℕ}
 use Rattle.rules.specs.Calls.{Given, Called, ofStep, ofRun}
 use Rattle.rules.specs.RowCalls.{Session, RowCall, rowCallRule, RowPlayed, rowAfter, rowPlay, RowIndistinguishable}
 use Rattle.rules.proofs.RowNoninterference.{row-noninterference}
-use Rattle.terminal.specs.RowNoninterference.{RowMade, bare, listStepped, listRan, rebuiltRows, RowPerformed, none, next, CodeRowDemand3}
+use Rattle.terminal.specs.RowNoninterference.{RowMade, bare, listStepped, listRan, heard, rebuiltRows, RowPerformed, none, next, CodeRowDemand3}
 use Rattle.terminal.proofs.Noninterference.{front, made-is}
 
 row-made-is : {x : Session} {p′ l′ : List ℕ} {c : RowCall} {g : Given} → RowMade x c g p′ l′
@@ -16,6 +16,8 @@ row-made-is {x} (bare m) = ap (λ (r : Called). record { called = r; rows = x .r
 row-made-is (listStepped {w = w} {w′ = w′} {r = r} h e) =
     cc (h .answer, h .taken, h .state, h .replied, h .page, front _ w w′ (r .replied) (h .replied) (h .room), e)
 row-made-is (listRan {w = w} {w′ = w′} {r = r} h e) =
+    cc (h .answer, h .taken, h .replied, h .refused, h .rest, h .state, h .page, front _ w w′ (r .replied) (h .replied) (h .room), e)
+row-made-is (heard {w = w} {w′ = w′} {r = r} h e) =
     cc (h .answer, h .taken, h .replied, h .refused, h .rest, h .state, h .page, front _ w w′ (r .replied) (h .replied) (h .room), e)
 row-made-is (rebuiltRows a h e) = cc (h, e)
 

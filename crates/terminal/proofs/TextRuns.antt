@@ -12,7 +12,6 @@ use lib.Dec.{eqb}
 use lib.ListN.{length, getD, set, take, drop, length-set, take-append-drop}
 use lib.Seq.{drop-cons}
 use borrow.Author.Tests.{eq-eqb, ne-eqb}
-use Rattle.rules.specs.declared.Answer.{Answer}
 use Rattle.rules.specs.declared.Answer.the-variants as Answer
 use Rattle.rules.specs.declared.Contents.the-variants as Contents
 use Rattle.rules.specs.declared.Core.{Core}
@@ -33,7 +32,7 @@ use Rattle.rules.specs.Carry.{effect}
 use Rattle.rules.proofs.Rows.{columns-width}
 use Rattle.rules.proofs.Screens.{screen-inside}
 use Rattle.carry.proofs.Carrying.{carried-is}
-use Rattle.terminal.specs.Loop.{stateOf, lastAnswer}
+use Rattle.terminal.specs.Loop.{stateOf}
 use Rattle.terminal.specs.Text.{Stored, Addressed, Typed, none, stored, placed, TextRun, still, typed, textBase, textCore}
 use Rattle.terminal.proofs.Carrying.{quiet-carried}
 use Rattle.terminal.proofs.Loop.{Running, ready, go, nothing-made, lentTail, backTail, tail-lent, tail-back}
@@ -80,41 +79,24 @@ module _ {on : Bool} {base : ℕ} {wide : Bool} {home end : ℕ} {l : List ℕ} 
 
 -- ---- a turn of the loop that changes the core and the page alone
 
--- where a byte is still to come, the last answer is its
-last-any : (l : List ℕ) (i : ℕ) → i < length l → (p : List ℕ) (s : State) → sends (s .sending) ≡ false → (room a a′ : ℕ)
-    → lastAnswer (drop i l) p s room a ≡ lastAnswer (drop i l) p s room a′
-unfolding lastAnswer
-last-any l i h p s u room a a′ = rw (drop-cons l i 0 h, u)
-
 same-room : (n : ℕ) (w : List ℕ) → backTail n w (lentTail n w) ≡ w
 same-room n w = tail-back n w (lentTail n w) ∙ ap (λ (l : List ℕ). take n w ++ l) (tail-lent n w) ∙ take-append-drop n w
 
-module _ {p₀ : List ℕ} {s₀ : State} {input w₀ : List ℕ} {g : List ℕ} {u : Setup} {a : Answer} {n f : ℕ} {w : List ℕ} where
-  turn : {p : List ℕ} {c : Core} {i : ℕ} (j : ℕ) → Running p₀ s₀ input w₀ p w c g u a i n f → j ≡ i + 1 → j < length input
+module _ {stop : Bool} {p₀ : List ℕ} {s₀ : State} {input w₀ : List ℕ} {g : List ℕ} {u : Setup} {n f : ℕ} {w : List ℕ} where
+  turn : {p : List ℕ} {c : Core} {i : ℕ} (j : ℕ) → Running stop p₀ s₀ input w₀ p w c g u i n f → j ≡ i + 1 → j < length input
       → {p′ : List ℕ} {c′ : Core} → ((room : ℕ) → innerRule p c (u .tabs) (getD input i 0) room ≡ effect 0 c′ unchanged p′ [])
-      → Running p₀ s₀ input w₀ p′ w c′ g u a j n f
+      → Running stop p₀ s₀ input w₀ p′ w c′ g u j n f
   turn {p} {c} {i} j R e h {p′} {c′} E =
       let q = lentTail n w in
       let m = nothing-made unchanged g u refl in
       let k = carried-is (E (length q)) (quiet-carried Answer.Done c′ unchanged p′ q) in
-      let G = go R (omega arith) k refl (m .0) (m .1 .0) (sym (m .1 .1)) refl refl in
-      let H : Running p₀ s₀ input w₀ p′ w c′ g u Answer.Done j n f = rw (same-room n w, add-zero n, add-zero f, sym e) at G in
-      record {
-        within = H .within;
-        used = H .used;
-        few = H .few;
-        fine = H .fine;
-        long = H .long;
-        size = H .size;
-        untouched = H .untouched;
-        same = H .same;
-        last = H .last ∙ last-any input j h p′ (stateOf c′ g u) refl (length w₀ - n) 0 (number a);
-      }
+      let G = go R (omega arith) k refl (m .0) (m .1 .0) (sym (m .1 .1)) refl refl (λ z. refl) in
+      rw (same-room n w, add-zero n, add-zero f, sym e) at G
 
   -- a byte that is awaited, and leaves q under way
-  waited : {p : List ℕ} {c : Core} {i : ℕ} (j : ℕ) (q : Pending) → Running p₀ s₀ input w₀ p w c g u a i n f → j ≡ i + 1 → j < length input
+  waited : {p : List ℕ} {c : Core} {i : ℕ} (j : ℕ) (q : Pending) → Running stop p₀ s₀ input w₀ p w c g u i n f → j ≡ i + 1 → j < length input
       → getD input i 0 < 128 → decodeRule (c .pending) (getD input i 0) ≡ Decoded.Wait q
-      → Running p₀ s₀ input w₀ p w (awaiting c q) g u a j n f
+      → Running stop p₀ s₀ input w₀ p w (awaiting c q) g u j n f
   waited {p} {c} {i} j q R e h low d =
       let k = ready R in
       turn j R e h (λ room. waits p c (k .0) (k .1 .0) (u .tabs) room (getD input i 0) q low d)
@@ -198,12 +180,12 @@ module _ {c d : Core} {at : ℕ} (L : Like c d at) where
 
 -- ---- a run
 
-module _ {p₀ : List ℕ} {s₀ : State} {input w₀ : List ℕ} {g : List ℕ} {u : Setup} {a : Answer} {n f : ℕ} {w p : List ℕ} (c : Core) {i₀ : ℕ}
-    (R : Running p₀ s₀ input w₀ p w c g u a i₀ n f) (quiet : c .pending ≡ Pending.Idle) (over : c .modes .insert ≡ false) where
+module _ {stop : Bool} {p₀ : List ℕ} {s₀ : State} {input w₀ : List ℕ} {g : List ℕ} {u : Setup} {n f : ℕ} {w p : List ℕ} (c : Core) {i₀ : ℕ}
+    (R : Running stop p₀ s₀ input w₀ p w c g u i₀ n f) (quiet : c .pending ≡ Pending.Idle) (over : c .modes .insert ≡ false) where
   record Went (at i : ℕ) (p′ : List ℕ) : Type 0 where
     core : Core
     arrived : Arrived c i₀ at i core
-    running : Running p₀ s₀ input w₀ p′ w core g u a i n f
+    running : Running stop p₀ s₀ input w₀ p′ w core g u i n f
 
   module _ {at i : ℕ} {q : List ℕ} (G : Went at i q) where
     abbrev d : Core
@@ -259,15 +241,15 @@ module _ {p₀ : List ℕ} {s₀ : State} {input w₀ : List ℕ} {g : List ℕ}
   typed-run (placed t h s) = went-placed (typed-run t) h s
 
 -- the loop after a run from the byte i₀ on: it goes on at the byte i, which is left
-pub record Resumed (p₀ : List ℕ) (s₀ : State) (input w₀ p w : List ℕ) (c : Core) (g : List ℕ) (u : Setup) (a : Answer) (i n f i₀ : ℕ) : Type 0 where
-  pub running : Running p₀ s₀ input w₀ p w c g u a i n f
+pub record Resumed (stop : Bool) (p₀ : List ℕ) (s₀ : State) (input w₀ p w : List ℕ) (c : Core) (g : List ℕ) (u : Setup) (i n f i₀ : ℕ) : Type 0 where
+  pub running : Running stop p₀ s₀ input w₀ p w c g u i n f
   pub from : i₀ ≤ i
   pub left : i < length input
 
-module _ {p₀ : List ℕ} {s₀ : State} {input w₀ : List ℕ} {g : List ℕ} {u : Setup} {a : Answer} {n f : ℕ} {w p : List ℕ} {c : Core} {i₀ : ℕ}
-    (R : Running p₀ s₀ input w₀ p w c g u a i₀ n f) where
+module _ {stop : Bool} {p₀ : List ℕ} {s₀ : State} {input w₀ : List ℕ} {g : List ℕ} {u : Setup} {n f : ℕ} {w p : List ℕ} {c : Core} {i₀ : ℕ}
+    (R : Running stop p₀ s₀ input w₀ p w c g u i₀ n f) where
   arriving : {at i : ℕ} {p′ : List ℕ} → TextRun c input i₀ p at i p′
-      → Running p₀ s₀ input w₀ p′ w (pick (eqb i i₀) c (textCore c at)) g u a i n f
+      → Running stop p₀ s₀ input w₀ p′ w (pick (eqb i i₀) c (textCore c at)) g u i n f
   arriving still = rw (eq-eqb i₀ i₀ refl) R
   arriving (typed quiet over t) = let G = typed-run c R quiet over t in rw (arrived-core (G .arrived)) (G .running)
 
@@ -287,7 +269,7 @@ module _ {p₀ : List ℕ} {s₀ : State} {input w₀ : List ℕ} {g : List ℕ}
 
   -- d is the core after it
   pub resumed : {at i : ℕ} {p′ : List ℕ} {d : Core} → i₀ < length input → TextRun c input i₀ p at i p′ → d ≡ pick (eqb i i₀) c (textCore c at)
-      → Resumed p₀ s₀ input w₀ p′ w d g u a i n f i₀
+      → Resumed stop p₀ s₀ input w₀ p′ w d g u i n f i₀
   resumed h t e =
       let r = text-range h t in
       record { running = rw e (arriving t); from = r .from; left = r .within }

@@ -1,6 +1,6 @@
 -- Demand 3 of the code with row lists, the statement: two terminals that start with the same list, run by the same calls, whose promises hold.
 use mathlib.Core.Path.{_≡_}
-use mathlib.Core.Bool.{true, false}
+use mathlib.Core.Bool.{Bool, true, false}
 use mathlib.Core.List.{List, [], _∷_}
 use Prim.Native.Nat.{ℕ}
 use lib.ListN.{length}
@@ -8,10 +8,11 @@ use Rattle.rules.specs.declared.State.{State}
 use Rattle.rules.specs.declared.Answer.{Answer}
 use Rattle.rules.specs.declared.StepResult.{StepResult}
 use Rattle.rules.specs.declared.RunResult.{RunResult}
+use Rattle.rules.specs.Cell.{pick}
 use Rattle.rules.specs.State.{number}
 use Rattle.rules.specs.Calls.{Call, Given}
 use Rattle.rules.specs.Noninterference.{AlikePages, revealing, anyCompleted}
-use Rattle.rules.specs.RowCalls.{stepRowsRule, runRowsRule, rowsAfter, rebuildAnswer, rebuilt, Session, RowCall, Bare, ListStep, ListRun, Rebuild, RowPlayed, rowAfter, bareCalls, RowIndistinguishable}
+use Rattle.rules.specs.RowCalls.{stepRowsRule, runRowsRule, nextRowsRule, rowsAfter, rebuildAnswer, rebuilt, Session, RowCall, Bare, ListStep, ListRun, Next, Rebuild, handed, RowPlayed, rowAfter, bareCalls, RowIndistinguishable}
 use Rattle.terminal.specs.Promise.{Stepped, Completed}
 use Rattle.terminal.specs.Noninterference.{stepSeen, runSeen, Made}
 
@@ -22,6 +23,9 @@ pub data RowMade (x : Session) : RowCall → Given → List ℕ → List ℕ →
       → l′ ≡ rowsAfter (x .page) (x .rows) (x .state) p′ (r .state) → RowMade x (ListStep b (length w)) (stepSeen r w′) p′ l′
   listRan : {i w w′ p′ l′ : List ℕ} {r : RunResult} → Completed (runRowsRule (x .page) (x .rows) (x .state) i (length w)) r i p′ w w′
       → l′ ≡ rowsAfter (x .page) (x .rows) (x .state) p′ (r .state) → RowMade x (ListRun i (length w)) (runSeen r i w′) p′ l′
+  heard : {with : Bool} {i w w′ p′ l′ : List ℕ} {r : RunResult}
+      → Completed (nextRowsRule (x .page) (handed with x) (x .state) i (length w)) r i p′ w w′
+      → l′ ≡ pick with (rowsAfter (x .page) (x .rows) (x .state) p′ (r .state)) (x .rows) → RowMade x (Next with i (length w)) (runSeen r i w′) p′ l′
   rebuiltRows : (a : Answer) {l′ : List ℕ} → number a ≡ rebuildAnswer (x .page) (x .rows) (x .state) → l′ ≡ rebuilt (x .page) (x .rows) (x .state)
       → RowMade x Rebuild (record { answer = number a; counts = []; reply = []; rest = []; state = x .state }) (x .page) l′
 

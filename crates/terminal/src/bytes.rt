@@ -10,7 +10,10 @@ ghost use Rattle.rules.specs.State.{number, widthOf};
 ghost use Rattle.rules.specs.Possible.{good};
 ghost use Rattle.rules.specs.Search.{guardedAt};
 ghost use Rattle.rules.specs.RowList.{Beside};
+ghost use Rattle.rules.specs.Cell.{pick};
 ghost use Rattle.rules.specs.Calls.{refusal};
+ghost use Rattle.rules.specs.Next.{isEvent};
+ghost use Rattle.rules.specs.declared.Answer.the-variants as Answer;
 ghost use Rattle.terminal.specs.Loop.{keepsSetup, isNothing, stateOf, Looped};
 ghost use Rattle.terminal.specs.Rows.{closedNone, Behind};
 use crate::inner::inner;
@@ -31,10 +34,9 @@ use state::setup::gathered_after;
 use state::setup::setup_after;
 use state::width::columns;
 
-// How a loop ended: its answer, the answer of the last byte that it looked at, its counts, and the state.
+// How a loop ended: its answer, its counts, and the state.
 pub struct Ended {
     pub answer: Answer,
-    pub last: Answer,
     pub taken: usize,
     pub replied: usize,
     pub refused: usize,
@@ -75,6 +77,34 @@ fn refusals(a: Answer) -> usize
     }
 }
 
+fn is_done(a: Answer) -> bool
+    ensures { λ r. ⌜ r ≡ eqb (number a) 0 ⌝ }
+{
+    match a {
+        Answer::Done => true,
+        Answer::HighByte => false,
+        Answer::Unknown => false,
+        Answer::BadArgument => false,
+        Answer::Barred => false,
+        Answer::NoRoom => false,
+        Answer::BadCall => false,
+        Answer::Locked => false,
+    }
+}
+
+fn is_event(a: Answer, replied: usize) -> bool
+    ensures { λ r. ⌜ r ≡ isEvent (number a) replied ⌝ }
+{
+    !and(is_done(a), replied == 0)
+}
+
+// What a loop answers that ends behind a byte.
+fn answer_to(stop: bool, a: Answer) -> Answer
+    ensures { λ r. ⌜ r ≡ pick stop a Answer.Done ⌝ }
+{
+    if stop { a } else { Answer::Done }
+}
+
 fn keeps_setup(x: SetupChange) -> bool
     ensures { λ r. ⌜ r ≡ keepsSetup x ⌝ }
 {
@@ -101,7 +131,6 @@ fn is_nothing(x: Change) -> bool
 
 fn finished(
     answer: Answer,
-    last: Answer,
     taken: usize,
     replied: usize,
     refused: usize,
@@ -110,11 +139,10 @@ fn finished(
     gathered: [u8; 46],
     setup: Setup,
 ) -> Ended
-    ensures { λ r. ⌜ r ≡ record { answer = answer; last = last; taken = taken; replied = replied; refused = refused; core = core; sending = sending; gathered = gathered; setup = setup } ⌝ }
+    ensures { λ r. ⌜ r ≡ record { answer = answer; taken = taken; replied = replied; refused = refused; core = core; sending = sending; gathered = gathered; setup = setup } ⌝ }
 {
     Ended {
         answer: answer,
-        last: last,
         taken: taken,
         replied: replied,
         refused: refused,
@@ -140,8 +168,8 @@ fn follow_text(rows: &mut [u16], page: &[u16], wide: bool, protect: bool, mark: 
     rebuild(rows, page, width as usize, protect);
 }
 
-// The single step repeated, each with the room that is left; it stops before the first byte that answers 6, and behind one whose reply has used
-// the room up and is not over. A row list beside the page follows it.
+// The single step repeated, each with the room that is left; it stops before the first byte that answers 6, behind one whose reply has used
+// the room up and is not over, and, if it is to, behind the first event. A row list beside the page follows it.
 pub fn repeat(
     page: &mut [u16],
     rows: &mut [u16],
@@ -150,14 +178,14 @@ pub fn repeat(
     setup: Setup,
     input: &[u8],
     room: &mut [u8],
+    stop: bool,
 ) -> Ended
     requires { ⌜ (good (now page) (stateOf core gathered setup) ≡ true) × Beside (widthOf (core .screen)) (guardedAt (core .modes .protect) (now page)) (now rows) ⌝ }
-    ensures { λ r. ⌜ Looped (now (page .entry)) (stateOf core gathered setup) (now (input .entry)) (now (room .entry)) r (now (page .exit)) (now (room .exit)) × Beside (widthOf (r .core .screen)) (guardedAt (r .core .modes .protect) (now (page .exit))) (now (rows .exit)) ⌝ }
+    ensures { λ r. ⌜ Looped stop (now (page .entry)) (stateOf core gathered setup) (now (input .entry)) (now (room .entry)) r (now (page .exit)) (now (room .exit)) × Beside (widthOf (r .core .screen)) (guardedAt (r .core .modes .protect) (now (page .exit))) (now (rows .exit)) ⌝ }
 {
     let mut c = core;
     let mut g = gathered;
     let mut u = setup;
-    let mut last = Answer::Done;
     let mut taken = 0;
     let mut replied = 0;
     let mut refused = 0;
@@ -180,7 +208,6 @@ pub fn repeat(
         if is_no_room(a) {
             return finished(
                 Answer::NoRoom,
-                a,
                 taken,
                 replied,
                 refused,
@@ -194,24 +221,26 @@ pub fn repeat(
         c = next;
         taken += 1;
         replied += t.replied;
-        last = a;
         refused += refusals(a);
+        let event = and(stop, is_event(a, t.replied));
         let x = t.change;
         if is_nothing(x) {
+            if event {
+                return finished(a, taken, replied, refused, c, Sending::Nothing, g, u);
+            }
             continue;
-        }
-        let left = sending_after(x, Sending::Nothing);
-        if is_sending(left) {
-            return finished(Answer::Done, last, taken, replied, refused, c, left, g, u);
         }
         let v = setup_after(x, g, u);
         u = v;
         let h = gathered_after(x, g);
         g = h;
+        let left = sending_after(x, Sending::Nothing);
+        if or(event, is_sending(left)) {
+            return finished(answer_to(stop, a), taken, replied, refused, c, left, g, u);
+        }
     }
     finished(
         Answer::Done,
-        last,
         taken,
         replied,
         refused,

@@ -1,14 +1,14 @@
-// The terminal: power-on, the single step, the run over many bytes, both with a row list too, the bytes that a run did not take, and the key
-// press. No call asks anything of its caller, and each promises all that it gives: the answer, every count, and every cell and byte that it was lent.
+// The terminal: power-on, the single step, the run over many bytes, both with a row list too, the run up to the first event, the bytes that a run
+// did not take, and the key press. No call asks anything of its caller, and each promises all that it gives: the answer, every count, and every cell and byte that it was lent.
 mod bytes; // the loop over host bytes
 mod inner; // one byte
 mod key; // what a key sends
 mod text; // runs of text
 
 ghost use mathlib.Core.Path.{_≡_};
-ghost use mathlib.Core.Bool.{true, false};
+ghost use mathlib.Core.Bool.{true};
 ghost use Prim.Native.Nat.{_<_};
-ghost use lib.Dec.{eqb, ltb};
+ghost use lib.Dec.{eqb};
 ghost use lib.ListN.{length, drop};
 ghost use Rattle.rules.specs.Cell.{pick, both};
 ghost use Rattle.rules.specs.Search.{guardedAt};
@@ -17,7 +17,9 @@ ghost use Rattle.rules.specs.Possible.{good};
 ghost use Rattle.rules.specs.Step.{stepRule};
 ghost use Rattle.rules.specs.Calls.{powerOnRule, runRule, pressRule};
 ghost use Rattle.rules.specs.RowList.{Beside, agrees};
-ghost use Rattle.rules.specs.RowCalls.{stepRowsRule, runRowsRule, rowsAfter, rebuildAnswer, rebuilt};
+ghost use Rattle.rules.specs.Next.{replyCommand};
+ghost use Rattle.rules.specs.RowCalls.{stepRowsRule, runRowsRule, suits, nextRowsRule, rowsAfter, rebuildAnswer, rebuilt};
+ghost use Rattle.terminal.specs.Loop.{callTo};
 ghost use Rattle.terminal.specs.Promise.{PoweredOn, Stepped, Completed, KeySent};
 ghost use Rattle.carry.specs.Went.{Went};
 use bytes::repeat;
@@ -44,10 +46,14 @@ use rules::StepResult;
 pub use state::answer_number;
 use state::keys::key_at;
 use state::logic::and;
+use state::logic::or;
 use state::possible::possible;
 use state::power_on_state;
 use state::screen::width_of;
+use state::sending::command_of;
 use state::sending::is_sending;
+pub use state::sending::short_command;
+pub use state::sending::text_command;
 use state::texts::is_key;
 use state::width::NARROW_CELLS;
 use state::width::cells;
@@ -103,22 +109,6 @@ fn no_room(bytes: usize) -> Answer
     }
 }
 
-// Whether an answer takes the step's byte: 0 to 4.
-fn is_taken(a: Answer) -> bool
-    ensures { λ r. ⌜ r ≡ ltb (number a) 6 ⌝ }
-{
-    match a {
-        Answer::Done => true,
-        Answer::HighByte => true,
-        Answer::Unknown => true,
-        Answer::BadArgument => true,
-        Answer::Barred => true,
-        Answer::NoRoom => false,
-        Answer::BadCall => false,
-        Answer::Locked => false,
-    }
-}
-
 // The send under way goes on, on a good page and state; outside a send there is none, and none is left.
 fn resume(page: &[u16], state: State, reply: &mut [u8]) -> Sent
     requires { ⌜ (good (now page) state ≡ true) × (sends (state .sending) ≡ true → 0 < length (now reply)) ⌝ }
@@ -135,66 +125,7 @@ fn resume(page: &[u16], state: State, reply: &mut [u8]) -> Sent
     send(page, core, sending, reply)
 }
 
-// The single step inside a send: its byte waits. Without room 6.
-fn step_inside(page: &[u16], state: State, byte: u8, reply: &mut [u8]) -> StepResult
-    requires { ⌜ (good (now page) state ≡ true) × (sends (state .sending) ≡ true) ⌝ }
-    ensures { λ r. ⌜ Stepped (stepRule (now (page .entry)) state byte (length (now (reply .entry)))) r (now (page .entry)) (now (reply .entry)) (now (reply .exit)) × (r .state .core ≡ state .core) ⌝ }
-{
-    if reply.len() == 0 {
-        return StepResult {
-            answer: Answer::NoRoom,
-            taken: false,
-            replied: 0,
-            state: state,
-        };
-    }
-    let sent = resume(page, state, reply);
-    let left = sent.left;
-    let next = with_sending(state, left);
-    StepResult {
-        answer: Answer::Done,
-        taken: false,
-        replied: sent.replied,
-        state: next,
-    }
-}
-
-// The single step outside a send, on a good page and state, beside a row list or none.
-fn step_beside(
-    page: &mut [u16],
-    rows: &mut [u16],
-    state: State,
-    byte: u8,
-    reply: &mut [u8],
-) -> StepResult
-    requires { ⌜ (good (now page) state ≡ true) × ((sends (state .sending) ≡ false) × Beside (widthOf (state .core .screen)) (guardedAt (state .core .modes .protect) (now page)) (now rows)) ⌝ }
-    ensures { λ r. ⌜ Stepped (stepRule (now (page .entry)) state byte (length (now (reply .entry)))) r (now (page .exit)) (now (reply .entry)) (now (reply .exit)) × Beside (widthOf (r .state .core .screen)) (guardedAt (r .state .core .modes .protect) (now (page .exit))) (now (rows .exit)) ⌝ }
-{
-    let core = state.core;
-    let gathered = state.gathered;
-    let setup = state.setup;
-    let one = [byte];
-    let t = repeat(page, rows, core, gathered, setup, &one, reply);
-    let c = t.core;
-    let y = t.sending;
-    let g = t.gathered;
-    let u = t.setup;
-    let last = t.last;
-    let next = State {
-        core: c,
-        sending: y,
-        gathered: g,
-        setup: u,
-    };
-    StepResult {
-        answer: last,
-        taken: is_taken(last),
-        replied: t.replied,
-        state: next,
-    }
-}
-
-// A run that takes no byte: inside a send, without room or with too little.
+// A run that takes no byte.
 fn waiting(answer: Answer, replied: usize, state: State) -> RunResult
     ensures { λ r. ⌜ r ≡ record { answer = answer; taken = 0; replied = replied; refused = 0; state = state } ⌝ }
 {
@@ -207,25 +138,28 @@ fn waiting(answer: Answer, replied: usize, state: State) -> RunResult
     }
 }
 
-// The run over many bytes, in the same way: a send under way goes on first.
+// The run over many bytes on a good page and state, beside a row list or none: a send under way goes on first. If it is to stop at an event, the
+// send that goes on is one.
 fn run_beside(
     page: &mut [u16],
     rows: &mut [u16],
     state: State,
     input: &[u8],
     reply: &mut [u8],
+    stop: bool,
 ) -> RunResult
     requires { ⌜ (good (now page) state ≡ true) × Beside (widthOf (state .core .screen)) (guardedAt (state .core .modes .protect) (now page)) (now rows) ⌝ }
-    ensures { λ r. ⌜ Completed (runRule (now (page .entry)) state (now (input .entry)) (length (now (reply .entry)))) r (now (input .entry)) (now (page .exit)) (now (reply .entry)) (now (reply .exit)) × Beside (widthOf (r .state .core .screen)) (guardedAt (r .state .core .modes .protect) (now (page .exit))) (now (rows .exit)) ⌝ }
+    ensures { λ r. ⌜ Completed (callTo stop (now (page .entry)) state (now (input .entry)) (length (now (reply .entry)))) r (now (input .entry)) (now (page .exit)) (now (reply .entry)) (now (reply .exit)) × Beside (widthOf (r .state .core .screen)) (guardedAt (r .state .core .modes .protect) (now (page .exit))) (now (rows .exit)) ⌝ }
 {
     let sending = state.sending;
-    if and(is_sending(sending), reply.len() == 0) {
+    let under = is_sending(sending);
+    if and(under, reply.len() == 0) {
         return waiting(no_room(input.len()), 0, state);
     }
     let sent = resume(page, state, reply);
     let start = sent.replied;
     let left = sent.left;
-    if is_sending(left) {
+    if or(is_sending(left), and(stop, under)) {
         let next = with_sending(state, left);
         return waiting(Answer::Done, start, next);
     }
@@ -240,6 +174,7 @@ fn run_beside(
         setup,
         input,
         &mut reply[start..],
+        stop,
     );
     let c = t.core;
     let y = t.sending;
@@ -261,6 +196,29 @@ fn run_beside(
     }
 }
 
+// The single step in the same way: the run over its byte, up to the first event.
+fn step_beside(
+    page: &mut [u16],
+    rows: &mut [u16],
+    state: State,
+    byte: u8,
+    reply: &mut [u8],
+) -> StepResult
+    requires { ⌜ (good (now page) state ≡ true) × Beside (widthOf (state .core .screen)) (guardedAt (state .core .modes .protect) (now page)) (now rows) ⌝ }
+    ensures { λ r. ⌜ Stepped (stepRule (now (page .entry)) state byte (length (now (reply .entry)))) r (now (page .exit)) (now (reply .entry)) (now (reply .exit)) × Beside (widthOf (r .state .core .screen)) (guardedAt (r .state .core .modes .protect) (now (page .exit))) (now (rows .exit)) ⌝ }
+{
+    let one = [byte];
+    let t = run_beside(page, rows, state, &one, reply, true);
+    let answer = t.answer;
+    let next = t.state;
+    StepResult {
+        answer: answer,
+        taken: t.taken == 1,
+        replied: t.replied,
+        state: next,
+    }
+}
+
 // The single step. Ruled out: one that obeys E9h, or answers 0 to what it refuses.
 pub fn step(page: &mut [u16], state: State, byte: u8, reply: &mut [u8]) -> StepResult
     ensures { λ r. ⌜ Stepped (stepRule (now (page .entry)) state byte (length (now (reply .entry)))) r (now (page .exit)) (now (reply .entry)) (now (reply .exit)) ⌝ }
@@ -273,10 +231,6 @@ pub fn step(page: &mut [u16], state: State, byte: u8, reply: &mut [u8]) -> StepR
             state: state,
         };
     }
-    let sending = state.sending;
-    if is_sending(sending) {
-        return step_inside(page, state, byte, reply);
-    }
     let mut none: [u16; 0] = [0; 0];
     step_beside(page, &mut none, state, byte, reply)
 }
@@ -286,16 +240,10 @@ pub fn run(page: &mut [u16], state: State, input: &[u8], reply: &mut [u8]) -> Ru
     ensures { λ r. ⌜ Completed (runRule (now (page .entry)) state (now (input .entry)) (length (now (reply .entry)))) r (now (input .entry)) (now (page .exit)) (now (reply .entry)) (now (reply .exit)) ⌝ }
 {
     if !is_good(page, state) {
-        return RunResult {
-            answer: Answer::BadCall,
-            taken: 0,
-            replied: 0,
-            refused: 0,
-            state: state,
-        };
+        return waiting(Answer::BadCall, 0, state);
     }
     let mut none: [u16; 0] = [0; 0];
-    run_beside(page, &mut none, state, input, reply)
+    run_beside(page, &mut none, state, input, reply, false)
 }
 
 // Whether page and state are good, and the row list agrees with them.
@@ -327,10 +275,6 @@ pub fn step_rows(
             state: state,
         };
     }
-    let sending = state.sending;
-    if is_sending(sending) {
-        return step_inside(page, state, byte, reply);
-    }
     step_beside(page, rows, state, byte, reply)
 }
 
@@ -345,15 +289,52 @@ pub fn run_rows(
     ensures { λ r. ⌜ Completed (runRowsRule (now (page .entry)) (now (rows .entry)) state (now (input .entry)) (length (now (reply .entry)))) r (now (input .entry)) (now (page .exit)) (now (reply .entry)) (now (reply .exit)) × (now (rows .exit) ≡ rowsAfter (now (page .entry)) (now (rows .entry)) state (now (page .exit)) (r .state)) ⌝ }
 {
     if !is_listed(page, rows, state) {
-        return RunResult {
-            answer: Answer::BadCall,
-            taken: 0,
-            replied: 0,
-            refused: 0,
-            state: state,
-        };
+        return waiting(Answer::BadCall, 0, state);
     }
-    run_beside(page, rows, state, input, reply)
+    run_beside(page, rows, state, input, reply, false)
+}
+
+// Whether page and state are good, and the row list agrees with them or is empty.
+fn is_suited(page: &[u16], rows: &[u16], state: State) -> bool
+    ensures { λ r. ⌜ r ≡ both (good (now (page .entry)) state) (suits (now (rows .entry)) (now (page .entry)) state) ⌝ }
+{
+    if rows.len() == 0 {
+        return is_good(page, state);
+    }
+    is_listed(page, rows, state)
+}
+
+// The run up to the first event, with a row list or an empty one. Ruled out: one that goes on past a refusal or a reply, or stops elsewhere.
+pub fn next(
+    page: &mut [u16],
+    rows: &mut [u16],
+    state: State,
+    input: &[u8],
+    reply: &mut [u8],
+) -> RunResult
+    ensures { λ r. ⌜ Completed (nextRowsRule (now (page .entry)) (now (rows .entry)) state (now (input .entry)) (length (now (reply .entry)))) r (now (input .entry)) (now (page .exit)) (now (reply .entry)) (now (reply .exit)) × (now (rows .exit) ≡ rowsAfter (now (page .entry)) (now (rows .entry)) state (now (page .exit)) (r .state)) ⌝ }
+{
+    if !is_suited(page, rows, state) {
+        return waiting(Answer::BadCall, 0, state);
+    }
+    run_beside(page, rows, state, input, reply, true)
+}
+
+// Which command a reply of `next` answers; the send is the one under way before the call. 0 without a reply. Ruled out: one that names the byte
+// behind it.
+pub fn reply_command(sending: Sending, input: &[u8], taken: usize, replied: usize) -> u8
+    ensures { λ r. ⌜ r ≡ replyCommand sending (now (input .entry)) taken replied ⌝ }
+{
+    if replied == 0 {
+        return 0;
+    }
+    if is_sending(sending) {
+        return command_of(sending);
+    }
+    if or(taken == 0, input.len() < taken) {
+        return 0;
+    }
+    input[taken - 1]
 }
 
 // The row list made anew, whatever stood there. Ruled out: one that writes to a list of the wrong length.

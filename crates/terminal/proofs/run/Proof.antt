@@ -1,8 +1,9 @@
 -- `terminal::run` meets its contract.
 use mathlib.Core.Logic.{inl}
+use mathlib.Core.Bool.{false}
 use mathlib.Core.Path.{refl, sym, _∙_}
 use borrow.Author.Tests.{not-true, not-false}
-use Rattle.terminal.proofs.Calls.{run-refused}
+use Rattle.terminal.proofs.Calls.{run-refused, ran-is}
 use borrow.Author.Needs.{needs}
 use Rattle.terminal.proofs.run.Statement.{statement}
 use Rattle.terminal.proofs.run.Tie as tie
@@ -13,10 +14,14 @@ run-spec =
     (tie.spec
     -- is-good-requires
     (λ c κs. search needs)
+    -- waiting-requires
+    (λ c κs. search needs)
     -- same-length
     (λ c. search needs)
     -- returns
-    (λ c. run-refused _ _ (sym (c .before .is-good .ensures) ∙ not-true _ (c .if1 .taken)) _ _)
+    (λ c.
+    let t = c .before in
+    ran-is (c .waiting .ensures) (run-refused _ _ (sym (t .before .is-good .ensures) ∙ not-true _ (t .if1 .taken)) false _ _))
     -- slice-aggregate-run-beside
     (λ c. search needs)
     -- run-beside-requires

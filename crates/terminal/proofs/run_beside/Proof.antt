@@ -1,6 +1,6 @@
 -- `terminal::run_beside` meets its contract.
-use mathlib.Core.Path.{_≡_, refl, sym, ap, subst, _∙_}
-use mathlib.Core.Bool.{Bool, true, false}
+use mathlib.Core.Path.{_≡_, sym, ap, ap₂, _∙_}
+use mathlib.Core.Bool.{Bool, true}
 use Prim.Native.Nat.{_<_}
 use native.Mathlib.Omega.{arith}
 use lib.Dec.{eqb}
@@ -10,11 +10,9 @@ use borrow.Author.Needs.{needs}
 use Rattle.rules.specs.declared.Answer.the-variants as Answer
 use Rattle.rules.specs.declared.State.{State}
 use Rattle.rules.specs.declared.RunResult.{RunResult}
-use Rattle.rules.specs.Cell.{both}
+use Rattle.rules.specs.Cell.{both, either}
 use Rattle.rules.specs.State.{sends}
-use Rattle.rules.specs.Possible.{good}
 use Rattle.rules.proofs.Tests.{both-parts}
-use Rattle.terminal.specs.Loop.{stateOf}
 use Rattle.terminal.proofs.Calls.{run-none, run-sent, run-on, went-fits, ran-is, has-room, good-quiet, back-long, same-core}
 use Rattle.terminal.proofs.run_beside.Statement.{statement}
 use Rattle.terminal.proofs.run_beside.Tie as tie
@@ -30,11 +28,22 @@ tested a = a .and .ensures ∙ ap (λ (t : Bool). both t (eqb (length (now (star
 room : (e : tie.Else1) → sends (start (e .before .before) .args .state .sending) ≡ true → 0 < length (now (start (e .before .before) .args .reply))
 room e u = has-room _ _ (sym (tested (e .before)) ∙ e .if1 .left) u
 
-abbrev resumed : tie.After-is-sending2 → tie.After-resume
-resumed a = a .before .before .before
+abbrev resumed : tie.After-or → tie.After-resume
+resumed a = a .before .before .before .before .before
 
 abbrev passed : tie.After-resume → tie.Else1
 passed r = r .before .before .before
+
+abbrev begun : tie.After-or → tie.Start
+begun a = start (passed (resumed a) .before .before)
+
+-- the second test: the send is not over, or is the event to stop at
+over : (a : tie.After-or)
+    → a .or .result ≡ either (sends (resumed a .resume .result .left)) (both (begun a .args .stop) (sends (begun a .args .state .sending)))
+over a =
+    let i = a .before .before in
+    a .or .ensures ∙ ap₂ either (i .is-sending2 .ensures) (a .before .and2 .ensures
+    ∙ ap (both (begun a .args .stop)) (passed (resumed a) .before .before .is-sending .ensures))
 
 abbrev called : tie.After-struct-known → tie.After-repeat
 called t = t .before .before .before .before .before .before .before .before .before .before
@@ -59,12 +68,17 @@ run-beside-spec =
     let t = c .before .before in
     let s = start (t .before .before) in
     let b = both-parts _ _ (sym (tested (t .before)) ∙ t .if1 .taken) in (
-      ran-is (c .waiting .ensures) (run-none (now (s .args .page)) (s .args .state) (s .pre .0) (b .0) _ _ _ (b .1) (c .before .no-room .ensures)),
+      ran-is (c .waiting .ensures)
+          (run-none (now (s .args .page)) (s .args .state) (s .pre .0) (b .0) (s .args .stop) _ _ _ (b .1) (c .before .no-room .ensures)),
       same-core (c .waiting .result .state) (s .args .state) (now (s .args .page)) (ap (λ (z : RunResult). z .state .core) (c .waiting .ensures)) (s .pre .1),
     ))
     -- resume-requires
     (λ c κs. let e = c .before .before in (start (e .before .before) .pre .0, room e))
     -- is-sending-requires-2
+    (λ c κs. search needs)
+    -- and-requires-2
+    (λ c κs. search needs)
+    -- or-requires
     (λ c κs. search needs)
     -- with-sending-requires
     (λ c κs. search needs)
@@ -79,35 +93,31 @@ run-beside-spec =
     let t = c .before .before in
     let r = resumed (t .before) in
     let e = passed r in
-    let s = start (e .before .before) in (
+    let s = begun (t .before) in (
       ran-is (c .waiting2 .ensures ∙ ap (λ (z : State). record { answer = Answer.Done; taken = 0; replied = r .resume .result .replied; refused = 0; state = z }) (c .before .with-sending .ensures))
-          (run-sent (now (s .args .page)) (s .args .state) (s .pre .0) (r .resume .ensures) (room e) _ (sym (t .before .is-sending2 .ensures) ∙ t .if2 .taken)),
+          (run-sent (now (s .args .page)) (s .args .state) (s .pre .0) (r .resume .ensures) (room e) (s .args .stop) _ (sym (over (t .before)) ∙ t .if2 .taken)),
       same-core (c .waiting2 .result .state) (s .args .state) (now (s .args .page))
           (ap (λ (z : RunResult). z .state .core) (c .waiting2 .ensures) ∙ ap (λ (z : State). z .core) (c .before .with-sending .ensures)) (s .pre .1),
     ))
     -- sub-repeat
-    (λ c. let r = resumed (c .before .before .before .before .before .before) in let e = passed r in let s = start (e .before .before) in
-    omega (arith, went-fits (now (s .args .page)) (s .args .state) (s .pre .0) (r .resume .ensures) (room e), r .resume .kept))
+    (λ c. let a = c .before .before .before .before .before .before in let r = resumed a in let s = begun a in
+    omega (arith, went-fits (now (s .args .page)) (s .args .state) (s .pre .0) (r .resume .ensures) (room (passed r)), r .resume .kept))
     -- part-repeat-start
-    (λ c. let r = resumed (c .before .before .before .before .before .before) in let e = passed r in let s = start (e .before .before) in
-    omega (arith, went-fits (now (s .args .page)) (s .args .state) (s .pre .0) (r .resume .ensures) (room e), r .resume .kept))
+    (λ c. let a = c .before .before .before .before .before .before in let r = resumed a in let s = begun a in
+    omega (arith, went-fits (now (s .args .page)) (s .args .state) (s .pre .0) (r .resume .ensures) (room (passed r)), r .resume .kept))
     -- part-repeat-end
     (λ c. omega arith)
     -- repeat-requires
     (λ c κs.
-    let f = c .before .before .before .before .before .before in
-    let r = resumed (f .before) in
-    let e = passed r in
-    let s = start (e .before .before) in
+    let s = begun (c .before .before .before .before .before .before .before) in
     (good-quiet (now (s .args .page)) (s .args .state) (s .pre .0), s .pre .1))
-    -- add-t23
+    -- add-t24
     (λ c.
     let k = called c in
     let f = sent k in
     let r = resumed (f .before) in
-    let e = passed r in
-    let s = start (e .before .before) in
-    omega (arith, run-on (now (s .args .page)) (s .args .state) (s .pre .0) (r .resume .ensures) (room e) (sym (f .before .is-sending2 .ensures) ∙ f .if2 .left) (k .repeat .ensures .0 .run) .fits, s .good))
+    let s = begun (f .before) in
+    omega (arith, run-on (now (s .args .page)) (s .args .state) (s .pre .0) (r .resume .ensures) (room (passed r)) (s .args .stop) (sym (over (f .before)) ∙ f .if2 .left) (k .repeat .ensures .0) .fits, s .good))
     -- same-length-3
     (λ c. search needs)
     -- same-length-4
@@ -115,16 +125,14 @@ run-beside-spec =
     -- same-length-5
     (λ c.
     let k = called c in
-    let f = sent k in
-    let r = resumed (f .before) in
-    let e = passed r in
-    let s = start (e .before .before) in
-    back-long (now (s .args .page)) (s .args .state) (s .pre .0) (r .resume .ensures) (room e) (k .repeat .last .1 .1 .1 .1 .1 .1 .0) (k .repeat .kept .1 .1 .1 .1 .1 .1 .0))
+    let a = sent k .before in
+    let r = resumed a in
+    let s = begun a in
+    back-long (now (s .args .page)) (s .args .state) (s .pre .0) (r .resume .ensures) (room (passed r)) (k .repeat .last .1 .1 .1 .1 .1 .1 .0) (k .repeat .kept .1 .1 .1 .1 .1 .1 .0))
     -- returns-3
     (λ c.
     let k = called c in
     let f = sent k in
     let r = resumed (f .before) in
-    let e = passed r in
-    let s = start (e .before .before) in
-    (run-on (now (s .args .page)) (s .args .state) (s .pre .0) (r .resume .ensures) (room e) (sym (f .before .is-sending2 .ensures) ∙ f .if2 .left) (k .repeat .ensures .0 .run), k .repeat .ensures .1)))
+    let s = begun (f .before) in
+    (run-on (now (s .args .page)) (s .args .state) (s .pre .0) (r .resume .ensures) (room (passed r)) (s .args .stop) (sym (over (f .before)) ∙ f .if2 .left) (k .repeat .ensures .0), k .repeat .ensures .1)))

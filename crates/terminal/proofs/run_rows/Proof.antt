@@ -1,8 +1,11 @@
 -- `terminal::run_rows` meets its contract.
-use mathlib.Core.Path.{sym, _∙_}
+use mathlib.Core.Path.{sym, ap, _∙_}
 use borrow.Author.Needs.{needs}
 use borrow.Author.Tests.{not-true, not-false}
 use denote.Ref.{now}
+use Rattle.rules.specs.declared.RunResult.{RunResult}
+use Rattle.rules.specs.RowCalls.{rowsAfter}
+use Rattle.terminal.proofs.Calls.{ran-is}
 use Rattle.terminal.proofs.RowCalls.{beside-listed, run-listed, run-unlisted, rows-listed, rows-unlisted}
 use Rattle.terminal.proofs.run_rows.Statement.{statement}
 use Rattle.terminal.proofs.run_rows.Tie as tie
@@ -16,15 +19,21 @@ run-rows-spec =
     (tie.spec
     -- is-listed-requires
     (λ c κs. search needs)
+    -- waiting-requires
+    (λ c κs. search needs)
     -- same-length
     (λ c. search needs)
     -- same-length-2
     (λ c. search needs)
     -- returns
     (λ c.
-    let x = c .before .before .before .before .before .before .before .before .args in
-    let bad = sym (c .before .is-listed .ensures) ∙ not-true _ (c .if1 .taken) in
-    (run-unlisted (now (x .page)) (now (x .rows)) (x .state) bad _ _, rows-unlisted (now (x .page)) (now (x .rows)) (x .state)))
+    let t = c .before in
+    let x = t .before .before .before .before .before .before .before .before .args in
+    let bad = sym (t .before .is-listed .ensures) ∙ not-true _ (t .if1 .taken) in (
+      ran-is (c .waiting .ensures) (run-unlisted (now (x .page)) (now (x .rows)) (x .state) bad _ _),
+      rows-unlisted (now (x .page)) (now (x .rows)) (x .state)
+          ∙ ap (rowsAfter (now (x .page)) (now (x .rows)) (x .state) (now (x .page))) (sym (ap (λ (r : RunResult). r .state) (c .waiting .ensures))),
+    ))
     -- run-beside-requires
     (λ c κs.
     let e = c .before .before .before in

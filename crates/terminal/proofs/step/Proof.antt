@@ -27,25 +27,13 @@ step-spec =
     (λ c. search needs)
     -- returns
     (λ c. step-refused _ _ (sym (c .before .is-good .ensures) ∙ not-true _ (c .if1 .taken)) _ _)
-    -- is-sending-requires
-    (λ c κs. search needs)
-    -- step-inside-requires
-    (λ c κs. let t = c .before .before in (fine (t .before .before), sym (t .before .is-sending .ensures) ∙ t .if2 .taken))
+    -- slice-aggregate-step-beside
+    (λ c. search needs)
+    -- step-beside-requires
+    (λ c κs. (fine (c .before .before .before), inl refl))
     -- same-length-2
     (λ c. search needs)
     -- same-length-3
     (λ c. search needs)
     -- returns-2
-    (λ c. c .before .before .step-inside .ensures .0)
-    -- slice-aggregate-step-beside
-    (λ c. search needs)
-    -- step-beside-requires
-    (λ c κs.
-    let e = c .before .before .before in
-    (fine (e .before .before), (sym (e .before .is-sending .ensures) ∙ e .if2 .left, inl refl)))
-    -- same-length-4
-    (λ c. search needs)
-    -- same-length-5
-    (λ c. search needs)
-    -- returns-3
     (λ c. c .before .before .before .before .before .step-beside .ensures .0))

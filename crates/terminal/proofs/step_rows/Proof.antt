@@ -1,9 +1,8 @@
 -- `terminal::step_rows` meets its contract.
-use mathlib.Core.Path.{_≡_, refl, sym, _∙_}
+use mathlib.Core.Path.{sym, _∙_}
 use borrow.Author.Needs.{needs}
 use borrow.Author.Tests.{not-true, not-false}
 use denote.Ref.{now}
-use Rattle.terminal.proofs.Calls.{same-core}
 use Rattle.terminal.proofs.RowCalls.{beside-listed, step-listed, step-unlisted, rows-listed, rows-unlisted}
 use Rattle.terminal.proofs.step_rows.Statement.{statement}
 use Rattle.terminal.proofs.step_rows.Tie as tie
@@ -26,15 +25,11 @@ step-rows-spec =
     let x = c .before .before .before .before .before .before .before .args in
     let bad = sym (c .before .is-listed .ensures) ∙ not-true _ (c .if1 .taken) in
     (step-unlisted (now (x .page)) (now (x .rows)) (x .state) bad _ _, rows-unlisted (now (x .page)) (now (x .rows)) (x .state)))
-    -- is-sending-requires
-    (λ c κs. search needs)
-    -- step-inside-requires
+    -- step-beside-requires
     (λ c κs.
-    let t = c .before .before in
-    let e = t .before .before in
+    let e = c .before .before .before in
     let x = start e .args in
-    let fine = sym (e .before .is-listed .ensures) ∙ not-false _ (e .if1 .left) in
-    (beside-listed (now (x .page)) (now (x .rows)) (x .state) fine .0, sym (t .before .is-sending .ensures) ∙ t .if2 .taken))
+    beside-listed (now (x .page)) (now (x .rows)) (x .state) (sym (e .before .is-listed .ensures) ∙ not-false _ (e .if1 .left)))
     -- same-length-3
     (λ c. search needs)
     -- same-length-4
@@ -43,32 +38,8 @@ step-rows-spec =
     (λ c. search needs)
     -- returns-2
     (λ c.
-    let r = c .before .before in
-    let e = r .before .before .before .before .before in
-    let x = start e .args in
-    let fine = sym (e .before .is-listed .ensures) ∙ not-false _ (e .if1 .left) in
-    let k = r .step-inside in
-    let b = same-core (k .result .state) (x .state) (now (x .page)) (k .ensures .1) (beside-listed (now (x .page)) (now (x .rows)) (x .state) fine .1) in (
-      step-listed (now (x .page)) (now (x .rows)) (x .state) fine _ (k .ensures .0),
-      rows-listed (now (x .page)) (now (x .rows)) (x .state) fine (k .result .state) (now (x .page)) (now (x .rows)) refl b,
-    ))
-    -- step-beside-requires
-    (λ c κs.
-    let t = c .before .before .before in
-    let e = t .before .before in
-    let x = start e .args in
-    let b = beside-listed (now (x .page)) (now (x .rows)) (x .state) (sym (e .before .is-listed .ensures) ∙ not-false _ (e .if1 .left)) in
-    (b .0, (sym (t .before .is-sending .ensures) ∙ t .if2 .left, b .1)))
-    -- same-length-6
-    (λ c. search needs)
-    -- same-length-7
-    (λ c. search needs)
-    -- same-length-8
-    (λ c. search needs)
-    -- returns-3
-    (λ c.
     let r = c .before .before .before .before .before .before in
-    let e = r .before .before .before .before .before .before in
+    let e = r .before .before .before .before in
     let x = start e .args in
     let fine = sym (e .before .is-listed .ensures) ∙ not-false _ (e .if1 .left) in
     let k = r .step-beside in (

@@ -1,18 +1,18 @@
--- `terminal::is_taken` meets its contract.
+-- `terminal::bytes::is_done` meets its contract.
 use mathlib.Core.Path.{_≡_, sym, ap}
 use Rattle.rules.specs.declared.Answer.{Answer}
 use Rattle.rules.specs.State.{number}
-use lib.Dec.{ltb}
+use lib.Dec.{eqb}
 use borrow.Author.Needs.{needs}
-use Rattle.terminal.proofs.is_taken.Statement.{statement}
-use Rattle.terminal.proofs.is_taken.Tie as tie
+use Rattle.terminal.proofs.bytes.is_done.Statement.{statement}
+use Rattle.terminal.proofs.bytes.is_done.Tie as tie
 
 -- an arm, by the answer that it is for
-arm : {a b : Answer} → a ≡ b → ltb (number b) 6 ≡ ltb (number a) 6
-arm e = sym (ap (λ (a : Answer). ltb (number a) 6) e)
+arm : {a b : Answer} → a ≡ b → eqb (number b) 0 ≡ eqb (number a) 0
+arm e = sym (ap (λ (a : Answer). eqb (number a) 0) e)
 
-pub is-taken-spec : {M : Type 1} → statement M
-is-taken-spec =
+pub is-done-spec : {M : Type 1} → statement M
+is-done-spec =
     tie.close
     (tie.spec
     -- enum-told
