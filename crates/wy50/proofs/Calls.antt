@@ -1,6 +1,6 @@
 -- The exported calls, from the promises of the terminal's: refused where the numbers name no state, else the terminal's, in numbers.
 --     named-bells     a bell count that is named is below 256
---     powered-on, stepped, completed, sent     the terminal's, in numbers
+--     powered-on, stepped, numbered, completed, sent     the terminal's, in numbers
 --     power-on-refused     a number that is no personality
 --     step-refused, run-refused, press-refused     a bad call
 --     step-seven, run-seven     a 7 of the terminal's gives the numbers back as they were
@@ -35,7 +35,7 @@ use Rattle.state.proofs.Tests.{both-left, both-right}
 use Rattle.terminal.specs.Promise as terminal
 use Rattle.wy50.specs.declared.raw.RawState.{RawState}
 use Rattle.wy50.specs.Raw.{allBelow, flag, isPersonality, personalityAt, areFlags, isSequence, isSending, packed, unpacked, named}
-use Rattle.wy50.specs.Promise.{rawGood, rawPowerOn, rawStep, rawRun, rawPress, PoweredOn, Stepped, Completed, Sent}
+use Rattle.wy50.specs.Promise.{rawGood, rawPowerOn, rawStep, rawRan, rawRun, rawPress, PoweredOn, Stepped, Completed, Sent}
 
 pub named-bells : (x : RawState) → named x ≡ true → x .bells < 256
 unfolding named
@@ -131,24 +131,29 @@ module _ {n : ℕ} {y : RawState} where
         fits = h .fits;
       })
 
+  -- a run of the terminal's
+  pub numbered : {o : Ran} {t : RunResult} {l p′ w w′ : List ℕ} → terminal.Completed o t l p′ w w′ → n ≡ number (t .answer) → y ≡ packed (t .state)
+      → Completed (rawRan o) (record { answer = n; taken = t .taken; replied = t .replied; refused = t .refused; state = y }) l p′ w w′
+  numbered h a v = record {
+    answer = a ∙ h .answer;
+    taken = h .taken;
+    replied = h .replied;
+    refused = h .refused;
+    rest = h .rest;
+    state = v ∙ ap packed (h .state);
+    page = h .page;
+    room = h .room;
+    fits = h .fits;
+    within = h .within;
+  }
+
   pub completed : (p : List ℕ) (x : RawState) (l w : List ℕ) {s : State} {t : RunResult} {p′ w′ : List ℕ} → named x ≡ true → s ≡ unpacked x
       → terminal.Completed (runRule p s l (length w)) t l p′ w w′ → n ≡ number (t .answer) → (n ≡ 7 → ⊥) → y ≡ packed (t .state)
       → Completed (rawRun p x l (length w)) (record { answer = n; taken = t .taken; replied = t .replied; refused = t .refused; state = y }) l p′ w w′
   unfolding rawRun
   completed p x l w {s} on e h a z v =
       let g : good p s ≡ true = not-bad (good p s) (λ k. z (a ∙ h .answer ∙ bad-run-seven p s l (length w) k)) in
-      rw (raw-good p x on (ap (good p) (sym e) ∙ g), ← e) (record {
-        answer = a ∙ h .answer;
-        taken = h .taken;
-        replied = h .replied;
-        refused = h .refused;
-        rest = h .rest;
-        state = rw (v, h .state);
-        page = h .page;
-        room = h .room;
-        fits = h .fits;
-        within = h .within;
-      })
+      rw (raw-good p x on (ap (good p) (sym e) ∙ g), ← e) (numbered h a v)
 
 pub sent : (p : List ℕ) (x : RawState) (v : ℕ) (w : List ℕ) {n : ℕ} {s : State} {t : PressResult} {w′ : List ℕ} → named x ≡ true → s ≡ unpacked x
     → terminal.KeySent (pressRule p s v (length w)) t w w′ → n ≡ number (t .answer)

@@ -2,6 +2,7 @@ mod Loops
 mod Zeros
 mod Calls
 mod RowCalls
+mod Next
 pub mod RoundTrip
 pub mod Kept
 pub mod Noninterference

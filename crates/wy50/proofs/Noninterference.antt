@@ -37,7 +37,7 @@ use Rattle.wy50.specs.Noninterference.{RawGiven, RawCalled, rawCall, Raw
 
 -- ---- one call in both terminals
 
-good-named : (p : List ℕ) (x : RawState) → rawGood p x ≡ true → named x ≡ true
+pub good-named : (p : List ℕ) (x : RawState) → rawGood p x ≡ true → named x ≡ true
 unfolding rawGood
 good-named p x e = both-left (named x) (good p (unpacked x)) e
 
@@ -101,7 +101,7 @@ send-conceals (Sending.Text true segment k) h = absurd (false≢true (sym h))
 send-conceals (Sending.Text false false k) h = text-conceals 0x34 k (λ e. omega (arith, e)) (λ e. omega (arith, e))
 send-conceals (Sending.Text false true k) h = text-conceals 0x35 k (λ e. omega (arith, e)) (λ e. omega (arith, e))
 
-numbered-closed : (s : State) → Closed s → RawClosed (packed s)
+pub numbered-closed : (s : State) → Closed s → RawClosed (packed s)
 unfolding packed
 numbered-closed s c = record { on = flag-on (s .core .modes .protect) (c .on); conceals = send-conceals (s .sending) (c .conceals) }
 
@@ -128,7 +128,7 @@ conceals-named y h =
     (λ t. pick-if Hides (eqb c 0x4d) (λ t. refl)
     (λ t. pick-if Hides (eqb c 0x62) (λ t. refl) (λ t. refl))))))))))
 
-unpacked-closed : (x : RawState) → RawClosed x → Closed (unpacked x)
+pub unpacked-closed : (x : RawState) → RawClosed x → Closed (unpacked x)
 unfolding unpacked
 unpacked-closed x c = record { on = unpacked-on x (c .on); conceals = conceals-named (x .sending) (c .conceals) }
 

@@ -31,10 +31,10 @@ use Rattle.wy50.specs.Raw.{flag, packed, unpacked, named}
 use Rattle.wy50.specs.Promise.{rawGood, Stepped, Completed}
 use Rattle.wy50.specs.Rows.{rawListed, rawStepRows, rawRunRows, rawRowsAfter, rawCanRebuild, rawRebuildAnswer, rawRebuilt}
 use Rattle.wy50.proofs.RoundTrip.{possible-fits, unpacked-packed}
-use Rattle.wy50.proofs.Calls.{good-step, bad-seven, good-run, bad-run-seven, not-bad, not-good, raw-good, step-left, run-left}
+use Rattle.wy50.proofs.Calls.{good-step, bad-seven, good-run, bad-run-seven, not-bad, not-good, raw-good, numbered, step-left, run-left}
 
 -- the row list of a good state, by its numbers
-numbers-rows : (p : List ℕ) (s : State) → good p s ≡ true → rowsOf p (unpacked (packed s)) ≡ rowsOf p s
+pub numbers-rows : (p : List ℕ) (s : State) → good p s ≡ true → rowsOf p (unpacked (packed s)) ≡ rowsOf p s
 numbers-rows p s g =
     let w = possible-parts s (good-parts p s g .1) in
     ap (rowsOf p) (unpacked-packed s (w .narrow) (possible-fits (s .core .screen) (s .core .pending) (s .sending) (w .sending)))
@@ -203,18 +203,7 @@ module _ (p l : List ℕ) (x : RawState) (w : List ℕ) {n : ℕ} {s : State} {p
         let state : t .state ≡ runRule p s i (length w) .state = h .state ∙ ap (λ o. o .state) o in
         let after : good p′ (t .state) ≡ true = rw (page, state) (run-good p s i (length w) g) in
         rw (there, ← e) (
-          record {
-            answer = a ∙ h .answer ∙ ap (λ o. o .answer) o;
-            taken = h .taken ∙ ap (λ o. o .taken) o;
-            replied = h .replied ∙ ap (λ o. length (o .reply)) o;
-            refused = h .refused ∙ ap (λ o. o .refused) o;
-            rest = h .rest ∙ ap (λ o. o .rest) o;
-            state = v ∙ ap packed state;
-            page = page;
-            room = h .room ∙ ap (λ o. over (o .reply) w) o;
-            fits = h .fits;
-            within = h .within;
-          },
+          rw o at (numbered h a v),
           k ∙ rw (agreed, v) (sym (numbers-rows p′ (t .state) after)),
         )
 

@@ -5,23 +5,27 @@ use mathlib.Core.Path.{_≡_, refl, sym, ap, ap₂, subst, subst₂, _∙_}
 use mathlib.Core.Bool.{Bool, true, false}
 use mathlib.Core.List.{List, [], _∷_, _++_}
 use Prim.Native.Nat.{ℕ}
+use lib.ListN.{getD, take}
 use Rattle.rules.specs.Cell.{pick, both}
 use Rattle.rules.specs.State.{widthOf}
 use Rattle.rules.specs.Possible.{good}
-use Rattle.rules.specs.Calls.{Call, Step, Run}
+use Rattle.rules.specs.Calls.{Call, Step, Run, ofRun, Given}
 use Rattle.rules.specs.RowList.{rowList, rowsOf, agrees}
-use Rattle.rules.specs.RowCalls.{canRebuild, RowCall, Bare, ListStep, ListRun, Rebuild}
+use Rattle.rules.specs.Next.{nextRule}
+use Rattle.rules.specs.RowCalls.{suits, canRebuild, RowCall, Bare, ListStep, ListRun, Next, Rebuild}
 use Rattle.rules.proofs.Related.{Related, related-length}
-use Rattle.rules.proofs.Noninterference.{guards-agree, start-related, related-kept}
+use Rattle.rules.proofs.Completed.{call-completed, not-true}
+use Rattle.rules.proofs.Next.{next-run}
+use Rattle.rules.proofs.Noninterference.{guards-agree, next-call-agrees, start-related, related-kept}
 use Rattle.terminal.proofs.Noninterference.{front}
 use Rattle.wy50.specs.declared.raw.RawState.{RawState}
-use Rattle.wy50.specs.Raw.{unpacked, named}
-use Rattle.wy50.specs.Promise.{rawGood, rawStep, rawRun, badStep, badRun}
-use Rattle.wy50.specs.Rows.{rawListed, rawStepRows, rawRunRows, rawRowsAfter, rawCanRebuild}
+use Rattle.wy50.specs.Raw.{packed, unpacked, named}
+use Rattle.wy50.specs.Promise.{rawGood, rawStep, rawRan, rawRun, badStep, badRun}
+use Rattle.wy50.specs.Rows.{rawListed, rawStepRows, rawRunRows, rawSuited, rawNext, rawRowsAfter, rawCanRebuild}
 use Rattle.wy50.specs.Noninterference.{RawGiven, RawCalled, ofRawStep, ofRawRun, rawCall, RawCompleted, first, later}
-use Rattle.wy50.specs.RowNoninterference.{RawSession, RawRowCalled, left, listed, rawRowCall, bareCall, bareCalls, RowMade, bare, listStepped, listRan, rebuiltRows, RowPerformed, none, next, RawRowIndistinguishable, RawRowDemand3}
+use Rattle.wy50.specs.RowNoninterference.{RawSession, RawRowCalled, left, listed, ofRawNext, handed, heard, runOf, rawRowCall, bareCall, bareCalls, RowMade, bare, listStepped, listRan, nextHeard, rebuiltRows, RowPerformed, none, next, RawRowIndistinguishable, RawRowDemand3}
 use Rattle.state.proofs.Tests.{both-left}
-use Rattle.wy50.proofs.Noninterference.{RawClosed, AgreeRaw, unpacked-on, both-good, raw-agrees, made-is}
+use Rattle.wy50.proofs.Noninterference.{RawClosed, AgreeRaw, good-named, numbered-closed, unpacked-on, unpacked-closed, both-good, raw-agrees, made-is}
 
 abbrev session : List ℕ → List ℕ → RawState → RawSession
 session p l x = record { page = p; rows = l; state = x }
@@ -52,6 +56,26 @@ run-unlisted : (p l : List ℕ) (x : RawState) (i : List ℕ) (room : ℕ) → r
 unfolding rawRunRows
 run-unlisted p l x i room e = rw e
 
+-- `next` with a list that suits, or refused for it
+next-suited : (p k : List ℕ) (x : RawState) (i : List ℕ) (room : ℕ) → rawSuited p k x ≡ true
+    → (rawNext p k x i room ≡ rawRan (nextRule p (unpacked x) i room)) × (rawGood p x ≡ true)
+unfolding rawNext rawSuited
+next-suited p k x i room e = (rw e, both-left (rawGood p x) (suits k p (unpacked x)) e)
+
+next-unsuited : (p k : List ℕ) (x : RawState) (i : List ℕ) (room : ℕ) → rawSuited p k x ≡ false → rawNext p k x i room ≡ badRun p x i
+unfolding rawNext
+next-unsuited p k x i room e = rw e
+
+-- it leaves what the run over the bytes that it takes leaves
+next-left : (p k : List ℕ) (x : RawState) (i : List ℕ) (room : ℕ) → rawSuited p k x ≡ true
+    → let r = rawNext p k x i room in let q = rawCall p x (Run (take (nextRule p (unpacked x) i room .taken) i) room) in
+    (r .page ≡ q .page) × (r .state ≡ q .given .state)
+unfolding rawCall rawRun
+next-left p k x i room e =
+    let o = next-suited p k x i room e in
+    let r = next-run p (unpacked x) i room in
+    rw (o .0, o .1) (r .0, ap packed (r .1))
+
 module _ {p q a b : List ℕ} (h : Related p q a b) (l : List ℕ) (x : RawState) (closed : RawClosed x) where
   rows-agree : rowsOf a (unpacked x) ≡ rowsOf b (unpacked x)
   rows-agree =
@@ -77,6 +101,34 @@ module _ {p q a b : List ℕ} (h : Related p q a b) (l : List ℕ) (x : RawState
       by true = left-rows k
       by false = refl
 
+  -- `next`, with the list or with none
+  both-suited : (k : List ℕ) → rawSuited a k x ≡ rawSuited b k x
+  unfolding rawSuited
+  both-suited k = rw (both-good h x closed, rows-agree)
+
+  next-agrees : (k i : List ℕ) (room : ℕ) (t : Bool) → rawSuited a k x ≡ t → (RawCompleted (pick t (runOf (session a l x) i room ∷ []) []) a x → ⊥)
+      → AgreeRaw p q (ofRawNext x i (rawNext a k x i room)) (ofRawNext x i (rawNext b k x i room))
+  unfolding ofRun
+  next-agrees k i room true e free =
+      let s = unpacked x in
+      let o = next-suited a k x i room e in
+      let v = next-suited b k x i room (sym (both-suited k) ∙ e) in
+      let c = Run (take (nextRule a s i room .taken) i) room in
+      let r = next-call-agrees h s (unpacked-closed x closed) i room (not-true _ (λ t. free (first (good-named a x (o .1)) (call-completed a s c t)))) in
+      let g : ofRun (nextRule b s i room) .given ≡ ofRun (nextRule a s i room) .given = r .given in
+      rw (o .0, v .0)
+      (record {
+        given = cc (ap (λ (z : Given). z .answer) g, ap (λ (z : Given). getD (z .counts) 0 0) g, ap (λ (z : Given). getD (z .counts) 2 0) g, ap (λ (z : Given). z .reply) g, ap (λ (z : Given). z .rest) g, ap (λ (z : Given). z .state) g);
+        related = r .related;
+        closed = numbered-closed (nextRule a s i room .state) (r .closed);
+      })
+  next-agrees k i room false e free =
+      rw (next-unsuited a k x i room e, next-unsuited b k x i room (sym (both-suited k) ∙ e)) (record { given = refl; related = h; closed = closed })
+
+  heard-agrees : (with : Bool) (c d : RawCalled) → AgreeRaw p q c d → AgreeRows p q (heard with (session a l x) c) (heard with (session b l x) d)
+  heard-agrees true c d k = taken-agrees c d k
+  heard-agrees false c d k = record { called = k; rows = refl }
+
   row-call-agrees : (c : RowCall) → (RawCompleted (bareCall (session a l x) c) a x → ⊥)
       → AgreeRows p q (rawRowCall (session a l x) c) (rawRowCall (session b l x) c)
   unfolding rawRowCall bareCall rawCanRebuild canRebuild good
@@ -95,6 +147,8 @@ module _ {p q a b : List ℕ} (h : Related p q a b) (l : List ℕ) (x : RawState
       by true e free =
           rw (run-listed a l x i room e, run-listed b l x i room (sym both-listed ∙ e)) (raw-agrees h x closed (Run i room) (λ n k. free (first n k)))
       by false e free = rw (run-unlisted a l x i room e, run-unlisted b l x i room (sym both-listed ∙ e)) (record { given = refl; related = h; closed = closed })
+  row-call-agrees (Next with i room) free =
+      heard-agrees with _ _ (next-agrees (handed with (session a l x)) i room (rawSuited a (handed with (session a l x)) x) refl free)
   row-call-agrees Rebuild free =
       rw (related-length h, rows-agree) (record { called = record { given = refl; related = h; closed = closed }; rows = refl })
 
@@ -119,6 +173,13 @@ rest-free x (ListRun i room) {cs} free k = by (rawListed (x .page) (x .rows) (x 
     by true e free k =
         free (later (subst (λ (r : RawCalled). RawCompleted cs (r .page) (r .given .state)) (run-listed (x .page) (x .rows) (x .state) i room e) k))
     by false e free k = free (rw (run-unlisted (x .page) (x .rows) (x .state) i room e) at k)
+rest-free x (Next with i room) {cs} free k = by (rawSuited (x .page) (handed with x) (x .state)) refl free
+  where
+    by : (t : Bool) → rawSuited (x .page) (handed with x) (x .state) ≡ t → (RawCompleted (pick t (runOf x i room ∷ []) [] ++ cs) (x .page) (x .state) → ⊥) → ⊥
+    by true e free =
+        let r = next-left (x .page) (handed with x) (x .state) i room e in
+        free (later (subst₂ (RawCompleted cs) (r .0) (r .1) k))
+    by false e free = free (rw (next-unsuited (x .page) (handed with x) (x .state) i room e) at k)
 rest-free x Rebuild free k = free k
 
 -- nor does its first call
@@ -134,6 +195,8 @@ row-made-is (listStepped {w = w} {w′ = w′} {r = r} h e) =
     cc (h .answer, h .taken, h .state, h .replied, h .page, front _ w w′ (r .replied) (h .replied) (h .room), e)
 row-made-is (listRan {w = w} {w′ = w′} {r = r} h e) =
     cc (h .answer, h .taken, h .replied, h .refused, h .rest, h .state, h .page, front _ w w′ (r .replied) (h .replied) (h .room), e)
+row-made-is (nextHeard {w = w} {w′ = w′} {r = r} h c e) =
+    cc (h .answer, h .taken, h .replied, h .refused, h .rest, h .state, h .page, front _ w w′ (r .replied) (h .replied) (h .room), c, e)
 row-made-is (rebuiltRows h e) = cc (h, e)
 
 performed-agrees : {calls : List RowCall} {p q a b : List ℕ} {l : List ℕ} {x : RawState} {y z : RawSession} {gs hs : List RawGiven} {ls ms : List (List ℕ)}

@@ -23,6 +23,7 @@ use Rattle.rules.specs.declared.State.{State}
 use Rattle.rules.specs.declared.Personality.{Personality}
 use Rattle.rules.specs.declared.Personality.the-variants as Personality
 use Rattle.rules.specs.Cell.{pick, both, either}
+use Rattle.rules.specs.Send.{shortCommand, textCommand}
 use Rattle.wy50.specs.declared.raw.RawKey.{RawKey}
 use Rattle.wy50.specs.declared.raw.RawMessage.{RawMessage}
 use Rattle.wy50.specs.declared.raw.RawModes.{RawModes}
@@ -152,19 +153,6 @@ isSequence q = sameSequence (sequenceOf (pendingOf q)) q
 
 abbrev send : ℕ → ℕ → ℕ → RawSending
 send c k n = record { command = c; kind = k; place = n }
-
--- the byte that asks for a short reply, after ESC but for 05h
-abbrev pub shortCommand : Short → ℕ
-shortCommand Short.Acknowledge = 0x05
-shortCommand Short.Cell = 0x4d
-shortCommand Short.Identity = 0x20
-shortCommand Short.Cursor = 0x3f
-shortCommand Short.SegmentCursor = 0x2f
-shortCommand Short.DecimalCursor = 0x62
-
--- and for a text: ESC 4 and ESC 5, ESC 6 and ESC 7
-abbrev pub textCommand : Bool → Bool → ℕ
-textCommand all segment = pick all (pick segment 0x37 0x36) (pick segment 0x35 0x34)
 
 abbrev pub textSending : ℕ → Place → RawSending
 textSending c (Place.Cell i) = send c 1 i

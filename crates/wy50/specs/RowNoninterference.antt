@@ -1,19 +1,22 @@
 -- Demand 3 of the exported calls with row lists, the statement: two terminals that start with the same numbers and the same list, right or
 -- wrong, run by the same calls, whose promises hold, are indistinguishable.
 use mathlib.Core.Path.{_≡_}
-use mathlib.Core.Bool.{true}
+use mathlib.Core.Bool.{Bool, true}
 use mathlib.Core.List.{List, [], _∷_, _++_}
 use Prim.Native.Nat.{ℕ}
-use lib.ListN.{length}
+use lib.ListN.{length, take, drop}
 use Rattle.rules.specs.Cell.{pick}
 use Rattle.rules.specs.Calls.{Call, Step, Run}
 use Rattle.rules.specs.Noninterference.{AlikePages, KeptPages}
-use Rattle.rules.specs.RowCalls.{RowCall, Bare, ListStep, ListRun, Rebuild}
+use Rattle.rules.specs.Next.{nextRule, replyCommand}
+use Rattle.rules.specs.RowCalls.{RowCall, Bare, ListStep, ListRun, Next, Rebuild}
 use Rattle.wy50.specs.declared.raw.RawState.{RawState}
 use Rattle.wy50.specs.declared.raw.RawStep.{RawStep}
 use Rattle.wy50.specs.declared.raw.RawRun.{RawRun}
-use Rattle.wy50.specs.Promise.{Stepped, Completed}
-use Rattle.wy50.specs.Rows.{rawListed, rawStepRows, rawRunRows, rawRowsAfter, rawRebuildAnswer, rawRebuilt}
+use Rattle.wy50.specs.declared.raw.RawNext.{RawNext}
+use Rattle.wy50.specs.Raw.{unpacked}
+use Rattle.wy50.specs.Promise.{RawRan, Stepped, Completed}
+use Rattle.wy50.specs.Rows.{rawListed, rawStepRows, rawRunRows, rawSuited, rawNext, nextRun, rawRowsAfter, rawRebuildAnswer, rawRebuilt}
 use Rattle.wy50.specs.Noninterference.{RawGiven, RawCalled, ofRawStep, ofRawRun, rawCall, RawCompleted, stepSeen, runSeen, Made, Concealing}
 
 -- what a C caller keeps from call to call
@@ -32,6 +35,35 @@ left r = record { page = r .called .page; rows = r .rows; state = r .called .giv
 abbrev pub listed : RawSession → RawCalled → RawRowCalled
 listed x r = record { called = r; rows = rawRowsAfter (x .page) (x .rows) (x .state) (r .page) (r .given .state) }
 
+-- `next` gives the command too
+abbrev pub ofRawNext : RawState → List ℕ → RawRan → RawCalled
+ofRawNext x bytes o = record {
+  given = record {
+    answer = o .answer;
+    counts = o .taken ∷ length (o .reply) ∷ o .refused ∷ replyCommand (unpacked x .sending) bytes (o .taken) (length (o .reply)) ∷ [];
+    reply = o .reply;
+    rest = o .rest;
+    state = o .state;
+  };
+  page = o .page;
+}
+
+abbrev pub nextSeen : RawNext → List ℕ → List ℕ → RawGiven
+nextSeen r l w = record {
+  answer = r .answer;
+  counts = r .taken ∷ r .replied ∷ r .refused ∷ r .command ∷ [];
+  reply = take (r .replied) w;
+  rest = drop (r .taken) l;
+  state = r .state;
+}
+
+-- the list that `next` is handed, and the one after it: left alone where it was not handed in
+abbrev pub handed : Bool → RawSession → List ℕ
+handed with x = pick with (x .rows) []
+
+abbrev pub heard : Bool → RawSession → RawCalled → RawRowCalled
+heard with x r = record { called = r; rows = pick with (rawRowsAfter (x .page) (x .rows) (x .state) (r .page) (r .given .state)) (x .rows) }
+
 -- the rebuild changes neither page nor numbers
 abbrev pub answering : RawSession → ℕ → RawCalled
 answering x n = record { given = record { answer = n; counts = []; reply = []; rest = []; state = x .state }; page = x .page }
@@ -40,16 +72,22 @@ unfoldable pub rawRowCall : RawSession → RowCall → RawRowCalled
 rawRowCall x (Bare c) = record { called = rawCall (x .page) (x .state) c; rows = x .rows }
 rawRowCall x (ListStep b room) = listed x (ofRawStep (rawStepRows (x .page) (x .rows) (x .state) b room))
 rawRowCall x (ListRun bytes room) = listed x (ofRawRun (rawRunRows (x .page) (x .rows) (x .state) bytes room))
+rawRowCall x (Next with bytes room) = heard with x (ofRawNext (x .state) bytes (rawNext (x .page) (handed with x) (x .state) bytes room))
 rawRowCall x Rebuild = record {
   called = answering x (rawRebuildAnswer (x .page) (x .rows) (x .state));
   rows = rawRebuilt (x .page) (x .rows) (x .state);
 }
+
+-- the run that `next` comes to: over the bytes that it takes
+abbrev pub runOf : RawSession → List ℕ → ℕ → Call
+runOf x bytes room = Run (take (nextRule (x .page) (unpacked (x .state)) bytes room .taken) bytes) room
 
 -- the calls without lists that a list of calls comes to, as in the rules
 unfoldable pub bareCall : RawSession → RowCall → List Call
 bareCall x (Bare c) = c ∷ []
 bareCall x (ListStep b room) = pick (rawListed (x .page) (x .rows) (x .state)) (Step b room ∷ []) []
 bareCall x (ListRun bytes room) = pick (rawListed (x .page) (x .rows) (x .state)) (Run bytes room ∷ []) []
+bareCall x (Next with bytes room) = pick (rawSuited (x .page) (handed with x) (x .state)) (runOf x bytes room ∷ []) []
 bareCall x Rebuild = []
 
 unfoldable pub bareCalls : List RowCall → RawSession → List Call
@@ -63,6 +101,10 @@ pub data RowMade (x : RawSession) : RowCall → RawGiven → List ℕ → List �
       → l′ ≡ rawRowsAfter (x .page) (x .rows) (x .state) p′ (r .state) → RowMade x (ListStep b (length w)) (stepSeen r w′) p′ l′
   listRan : {i w w′ p′ l′ : List ℕ} {r : RawRun} → Completed (rawRunRows (x .page) (x .rows) (x .state) i (length w)) r i p′ w w′
       → l′ ≡ rawRowsAfter (x .page) (x .rows) (x .state) p′ (r .state) → RowMade x (ListRun i (length w)) (runSeen r i w′) p′ l′
+  nextHeard : {with : Bool} {i w w′ p′ l′ : List ℕ} {r : RawNext}
+      → Completed (rawNext (x .page) (handed with x) (x .state) i (length w)) (nextRun r) i p′ w w′
+      → r .command ≡ replyCommand (unpacked (x .state) .sending) i (r .taken) (r .replied)
+      → l′ ≡ pick with (rawRowsAfter (x .page) (x .rows) (x .state) p′ (r .state)) (x .rows) → RowMade x (Next with i (length w)) (nextSeen r i w′) p′ l′
   rebuiltRows : {n : ℕ} {l′ : List ℕ} → n ≡ rawRebuildAnswer (x .page) (x .rows) (x .state) → l′ ≡ rawRebuilt (x .page) (x .rows) (x .state)
       → RowMade x Rebuild (record { answer = n; counts = []; reply = []; rest = []; state = x .state }) (x .page) l′
 

@@ -9,10 +9,11 @@ ghost use lib.ListN.{length};
 ghost use Prim.Native.Nat.{_+_, _*_};
 ghost use Rattle.rules.specs.Cell.{code, protected, kind, attribute, sent};
 ghost use Rattle.wy50.specs.Raw.{flag};
-ghost use Rattle.wy50.specs.Rows.{rawStepRows, rawRunRows, rawRowsAfter, rawRebuildAnswer, rawRebuilt};
+ghost use Rattle.wy50.specs.Rows.{rawStepRows, rawRunRows, Heard, rawRowsAfter, rawRebuildAnswer, rawRebuilt};
 ghost use Rattle.wy50.specs.Promise.{rawPowerOn, rawStep, rawRun, rawPress, PoweredOn, Stepped, Completed, Sent};
 use pack::flag;
 use pack::pack;
+use raw::RawNext;
 use raw::RawPowerOn;
 use raw::RawPress;
 use raw::RawRun;
@@ -25,9 +26,11 @@ use terminal::attribute_of;
 use terminal::code_of;
 use terminal::is_protected;
 use terminal::kind_of;
+use terminal::next;
 use terminal::power_on;
 use terminal::press;
 use terminal::rebuild_rows;
+use terminal::reply_command;
 use terminal::run;
 use terminal::run_rows;
 use terminal::sent_code;
@@ -247,6 +250,53 @@ pub extern "C" fn wy50_run_rows(
         taken: r.taken,
         replied: r.replied,
         refused: r.refused,
+        state: pack(s),
+    }
+}
+
+// The run up to the first event, with a row list or an empty one. Ruled out: one that names another command, or none where it replied.
+#[no_mangle]
+pub extern "C" fn wy50_next(
+    page: &mut [u16],
+    rows: &mut [u16],
+    state: RawState,
+    input: &[u8],
+    reply: &mut [u8],
+) -> RawNext
+    ensures { λ r. ⌜ Heard (now (page .entry)) (now (rows .entry)) state (now (input .entry)) r (now (page .exit)) (now (rows .exit)) (now (reply .entry)) (now (reply .exit)) ⌝ }
+{
+    if !is_named(state) {
+        return RawNext {
+            answer: 7,
+            command: 0,
+            taken: 0,
+            replied: 0,
+            refused: 0,
+            state: state,
+        };
+    }
+    let before = unpack(state);
+    let sending = before.sending;
+    let t = next(page, rows, before, input, reply);
+    let s = t.state;
+    let a = t.answer;
+    let n = answer_number(a);
+    if n == 7 {
+        return RawNext {
+            answer: 7,
+            command: 0,
+            taken: 0,
+            replied: 0,
+            refused: 0,
+            state: state,
+        };
+    }
+    RawNext {
+        answer: n,
+        command: reply_command(sending, input, t.taken, t.replied),
+        taken: t.taken,
+        replied: t.replied,
+        refused: t.refused,
         state: pack(s),
     }
 }

@@ -3,7 +3,7 @@ ghost use mathlib.Core.Path.{_≡_};
 ghost use mathlib.Core.List.{map};
 ghost use Prim.Native.Nat.{_<_};
 ghost use lib.ListN.{getD};
-ghost use Rattle.wy50.specs.Raw.{flag, personalityNumber, shown, gatheredIn, zeroed, kindOf, textSequence, spoiltSequence, sequenceOf, shortCommand, textCommand, textSending, rawSending, rawModes, rawKey, rawMessage, packed};
+ghost use Rattle.wy50.specs.Raw.{flag, personalityNumber, shown, gatheredIn, zeroed, kindOf, textSequence, spoiltSequence, sequenceOf, textSending, rawSending, rawModes, rawKey, rawMessage, packed};
 use crate::raw::RawKey;
 use crate::raw::RawMessage;
 use crate::raw::RawModes;
@@ -18,11 +18,12 @@ use rules::Pending;
 use rules::Personality;
 use rules::Place;
 use rules::Sending;
-use rules::Short;
 use rules::ShortText;
 use rules::Slot;
 use rules::State;
 use state::logic::or;
+use state::sending::short_command;
+use state::sending::text_command;
 
 fn sequence(kind: u16, first: u8, second: u8, third: u16) -> RawSequence
     ensures { λ r. ⌜ r ≡ record { kind = kind; first = first; second = second; third = third } ⌝ }
@@ -99,28 +100,6 @@ fn send(command: u8, kind: u8, place: u16) -> RawSending
         kind: kind,
         place: place,
     }
-}
-
-fn short_command(r: Short) -> u8
-    ensures { λ n. ⌜ n ≡ shortCommand r ⌝ }
-{
-    match r {
-        Short::Acknowledge => 0x05,
-        Short::Cell => 0x4d,
-        Short::Identity => 0x20,
-        Short::Cursor => 0x3f,
-        Short::SegmentCursor => 0x2f,
-        Short::DecimalCursor => 0x62,
-    }
-}
-
-fn text_command(all: bool, segment: bool) -> u8
-    ensures { λ r. ⌜ r ≡ textCommand all segment ⌝ }
-{
-    if all {
-        return if segment { 0x37 } else { 0x36 };
-    }
-    if segment { 0x35 } else { 0x34 }
 }
 
 fn text_sending(command: u8, at: Place) -> RawSending

@@ -94,6 +94,17 @@ pub struct RawRun {
     pub state: RawState,
 }
 
+// The command is 0 where there is no reply.
+#[repr(C)]
+pub struct RawNext {
+    pub answer: u8,
+    pub command: u8,
+    pub taken: usize,
+    pub replied: usize,
+    pub refused: usize,
+    pub state: RawState,
+}
+
 #[repr(C)]
 pub struct RawPress {
     pub answer: u8,
