@@ -36,3 +36,5 @@ pub mod ShiftedLine
 pub mod Numbers
 pub mod PageNumbers
 pub mod Personalities
+pub mod Fields
+pub mod FieldCases

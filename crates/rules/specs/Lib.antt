@@ -11,6 +11,7 @@ pub mod Plan
 pub mod Send
 pub mod Carry
 pub mod Room
+pub mod Fields
 pub mod Step
 pub mod Calls
 pub mod Noninterference
@@ -41,6 +42,7 @@ pub mod ByteCases
 pub mod PossibleCases
 pub mod LabelCases
 pub mod PersonalityCases
+pub mod FieldCases
 pub mod Cases
 pub mod Wide
 pub mod ShiftedLine

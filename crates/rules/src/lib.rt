@@ -376,3 +376,27 @@ pub struct PressResult {
     pub answer: Answer,
     pub replied: usize,
 }
+
+// What is read of a page, as C holds it. A field: its first cell, how many cells it has, and the first one's row and column; 0 cells: there is none.
+#[repr(C)]
+pub struct Field {
+    pub start: usize,
+    pub length: usize,
+    pub row: usize,
+    pub column: usize,
+}
+
+// A cell's row and column, from 0.
+#[repr(C)]
+pub struct Position {
+    pub answer: u8,
+    pub row: usize,
+    pub column: usize,
+}
+
+// The text of a field or a row: how many bytes were put at the front of the room.
+#[repr(C)]
+pub struct TextResult {
+    pub answer: u8,
+    pub length: usize,
+}
