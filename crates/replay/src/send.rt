@@ -12,6 +12,8 @@ use rules::Place;
 use rules::Sending;
 use rules::Short;
 use rules::State;
+use terminal::short_command;
+use terminal::text_command;
 
 // Good if a word spells a send.
 pub struct Reading {
@@ -141,31 +143,13 @@ fn command(out: &mut [u8], at: usize, b: u8) -> usize {
     put(out, n1, b':')
 }
 
-fn short_byte(r: Short) -> u8 {
-    match r {
-        Short::Acknowledge => 0x05,
-        Short::Cell => 0x4d,
-        Short::Identity => 0x20,
-        Short::Cursor => 0x3f,
-        Short::SegmentCursor => 0x2f,
-        Short::DecimalCursor => 0x62,
-    }
-}
-
 fn show_short(out: &mut [u8], at: usize, r: Short, k: usize) -> usize {
-    let n = command(out, at, short_byte(r));
+    let n = command(out, at, short_command(r));
     decimal(out, n, k)
 }
 
-fn text_byte(all: bool, segment: bool) -> u8 {
-    if all {
-        return if segment { 0x37 } else { 0x36 };
-    }
-    if segment { 0x35 } else { 0x34 }
-}
-
 fn show_text(out: &mut [u8], at: usize, all: bool, segment: bool, k: Place) -> usize {
-    let n = command(out, at, text_byte(all, segment));
+    let n = command(out, at, text_command(all, segment));
     match k {
         Place::Cell(i) => decimal(out, n, i as usize),
         Place::Break(i) => named(out, n, b"u", i as usize),

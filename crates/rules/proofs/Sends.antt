@@ -6,7 +6,7 @@
 --                                         follow in the row
 --     places-left, left-ok, sent-add, left-add     a send in two parts
 --     idle-is, not-sending                no sequence, no send under way
---     sent-bound                          a byte for each cell and one for each row at the most
+--     sent-bound, short-most              a byte for each cell and one for each row at the most; 7 bytes of a short reply
 -- Assumes nothing.
 use mathlib.Core.Path.{_≡_, refl, sym, ap, subst, _∙_}
 use mathlib.Core.Bool.{Bool, true, false, not, false≢true}
@@ -536,7 +536,7 @@ module _ {w : ℕ} (k : Width w) where
       (λ h z s m. omega (arith, z)) k h (g .0) (g .1) (cells-most p e i))
   at-bound p e all segment Place.Return h g = omega (arith, width-range k)
 
-short-most : (r : Short) → shortLength r ≤ 7
+pub short-most : (r : Short) → shortLength r ≤ 7
 short-most Short.Acknowledge = omega arith
 short-most Short.Cell = omega arith
 short-most Short.Identity = omega arith

@@ -32,6 +32,7 @@ use Rattle.rules.specs.declared.Personality.the-variants as Personality
 use Rattle.rules.specs.Cell.{pick, both, either}
 use Rattle.rules.specs.State.{isIdle, withTabs}
 use Rattle.rules.specs.Possible.{noStops, tabsOk, shortLength, sendingOk}
+use Rattle.rules.proofs.Sends.{short-most}
 use Rattle.state.proofs.Tests.{both-left, both-right}
 use Rattle.wy50.specs.declared.raw.RawModes.{RawModes}
 use Rattle.wy50.specs.declared.raw.RawSequence.{RawSequence}
@@ -151,14 +152,6 @@ abbrev pub sendingFits : Sending → Bool
 sendingFits Sending.Nothing = true
 sendingFits (Sending.Short r n) = ltb n 256
 sendingFits (Sending.Text all segment k) = true
-
-short-most : (r : Short) → shortLength r ≤ 7
-short-most Short.Acknowledge = omega arith
-short-most Short.Cell = omega arith
-short-most Short.Identity = omega arith
-short-most Short.Cursor = omega arith
-short-most Short.SegmentCursor = omega arith
-short-most Short.DecimalCursor = omega arith
 
 -- so it is in a possible state
 pub possible-fits : (x : Screen) (q : Pending) (y : Sending) → sendingOk x q y ≡ true → sendingFits y ≡ true
