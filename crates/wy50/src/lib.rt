@@ -277,9 +277,9 @@ pub extern "C" fn wy50_next(
     }
     let before = unpack(state);
     let sending = before.sending;
-    let t = next(page, rows, before, input, reply);
-    let s = t.state;
-    let a = t.answer;
+    let heard = next(page, rows, before, input, reply);
+    let s = heard.state;
+    let a = heard.answer;
     let n = answer_number(a);
     if n == 7 {
         return RawNext {
@@ -293,10 +293,10 @@ pub extern "C" fn wy50_next(
     }
     RawNext {
         answer: n,
-        command: reply_command(sending, input, t.taken, t.replied),
-        taken: t.taken,
-        replied: t.replied,
-        refused: t.refused,
+        command: reply_command(sending, input, heard.taken, heard.replied),
+        taken: heard.taken,
+        replied: heard.replied,
+        refused: heard.refused,
         state: pack(s),
     }
 }
