@@ -3,6 +3,7 @@
 pub mod raw; // the structs that cross
 mod pack; // the numbers of a state
 mod unpack; // the state that numbers name
+pub mod reading; // fields, texts and places of a page
 
 ghost use mathlib.Core.Path.{_≡_};
 ghost use lib.ListN.{length};
