@@ -13,6 +13,8 @@
  * other it takes a byte or sends one. Hand it the rest while there is some, and call again while a send is under way: loop while
  * (left > 0 || state.sending.command != 0).
  *
+ * A run counts refusals and joins replies. Who must know of each which byte it answers calls wy50_next instead, in the same loop.
+ *
  * What ESC 4 to ESC 7 send ends at the cursor. A program that wants a whole form has the host go to its last cell first, or reads the page itself.
  *
  * Threads: a terminal is its page and its state. Different terminals may be used at the same time, one terminal by one thread at a time.
@@ -189,6 +191,20 @@ enum {
     WY50_SENT_RETURN = 3 /* the CR; place is 0 */
 };
 
+/* The commands that reply, each by its number: ENQ by its own byte, the others by the byte after ESC. */
+enum {
+    WY50_ASKS_ACKNOWLEDGE = 5,      /* ENQ: replies 06h */
+    WY50_ASKS_IDENTITY = ' ',       /* 50 or 60, and CR */
+    WY50_ASKS_SEGMENT_CURSOR = '/', /* the segment, row and column of the cursor, and CR */
+    WY50_ASKS_OPEN_ROW = '4',       /* the row's cells that are not protected */
+    WY50_ASKS_OPEN_SEGMENT = '5',   /* the segment's cells that are not protected: an alert */
+    WY50_ASKS_ROW = '6',            /* the row, protected cells too */
+    WY50_ASKS_SEGMENT = '7',        /* the segment, protected cells too */
+    WY50_ASKS_CURSOR = '?',         /* the row and column of the cursor, and CR */
+    WY50_ASKS_CELL = 'M',           /* the cell under the cursor */
+    WY50_ASKS_DECIMAL_CURSOR = 'b'  /* the row and column of the cursor in digits */
+};
+
 /* The send under way: a reply that has begun and is not over. It goes on at the next call, before any byte is taken. */
 typedef struct wy50_sending {
     uint8_t command; /* the byte after ESC of the command that asked for it: ' ' '/' '4' '5' '6' '7' '?' 'b'; 0: no send is under way */
@@ -271,6 +287,15 @@ typedef struct wy50_run_result {
     wy50_state state;
 } wy50_run_result;
 
+typedef struct wy50_next_result {
+    uint8_t answer;  /* 0 to 4, 6 or 7 */
+    uint8_t command; /* the command that the reply answers, by its number; 0 without a reply */
+    size_t taken;    /* bytes taken; the rest of the input starts at input + taken */
+    size_t replied;  /* reply bytes */
+    size_t refused;  /* 1 if the last byte taken answered 1 to 4, else 0 */
+    wy50_state state;
+} wy50_next_result;
+
 typedef struct wy50_press_result {
     uint8_t answer; /* 0, 3, 6, 7 or 8 */
     size_t replied; /* reply bytes */
@@ -292,6 +317,38 @@ wy50_step_result wy50_step(uint16_t *page, size_t page_len, wy50_state state, ui
  * for ever. Over no bytes a run sends what is left of a send. The joined replies, the page and the state do not depend on the rooms. */
 wy50_run_result wy50_run(uint16_t *page, size_t page_len, wy50_state state, const uint8_t *input, size_t input_len, uint8_t *reply,
                          size_t reply_len);
+
+/* A run up to the first event: it takes bytes up to and including the first that replies or is refused, and tells which. That byte is
+ * input[taken - 1].
+ *
+ *     answer 0, replied > 0   it replied, and command says what was asked
+ *     answer 0, replied == 0  there was no event: all bytes are taken
+ *     answer 1 to 4           it was refused, and refused is 1
+ *     answer 6                the byte at input[taken] is not taken: its reply is due, and there is no room
+ *     answer 7                nothing changed
+ *
+ * While a send is under way no byte is taken, not even where the send is then over: it sends as much as fits, and command is that send's. So a
+ * reply begins where a byte is taken, and it is whole where state.sending.command is 0 afterwards.
+ *
+ * A row list, as below, may be lent or not: NULL with 0 is none. One that is lent and not the page's answers 7.
+ *
+ * A loop of it, through rooms of any sizes, comes to what one run with room enough gives, and over one byte it is the step:
+ *
+ *     while (left > 0 || state.sending.command != 0) {
+ *         wy50_next_result r = wy50_next(page, WY50_CELLS, NULL, 0, state, bytes, left, room, sizeof room);
+ *         if (r.answer == WY50_BAD_CALL)
+ *             abort();
+ *         if (r.refused)
+ *             refusal(bytes[r.taken - 1], r.answer);
+ *         if (r.replied > 0)
+ *             reply(r.command, room, r.replied, r.state.sending.command == 0);
+ *         state = r.state;
+ *         bytes += r.taken;
+ *         left -= r.taken;
+ *     }
+ */
+wy50_next_result wy50_next(uint16_t *page, size_t page_len, uint16_t *rows, size_t rows_len, wy50_state state, const uint8_t *input,
+                           size_t input_len, uint8_t *reply, size_t reply_len);
 
 /* A function key is pressed: 40h to 4Fh or 60h to 6Fh. The reply is its bytes; 01h key 0Dh if it is not programmed. The page is only
  * measured, and neither it nor the state changes. A key's bytes are never cut: they fit, or the answer is 6, and so it is during a send. */

@@ -80,6 +80,7 @@ static void every_byte(void)
     static uint16_t after[WY50_CELLS];
     int i;
     wy50_run_result r, s;
+    wy50_next_result n;
     for (i = 0; i < 256; i++) {
         uint8_t b = (uint8_t)i;
         wy50_step_result x = wy50_step(page, WY50_CELLS, state, b, reply, 0), y;
@@ -98,6 +99,12 @@ static void every_byte(void)
         r = wy50_run_rows(page, WY50_CELLS, rows, WY50_ROW_NUMBERS, state, &b, 1, NO_BYTES, 0);
         CHECK(r.taken == x.taken && r.replied == 0 && same(&x.state, &r.state) && memcmp(page, after, sizeof page) == 0);
         reset();
+        n = wy50_next(page, WY50_CELLS, NO_NUMBERS, 0, state, &b, 1, NO_BYTES, 0);
+        CHECK(n.answer == x.answer && n.taken == x.taken && n.replied == 0 && same(&x.state, &n.state) && memcmp(page, after, sizeof page) == 0);
+        reset();
+        n = wy50_next(page, WY50_CELLS, rows, WY50_ROW_NUMBERS, state, &b, 1, NO_BYTES, 0);
+        CHECK(n.answer == x.answer && n.taken == x.taken && n.replied == 0 && same(&x.state, &n.state) && memcmp(page, after, sizeof page) == 0);
+        reset();
         l = wy50_press(page, WY50_CELLS, state, b, NO_BYTES, 0);
         CHECK(k.answer == l.answer && k.replied == 0 && l.replied == 0);
     }
@@ -106,6 +113,10 @@ static void every_byte(void)
     CHECK(r.answer == WY50_DONE && s.answer == WY50_DONE && s.taken == 0 && r.replied == s.replied && same(&r.state, &s.state));
     s = wy50_run_rows(page, WY50_CELLS, rows, WY50_ROW_NUMBERS, state, NO_BYTES, 0, reply, sizeof reply);
     CHECK(s.answer == WY50_DONE && s.taken == 0 && r.replied == s.replied && same(&r.state, &s.state));
+    n = wy50_next(page, WY50_CELLS, NO_NUMBERS, 0, state, NO_BYTES, 0, reply, sizeof reply);
+    CHECK(n.answer == WY50_DONE && n.taken == 0 && n.replied == r.replied && n.command == state.sending.command && same(&r.state, &n.state));
+    n = wy50_next(page, WY50_CELLS, NO_NUMBERS, 0, state, NO_BYTES, 0, NO_BYTES, 0);
+    CHECK(n.answer == WY50_DONE && n.taken == 0 && n.replied == 0 && n.command == 0 && n.refused == 0);
     r = wy50_run(page, WY50_CELLS, state, reply, 0, reply, 0);
     s = wy50_run(page, WY50_CELLS, state, NO_BYTES, 0, NO_BYTES, 0);
     CHECK(r.answer == s.answer && s.taken == 0 && s.replied == 0 && same(&r.state, &s.state));
@@ -121,6 +132,7 @@ static void no_page(void)
     uint16_t list[WY50_ROW_NUMBERS];
     wy50_step_result x;
     wy50_run_result r;
+    wy50_next_result n;
     memcpy(list, rows, sizeof list);
     memset(reply, 0x55, sizeof reply);
     x = wy50_step(NO_NUMBERS, 0, state, 5, reply, sizeof reply);
@@ -145,6 +157,10 @@ static void no_page(void)
     CHECK(r.answer == WY50_BAD_CALL && r.taken == 0 && r.replied == 0 && r.refused == 0 && same(&r.state, &state));
     r = wy50_run_rows(NO_NUMBERS, 0, NO_NUMBERS, 0, state, NO_BYTES, 0, NO_BYTES, 0);
     CHECK(r.answer == WY50_BAD_CALL && r.taken == 0 && r.replied == 0 && r.refused == 0 && same(&r.state, &state));
+    n = wy50_next(NO_NUMBERS, 0, rows, WY50_ROW_NUMBERS, state, text, 2, reply, sizeof reply);
+    CHECK(n.answer == WY50_BAD_CALL && n.command == 0 && n.taken == 0 && n.replied == 0 && n.refused == 0 && same(&n.state, &state));
+    n = wy50_next(NO_NUMBERS, 0, NO_NUMBERS, 0, state, NO_BYTES, 0, NO_BYTES, 0);
+    CHECK(n.answer == WY50_BAD_CALL && n.command == 0 && n.taken == 0 && n.replied == 0 && n.refused == 0 && same(&n.state, &state));
     CHECK(wy50_rebuild_rows(NO_NUMBERS, 0, rows, WY50_ROW_NUMBERS, state) == WY50_BAD_CALL);
     CHECK(wy50_rebuild_rows(page, WY50_CELLS, NO_NUMBERS, 0, state) == WY50_BAD_CALL);
     CHECK(wy50_rebuild_rows(NO_NUMBERS, 0, NO_NUMBERS, 0, state) == WY50_BAD_CALL);

@@ -625,6 +625,7 @@ static void refused(const wy50_state *x, size_t page_len)
     size_t i;
     wy50_step_result s;
     wy50_run_result r;
+    wy50_next_result e;
     wy50_press_result k;
     for (i = 0; i < WY50_CELLS; i++)
         before[i] = page[i] = (uint16_t)(i * 37);
@@ -633,6 +634,8 @@ static void refused(const wy50_state *x, size_t page_len)
     CHECK(s.answer == WY50_BAD_CALL && s.taken == 0 && s.replied == 0 && same(&s.state, x));
     r = wy50_run(page, page_len, *x, input, 4, reply, sizeof reply);
     CHECK(r.answer == WY50_BAD_CALL && r.taken == 0 && r.replied == 0 && r.refused == 0 && same(&r.state, x));
+    e = wy50_next(page, page_len, NULL, 0, *x, input, 4, reply, sizeof reply);
+    CHECK(e.answer == WY50_BAD_CALL && e.command == 0 && e.taken == 0 && e.replied == 0 && e.refused == 0 && same(&e.state, x));
     k = wy50_press(page, page_len, *x, 0x40, reply, sizeof reply);
     CHECK(k.answer == WY50_BAD_CALL && k.replied == 0);
     CHECK(memcmp(page, before, sizeof page) == 0);

@@ -230,9 +230,32 @@ static void repeated(size_t cells, wy50_state x, const uint8_t *input, size_t n,
 static uint8_t whole[(MOST_INPUT / 2 + 2) * WY50_LONGEST_REPLY], parts[sizeof whole];
 static uint16_t page_parts[MOST_PAGE];
 
+/* A loop of next through any rooms against that one run, whose replies and page are still there. */
+static void heard(size_t cells, wy50_state x, const uint8_t *input, size_t n, const wy50_run_result *r)
+{
+    size_t taken = 0, all = 0, refused = 0;
+    memcpy(page_parts, page_before, cells * sizeof *page_parts);
+    while (taken < n || x.sending.command != 0) {
+        size_t room = below(below(3) ? 70 : WY50_LONGEST_REPLY + 1);
+        wy50_next_result s = wy50_next(page_parts, cells, NULL, 0, x, n ? input + taken : NULL, n - taken, parts + all, room < sizeof parts - all ? room : sizeof parts - all);
+        expect(s.answer != WY50_BAD_CALL, "a good state stays good");
+        expect(s.answer == 0 || s.replied == 0, "a refusal replies nothing");
+        expect(s.taken == n - taken || s.answer != 0 || s.replied > 0, "a next stops at an event alone");
+        taken += s.taken;
+        all += s.replied;
+        refused += s.refused;
+        x = s.state;
+        calls++;
+    }
+    expect(all == r->replied && memcmp(parts, whole, all) == 0, "a loop of next gives the replies of one run");
+    expect(refused == r->refused && same(&x, &r->state), "a loop of next gives the refusals and the state of one run");
+    expect(memcmp(page_parts, page_stepped, cells * sizeof *page_parts) == 0, "a loop of next gives the page of one run");
+}
+
 static void narrowed(size_t cells, wy50_state x, const uint8_t *input, size_t n)
 {
     size_t taken = 0, all = 0, refused = 0;
+    wy50_state from;
     wy50_run_result r, s;
     memcpy(page_stepped, page_before, cells * sizeof *page_stepped);
     memcpy(page_parts, page_before, cells * sizeof *page_parts);
@@ -240,7 +263,7 @@ static void narrowed(size_t cells, wy50_state x, const uint8_t *input, size_t n)
     if (r.answer == WY50_BAD_CALL)
         return;
     expect(r.answer == 0 && r.taken == n && r.state.sending.command == 0, "a roomy run leaves nothing");
-    x = tidied(x);
+    from = x = tidied(x);
     do {
         size_t room = 1 + below(below(3) ? 70 : WY50_LONGEST_REPLY);
         s = wy50_run(page_parts, cells, x, n ? input + taken : NULL, n - taken, parts + all, room < sizeof parts - all ? room : sizeof parts - all);
@@ -256,6 +279,7 @@ static void narrowed(size_t cells, wy50_state x, const uint8_t *input, size_t n)
     expect(all == r.replied && memcmp(parts, whole, all) == 0, "through small rooms the joined replies are the same");
     expect(refused == r.refused && same(&x, &r.state), "through small rooms the counts and the state are the same");
     expect(memcmp(page_parts, page_stepped, cells * sizeof *page_parts) == 0, "through small rooms the page is the same");
+    heard(cells, from, input, n, &r);
 }
 
 /* What a call with a row list is lent: the page and the room as the call without it found them, and a list. */
@@ -346,6 +370,39 @@ static void listed_run(size_t cells, wy50_state x, const uint8_t *input, size_t 
     lent(cells, right ? page : page_before, room, right ? reply : room_before, s.answer, &s.state);
 }
 
+/* A next, with a row list or none: single steps up to the first event. With a wrong list 7 and nothing. */
+static void listed_next(size_t cells, wy50_state x, const uint8_t *input, size_t n, size_t room)
+{
+    int right = lend(cells, room, &x) || rows_len == 0;
+    wy50_next_result r = wy50_next(lent_page, cells, rows, rows_len, x, input, n, lent_reply, room);
+    wy50_step_result s;
+    size_t taken = 0;
+    s = wy50_step(lent_page, cells, x, 0xe9, NULL, 0);
+    if (!right || s.answer == WY50_BAD_CALL) {
+        expect(r.answer == WY50_BAD_CALL && r.command == 0 && r.taken == 0 && r.replied == 0 && r.refused == 0 && same(&r.state, &x), "a next of a bad call changes nothing");
+        lent(cells, page_before, room, room_before, WY50_BAD_CALL, &x);
+        return;
+    }
+    copy(page_stepped, page_before, cells * sizeof *page_stepped);
+    copy(joined, room_before, room);
+    s.answer = 0;
+    s.taken = 1;
+    s.replied = 0;
+    s.state = tidied(x);
+    while (taken < n && s.taken && s.answer == 0 && s.replied == 0) {
+        s = wy50_step(page_stepped, cells, s.state, input[taken], joined, room);
+        taken += s.taken;
+        calls++;
+    }
+    if (n == 0 && x.sending.command != 0 && room > 0)
+        s = wy50_step(page_stepped, cells, x, 0xe9, joined, room);
+    expect(r.answer == s.answer && r.taken == taken && r.replied == s.replied, "a next ends as the steps do at the first event");
+    expect(r.refused == (s.answer >= 1 && s.answer <= 4), "a next counts its refusal");
+    expect(r.command == (r.replied == 0 ? 0 : x.sending.command ? x.sending.command : input[taken - 1]), "a next names the command of its reply");
+    expect(same(&r.state, &s.state), "a next leaves the state of the steps");
+    lent(cells, page_stepped, room, joined, r.answer, &r.state);
+}
+
 static void rebuilt(size_t cells, wy50_state x)
 {
     int answer;
@@ -429,6 +486,7 @@ static wy50_state turn(wy50_state last, uint16_t *kept)
         untouched(&input_buffer);
         repeated(cells, x, input, n, room, &r, page, reply);
         listed_run(cells, x, input, n, room, r, page, reply);
+        listed_next(cells, x, input, n, room);
         if (below(4) == 0)
             narrowed(cells, x, input, n);
         answered_7 += r.answer == 7;
