@@ -32,6 +32,8 @@
 //! assert_eq!(line.len(), 3 * 80 + 5 + 3 + 1); // three rows and a part of one, US between them, CR
 //! ```
 //!
+//! [`Terminal::feed`] joins replies and counts refusals; [`Terminal::next`] stops at each and tells which byte it answers.
+//!
 //! [`Terminal::with_row_list`] takes long feeds faster over forms that are mostly labels, and changes nothing else.
 //!
 //! It links the proved library libwy50.a (see `build.rs`), which keeps nothing between calls and allocates nothing; neither does this crate.
@@ -39,6 +41,7 @@
 
 mod answer;
 mod cell;
+mod event;
 mod features;
 mod personality;
 mod sending;
@@ -48,6 +51,7 @@ mod sys;
 pub use answer::Answer;
 pub use cell::{Attributes, Cell, Field, Kind, Row};
 use core::fmt;
+pub use event::{Command, Event, Next};
 pub use features::{CursorStyle, Features, ProtectedLook, Scrolling};
 pub use personality::Personality;
 pub use sending::{Place, Sending};
@@ -174,6 +178,38 @@ impl Terminal {
         };
         self.state = ran.state;
         Fed { answer: Answer::of(ran.answer), taken: ran.taken, replied: ran.replied, refused: ran.refused, rest: &bytes[ran.taken..] }
+    }
+
+    /// Bytes from the host up to and including the first that replies or is refused, and which it is. While a send is under way it goes on and no byte
+    /// is taken, not even where it is then over. A loop of it, through rooms of any sizes, comes to what one [`feed`](Self::feed) with room enough
+    /// gives. With any room but 0 each call takes a byte or sends one, so this loop ends:
+    ///
+    /// ```
+    /// use wy50::{Answer, Command, Event, Terminal};
+    ///
+    /// let mut terminal = Terminal::new();
+    /// let mut room = [0; 4]; // what the line lends at a time
+    /// let mut bytes: &[u8] = b"\x1b)Roast: \x1b(dark, caf\xe9\x1b5";
+    /// let mut alert: Vec<u8> = Vec::new();
+    /// let mut refused = Vec::new();
+    /// while !bytes.is_empty() || terminal.sending().is_some() {
+    ///     let next = terminal.next(bytes, &mut room);
+    ///     match next.event {
+    ///         Some(Event::Reply { command: Command::OpenSegment, bytes, .. }) => alert.extend(bytes),
+    ///         Some(Event::Refused { byte, answer, .. }) => refused.push((byte, answer)),
+    ///         Some(Event::BadCall | Event::NoRoom) => unreachable!("from power-on, with a room"),
+    ///         Some(Event::Reply { .. }) | None => {}
+    ///     }
+    ///     bytes = next.rest;
+    /// }
+    /// assert_eq!(alert, b"\x1cdark, caf \r");
+    /// assert_eq!(refused, [(0xe9, Answer::HighByte)]);
+    /// ```
+    pub fn next<'a, 'r>(&mut self, bytes: &'a [u8], reply: &'r mut [u8]) -> Next<'a, 'r> {
+        let rows = self.row_list.as_mut().map_or(&mut [][..], |list| &mut list[..]);
+        let next = sys::next(&mut self.page, rows, self.state, bytes, reply);
+        self.state = next.state;
+        Next::of(&next, bytes, reply)
     }
 
     /// One byte from the host, with its own answer. During a send it sends what fits, and the byte waits.

@@ -4,7 +4,7 @@ use crate::sys::RawSending;
 /// A reply that has begun and is not over: the room ended inside it. It goes on at the next call, before any byte is taken.
 #[derive(Clone, Copy, Debug, PartialEq, Eq, Hash)]
 pub struct Sending {
-    /// The byte after ESC of the command that asked for it.
+    /// The byte after ESC of the command that asked for it: the number of its [`Command`](crate::Command).
     pub command: u8,
     pub place: Place,
 }

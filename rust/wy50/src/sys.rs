@@ -111,6 +111,16 @@ pub struct RawRun {
 }
 
 #[repr(C)]
+pub struct RawNext {
+    pub answer: u8,
+    pub command: u8,
+    pub taken: usize,
+    pub replied: usize,
+    pub refused: usize,
+    pub state: State,
+}
+
+#[repr(C)]
 pub struct RawPress {
     pub answer: u8,
     pub replied: usize,
@@ -133,6 +143,17 @@ mod linked {
             reply: *mut u8,
             reply_len: usize,
         ) -> RawRun;
+        pub fn wy50_next(
+            page: *mut u16,
+            page_len: usize,
+            rows: *mut u16,
+            rows_len: usize,
+            state: State,
+            input: *const u8,
+            input_len: usize,
+            reply: *mut u8,
+            reply_len: usize,
+        ) -> RawNext;
         pub fn wy50_press(page: *const u16, page_len: usize, state: State, key: u8, reply: *mut u8, reply_len: usize) -> RawPress;
         pub fn wy50_step_rows(
             page: *mut u16,
@@ -182,6 +203,14 @@ pub fn step(page: &mut [u16; CELLS], state: State, byte: u8, reply: &mut [u8]) -
 pub fn run(page: &mut [u16; CELLS], state: State, input: &[u8], reply: &mut [u8]) -> RawRun {
     // SAFETY: as above; the input is only read, and overlaps neither of the slices that are lent for writing.
     unsafe { linked::wy50_run(page.as_mut_ptr(), page.len(), state, input.as_ptr(), input.len(), reply.as_mut_ptr(), reply.len()) }
+}
+
+// The row list is of no numbers where there is none.
+pub fn next(page: &mut [u16; CELLS], rows: &mut [u16], state: State, input: &[u8], reply: &mut [u8]) -> RawNext {
+    let (page, page_len) = (page.as_mut_ptr(), page.len());
+    let (rows, rows_len) = (rows.as_mut_ptr(), rows.len());
+    // SAFETY: as above, with three slices that are lent for writing.
+    unsafe { linked::wy50_next(page, page_len, rows, rows_len, state, input.as_ptr(), input.len(), reply.as_mut_ptr(), reply.len()) }
 }
 
 pub fn press(page: &[u16; CELLS], state: State, key: u8, reply: &mut [u8]) -> RawPress {

@@ -1,5 +1,6 @@
 //! The wrapper against include/wy50.h: every constant of it has its number here too, and the answers have the same words.
 use std::collections::BTreeMap;
+use wy50::Command;
 use wy50::{
     library_version, Answer, Attributes, CursorStyle, Features, Kind, Personality, Place, ProtectedLook, RawSending, Scrolling, Sending,
     SequenceKind, Terminal, CELLS, COLUMNS, KEYS, KEY_BYTES, LABELS, LABEL_BYTES, LONGEST_REPLY, MESSAGE_BYTES, ROWS, ROW_NUMBERS, VERSION,
@@ -79,6 +80,22 @@ fn answers() -> Vec<(&'static str, Answer)> {
     ]
 }
 
+fn commands() -> Vec<(&'static str, Command)> {
+    use Command::*;
+    vec![
+        ("WY50_ASKS_ACKNOWLEDGE", Acknowledge),
+        ("WY50_ASKS_IDENTITY", Identity),
+        ("WY50_ASKS_SEGMENT_CURSOR", SegmentCursor),
+        ("WY50_ASKS_OPEN_ROW", OpenRow),
+        ("WY50_ASKS_OPEN_SEGMENT", OpenSegment),
+        ("WY50_ASKS_ROW", Row),
+        ("WY50_ASKS_SEGMENT", Segment),
+        ("WY50_ASKS_CURSOR", Cursor),
+        ("WY50_ASKS_CELL", Cell),
+        ("WY50_ASKS_DECIMAL_CURSOR", DecimalCursor),
+    ]
+}
+
 /// All that the wrapper has, by the header's name.
 fn ours() -> BTreeMap<String, usize> {
     let mut all: Vec<(&str, usize)> = vec![
@@ -132,6 +149,7 @@ fn ours() -> BTreeMap<String, usize> {
     ];
     all.extend(bytes.map(|(name, byte)| (name, usize::from(byte))));
     all.extend(answers().into_iter().map(|(name, answer)| (name, usize::from(answer.number()))));
+    all.extend(commands().into_iter().map(|(name, command)| (name, usize::from(command.number()))));
     all.extend(kinds().into_iter().map(|(name, kind)| (name, usize::from(kind.number()))));
     all.into_iter().map(|(name, number)| (name.to_string(), number)).collect()
 }
@@ -144,9 +162,10 @@ fn every_constant() {
 /// Each number names what it is the number of, and no other number names anything.
 #[test]
 fn there_and_back() {
-    let (answers, kinds) = (answers(), kinds());
+    let (answers, kinds, commands) = (answers(), kinds(), commands());
     for n in 0..=u8::MAX {
         assert_eq!(Answer::from_number(n), answers.iter().map(|&(_, a)| a).find(|a| a.number() == n));
+        assert_eq!(Command::from_number(n), commands.iter().map(|&(_, c)| c).find(|c| c.number() == n));
         assert_eq!(Personality::from_number(n), [Personality::Wy50, Personality::Wy60].into_iter().find(|p| p.number() == n));
         assert_eq!(Kind::from_number(n).map(Kind::number), (n < 3).then_some(n));
         assert_eq!(CursorStyle::from_code(n).map(CursorStyle::code), b"2345".contains(&n).then_some(n));
