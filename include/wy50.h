@@ -47,6 +47,7 @@ enum {
     WY50_CELLS = 1920,         /* the page, in reading order */
     WY50_ROW_NUMBERS = 48,     /* a row list: two numbers for each row */
     WY50_LONGEST_REPLY = 1944, /* no reply is longer */
+    WY50_LONGEST_TEXT = 132,   /* no text of a field or a row is longer */
     WY50_KEYS = 32,
     WY50_KEY_BYTES = 8,
     WY50_LABELS = 16,
@@ -379,6 +380,51 @@ uint8_t wy50_cell_protected(uint16_t cell);
 uint8_t wy50_cell_kind(uint16_t cell);
 uint8_t wy50_cell_attribute(uint16_t cell);
 uint8_t wy50_cell_sent(uint16_t cell);
+
+/* Reading a page. Its length says how wide it is: 1,920 cells have 80 columns and 3,168 have 132; both have 24 rows. Cells, rows and columns count
+ * from 0, as the cursors of a state do. No call below looks at a state or changes a page, but wy50_cursor, which reads the state.
+ *
+ * A field is a longest stretch of cells within one row that are not marked protected, whatever protect mode says: what ESC 5 sends between its FS, US
+ * and CR. So no byte of a label is ever in a field's text. */
+typedef struct wy50_field {
+    size_t start;  /* its first cell */
+    size_t length; /* how many cells it has; 0: there is no field */
+    size_t row;    /* where it starts */
+    size_t column;
+} wy50_field;
+
+typedef struct wy50_text_result {
+    uint8_t answer; /* 0, 3, 6 or 7 */
+    size_t length;  /* how many bytes were put at the front of the room; 0 with any answer but 0 */
+} wy50_text_result;
+
+typedef struct wy50_position {
+    uint8_t answer; /* 0, 3 or 7; row and column are 0 with any answer but 0 */
+    size_t row;
+    size_t column;
+} wy50_position;
+
+/* The first field that starts at the cell from or behind it; one with length 0, all numbers 0, where there is none. A page of another length has
+ * none. All fields:
+ *
+ *     for (f = wy50_next_field(page, n, 0); f.length > 0; f = wy50_next_field(page, n, f.start + f.length)) */
+wy50_field wy50_next_field(const uint16_t *page, size_t page_len, size_t from);
+
+/* The text of the field that starts at the cell start: the bytes that a send gives for its cells, 20h to 7Eh. With trim other than 0 its trailing spaces
+ * are dropped. It is put at the front of the room; what lies beyond it is not touched. Answers 7 for a page of another length, 3 where no field starts,
+ * 6 where the text does not fit; then nothing is put there. WY50_LONGEST_TEXT bytes are always enough. */
+wy50_text_result wy50_field_text(const uint16_t *page, size_t page_len, size_t start, uint8_t trim, uint8_t *text, size_t text_len);
+
+/* The text of a row, labels too, likewise; 3 for a row from 24 on. */
+wy50_text_result wy50_row_text(const uint16_t *page, size_t page_len, size_t row, uint8_t trim, uint8_t *text, size_t text_len);
+
+/* The row and column of a cell in a page of page_len cells; 3 for a cell outside it, 7 for another length. And back: the cell at a row and column, or
+ * page_len where there is none. */
+wy50_position wy50_position_of(size_t page_len, size_t cell);
+size_t wy50_cell_at(size_t page_len, size_t row, size_t column);
+
+/* The row and column of the active segment's cursor, in the page; 3 for a cursor outside it, which no possible state has. */
+wy50_position wy50_cursor(wy50_state state);
 
 #ifdef __cplusplus
 }
