@@ -1,4 +1,4 @@
-//! A cell's number, and cells together: rows and open fields.
+//! A cell's number, and a row of cells.
 
 use crate::sys;
 use core::fmt::{self, Write};
@@ -126,42 +126,6 @@ impl fmt::Display for Row<'_> {
     }
 }
 
-/// A field: cells of a row that follow each other and are not marked protected. It displays as the bytes that a send gives.
-#[derive(Clone, Copy, Debug, PartialEq, Eq)]
-pub struct Field<'a> {
-    start: usize,
-    cells: &'a [u16],
-}
-
-impl<'a> Field<'a> {
-    /// The field's first cell, from 0.
-    pub fn start(self) -> usize {
-        self.start
-    }
-
-    pub fn cells(self) -> impl DoubleEndedIterator<Item = Cell> + ExactSizeIterator + 'a {
-        self.cells.iter().copied().map(Cell)
-    }
-}
-
-impl fmt::Display for Field<'_> {
-    fn fmt(&self, f: &mut fmt::Formatter<'_>) -> fmt::Result {
-        write_cells(f, self.cells)
-    }
-}
-
-fn write_cells(f: &mut fmt::Formatter<'_>, cells: &[u16]) -> fmt::Result {
+pub(crate) fn write_cells(f: &mut fmt::Formatter<'_>, cells: &[u16]) -> fmt::Result {
     cells.iter().try_for_each(|&v| f.write_char(Cell(v).sent().into()))
-}
-
-/// The fields of the cells `from` up to `to`.
-pub(crate) fn fields(page: &[u16], from: usize, to: usize) -> impl Iterator<Item = Field<'_>> + '_ {
-    let marked = move |at: usize| Cell(page[at]).is_protected();
-    let mut at = from;
-    core::iter::from_fn(move || {
-        let start = (at..to).find(|&i| !marked(i))?;
-        let end = (start..to).find(|&i| marked(i)).unwrap_or(to);
-        at = end;
-        Some(Field { start, cells: &page[start..end] })
-    })
 }

@@ -43,16 +43,18 @@ mod answer;
 mod cell;
 mod event;
 mod features;
+mod field;
 mod personality;
 mod sending;
 mod sequence;
 mod sys;
 
 pub use answer::Answer;
-pub use cell::{Attributes, Cell, Field, Kind, Row};
+pub use cell::{Attributes, Cell, Kind, Row};
 use core::fmt;
 pub use event::{Command, Event, Next};
 pub use features::{CursorStyle, Features, ProtectedLook, Scrolling};
+pub use field::{Field, Fields, Position, ProtectOff, Text};
 pub use personality::Personality;
 pub use sending::{Place, Sending};
 pub use sequence::SequenceKind;
@@ -273,6 +275,11 @@ impl Terminal {
         usize::from(if screen.active == 0 { screen.cursor0 } else { screen.cursor1 })
     }
 
+    /// The active cursor's row and column, in the page. A state that is filled in may have it outside the page.
+    pub fn cursor_position(&self) -> Option<Position> {
+        Position::at(sys::cursor(self.state))
+    }
+
     /// Protect mode is on: protected cells are guarded.
     pub fn protects(&self) -> bool {
         self.state.modes.protect != 0
@@ -310,10 +317,35 @@ impl Terminal {
         self.page.iter().copied().map(Cell)
     }
 
-    /// The fields in reading order, as ESC 5 sends them: the longest stretches of cells within a row that are not marked protected, whatever
-    /// protect mode says. So no label is in a field, before protect mode goes on and after it goes off.
-    pub fn fields(&self) -> impl Iterator<Item = Field<'_>> + '_ {
-        (0..ROWS).flat_map(|row| cell::fields(&self.page, row * COLUMNS, (row + 1) * COLUMNS))
+    /// The text of a row, from 0, labels too, without trailing spaces; there are [`ROWS`].
+    pub fn row_text(&self, row: usize) -> Option<Text> {
+        Text::read(|room| sys::row_text(&self.page, row, true, room))
+    }
+
+    /// The fields in reading order, as ESC 5 sends them: the longest stretches of cells within a row that are not marked protected. While protect mode
+    /// is off that is said, since there may be no form, and the fields are still to be had.
+    ///
+    /// ```
+    /// use wy50::Terminal;
+    ///
+    /// let mut terminal = Terminal::new();
+    /// let fed = terminal.feed(b"\x1b)Roast: \x1b(\x1b&dark", &mut []);
+    /// assert_eq!(fed.refused, 0);
+    /// let roast = terminal.fields().unwrap().next().unwrap();
+    /// assert_eq!((roast.row(), roast.column(), roast.text().as_str()), (0, 7, "dark"));
+    ///
+    /// let fed = terminal.feed(b"\x1b'", &mut []); // the host turns protect mode off
+    /// assert_eq!(fed.refused, 0);
+    /// let off = terminal.fields().unwrap_err();
+    /// assert_eq!(off.fields().next().unwrap().text().as_str(), "dark");
+    /// ```
+    pub fn fields(&self) -> Result<Fields<'_>, ProtectOff<'_>> {
+        let fields = Fields::new(&self.page);
+        if self.protects() {
+            Ok(fields)
+        } else {
+            Err(ProtectOff::new(fields))
+        }
     }
 }
 

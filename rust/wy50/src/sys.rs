@@ -126,6 +126,27 @@ pub struct RawPress {
     pub replied: usize,
 }
 
+#[repr(C)]
+pub struct RawField {
+    pub start: usize,
+    pub length: usize,
+    pub row: usize,
+    pub column: usize,
+}
+
+#[repr(C)]
+pub struct RawText {
+    pub answer: u8,
+    pub length: usize,
+}
+
+#[repr(C)]
+pub struct RawPosition {
+    pub answer: u8,
+    pub row: usize,
+    pub column: usize,
+}
+
 mod linked {
     use super::*;
 
@@ -182,12 +203,19 @@ mod linked {
         pub safe fn wy50_cell_kind(cell: u16) -> u8;
         pub safe fn wy50_cell_attribute(cell: u16) -> u8;
         pub safe fn wy50_cell_sent(cell: u16) -> u8;
+        pub fn wy50_next_field(page: *const u16, page_len: usize, from: usize) -> RawField;
+        pub fn wy50_field_text(page: *const u16, page_len: usize, start: usize, trim: u8, text: *mut u8, text_len: usize) -> RawText;
+        pub fn wy50_row_text(page: *const u16, page_len: usize, row: usize, trim: u8, text: *mut u8, text_len: usize) -> RawText;
+        pub safe fn wy50_position_of(page_len: usize, cell: usize) -> RawPosition;
+        pub safe fn wy50_cell_at(page_len: usize, row: usize, column: usize) -> usize;
+        pub safe fn wy50_cursor(state: State) -> RawPosition;
     }
 }
 
 pub use linked::{
-    wy50_cell_attribute as cell_attribute, wy50_cell_code as cell_code, wy50_cell_kind as cell_kind, wy50_cell_protected as cell_protected,
-    wy50_cell_sent as cell_sent, wy50_version as version,
+    wy50_cell_at as cell_at, wy50_cell_attribute as cell_attribute, wy50_cell_code as cell_code, wy50_cell_kind as cell_kind,
+    wy50_cell_protected as cell_protected, wy50_cell_sent as cell_sent, wy50_cursor as cursor, wy50_position_of as position_of,
+    wy50_version as version,
 };
 
 pub fn power_on(page: &mut [u16; CELLS], personality: u8) -> RawPowerOn {
@@ -235,4 +263,19 @@ pub fn run_rows(page: &mut [u16; CELLS], rows: &mut [u16; ROW_NUMBERS], state: S
 pub fn rebuild_rows(page: &[u16; CELLS], rows: &mut [u16; ROW_NUMBERS], state: State) -> u8 {
     // SAFETY: as above; the page is only read.
     unsafe { linked::wy50_rebuild_rows(page.as_ptr(), page.len(), rows.as_mut_ptr(), rows.len(), state) }
+}
+
+pub fn next_field(page: &[u16; CELLS], from: usize) -> RawField {
+    // SAFETY: as above; the page is only read.
+    unsafe { linked::wy50_next_field(page.as_ptr(), page.len(), from) }
+}
+
+pub fn field_text(page: &[u16; CELLS], start: usize, trim: bool, text: &mut [u8]) -> RawText {
+    // SAFETY: as above.
+    unsafe { linked::wy50_field_text(page.as_ptr(), page.len(), start, trim.into(), text.as_mut_ptr(), text.len()) }
+}
+
+pub fn row_text(page: &[u16; CELLS], row: usize, trim: bool, text: &mut [u8]) -> RawText {
+    // SAFETY: as above.
+    unsafe { linked::wy50_row_text(page.as_ptr(), page.len(), row, trim.into(), text.as_mut_ptr(), text.len()) }
 }

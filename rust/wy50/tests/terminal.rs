@@ -1,7 +1,7 @@
 //! The wrapper against the rules: the bench list where it is short, the tail handed back, rows, cells, fields, answers, row lists, personalities, sends.
 use wy50::{
-    Answer, Attributes, Cell, Kind, Personality, Place, Replied, Row, Sending, State, Terminal, CELLS, COLUMNS, LONGEST_REPLY, ROWS,
-    ROW_NUMBERS,
+    Answer, Attributes, Cell, Kind, Personality, Place, Position, Replied, Row, Sending, State, Terminal, CELLS, COLUMNS, LONGEST_REPLY,
+    ROWS, ROW_NUMBERS,
 };
 
 /// Feeds all of it; the reply of all of it.
@@ -243,15 +243,41 @@ fn personalities() {
 fn fields() {
     let mut t = Terminal::new();
     fed(&mut t, b"\x1b,\x1b(\x1b= \x25dark \x1b= \x6eA\x1b=! B\x1b&");
-    let fields: Vec<_> = t.fields().map(|f| (f.start(), f.to_string())).collect();
-    assert_eq!(fields, [(5, "dark ".to_string()), (78, "A".to_string()), (80, "B".to_string())]);
+    let told = |t: &Terminal| t.fields().unwrap().map(|f| (f.start(), f.to_string())).collect::<Vec<_>>();
+    assert_eq!(told(&t), [(5, "dark ".to_string()), (78, "A".to_string()), (80, "B".to_string())]);
     fed(&mut t, b"\x1b'\x1b=! \x1b= \x6fC\x1b&");
-    let fields: Vec<_> = t.fields().map(|f| (f.start(), f.to_string())).collect();
-    assert_eq!(fields, [(5, "dark ".to_string()), (78, "AC".to_string()), (80, "B".to_string())]);
+    assert_eq!(told(&t), [(5, "dark ".to_string()), (78, "AC".to_string()), (80, "B".to_string())]);
+    let places: Vec<_> = t.fields().unwrap().map(|f| (f.row(), f.column(), f.cells().len(), f.text().to_string())).collect();
+    assert_eq!(places, [(0, 5, 5, "dark".to_string()), (0, 78, 2, "AC".to_string()), (1, 0, 1, "B".to_string())]);
     fed(&mut t, b"\x1b'");
-    assert_eq!(t.fields().map(|f| f.start()).collect::<Vec<_>>(), [5, 78, 80], "protect mode off tells no label");
+    let off = t.fields().expect_err("protect mode off is said");
+    assert_eq!(off.to_string(), "protect mode is off");
+    assert_eq!(off.fields().map(|f| f.start()).collect::<Vec<_>>(), [5, 78, 80], "and tells no label");
     fed(&mut t, b"\x1b+");
-    assert_eq!(t.fields().map(|f| f.cells().len()).collect::<Vec<_>>(), [COLUMNS; ROWS]);
+    assert_eq!(t.fields().unwrap_err().fields().map(|f| f.cells().len()).collect::<Vec<_>>(), [COLUMNS; ROWS]);
+}
+
+/// Rows as text, and places as row and column.
+#[test]
+fn texts_and_places() {
+    let mut t = Terminal::new();
+    fed(&mut t, b"\x1b)Roast:\x1b( dark  ");
+    assert_eq!(t.row_text(0).unwrap().as_str(), "Roast: dark");
+    assert_eq!((t.row_text(1).unwrap().len(), t.row_text(ROWS)), (0, None));
+    assert_eq!(t.cursor_position(), Some(Position { row: 0, column: 13 }));
+    fed(&mut t, b"\x1bx1\x2c\x1b}\x1f");
+    assert_eq!(t.cursor_position(), Position::of(t.cursor()));
+    for cell in 0..CELLS {
+        let place = Position::of(cell).unwrap();
+        assert_eq!((place.row, place.column, place.cell()), (cell / COLUMNS, cell % COLUMNS, Some(cell)));
+    }
+    assert_eq!(
+        (Position::of(CELLS), Position { row: 0, column: COLUMNS }.cell(), Position { row: ROWS, column: 0 }.cell()),
+        (None, None, None)
+    );
+    let mut state = *t.state();
+    (state.screen.active, state.screen.cursor0) = (0, 1920);
+    assert_eq!(Terminal::from_parts(*t.page(), state).cursor_position(), None);
 }
 
 #[test]
