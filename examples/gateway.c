@@ -30,7 +30,7 @@
 #include <wy50.h>
 #include <wy50_counter.h>
 
-enum { FS = 0x1c, US = 0x1f }; /* part the pieces of a reply to ESC 5 */
+enum { ESC = 0x1b, FS = 0x1c, US = 0x1f }; /* FS and US part the pieces of a reply to ESC 5 */
 
 /* ---- the terminal */
 
@@ -38,36 +38,19 @@ static uint16_t page[WY50_CELLS];
 static wy50_state state;
 static uint8_t personality = WY50_PERSONALITY_50;
 
-/* What the last of some bytes came to. */
-struct event {
-    uint8_t byte;
-    uint8_t answer;
-    int asked;    /* it was the 5 of ESC 5 */
-    int clears;   /* it was the last byte of ESC *, ESC + or ESC , */
-    size_t reply; /* bytes of its reply */
-};
-
-/* Takes host bytes up to and including the first that replies, is refused or clears the page, and says which; how many it took. The room
- * holds any reply. */
-static size_t take(const uint8_t *bytes, size_t count, uint8_t room[WY50_LONGEST_REPLY], struct event *event)
+/* Takes host bytes up to and including the first that replies or is refused, and tells which. A form begins with ESC *, ESC + or ESC , which reply
+ * nothing: so it stops behind each ESC too, and the byte after ESC comes alone. The room holds any reply. */
+static wy50_next_result take(const uint8_t *bytes, size_t count, uint8_t room[WY50_LONGEST_REPLY], int *form_begins)
 {
-    size_t taken = 0;
-    int notable = 0;
-    while (taken < count && !notable) {
-        uint8_t byte = bytes[taken++];
-        int after_escape = state.sequence.kind == WY50_ESCAPE;
-        wy50_step_result r = wy50_step(page, WY50_CELLS, state, byte, room, WY50_LONGEST_REPLY);
-        if (r.answer == WY50_BAD_CALL)
-            abort(); /* page and state are the library's own */
-        state = r.state;
-        event->byte = byte;
-        event->answer = r.answer;
-        event->reply = r.replied;
-        event->asked = after_escape && byte == '5';
-        event->clears = after_escape && (byte == '*' || byte == '+' || byte == ',');
-        notable = r.answer != WY50_DONE || r.replied > 0 || event->clears;
-    }
-    return taken;
+    const uint8_t *escape = memchr(bytes, ESC, count);
+    int after_escape = state.sequence.kind == WY50_ESCAPE;
+    size_t some = after_escape ? 1 : escape ? (size_t)(escape - bytes) + 1 : count;
+    wy50_next_result r = wy50_next(page, WY50_CELLS, NULL, 0, state, bytes, some, room, WY50_LONGEST_REPLY);
+    if (r.answer == WY50_BAD_CALL)
+        abort(); /* page and state are the library's own */
+    state = r.state;
+    *form_begins = after_escape && (*bytes == '*' || *bytes == '+' || *bytes == ',');
+    return r;
 }
 
 /* ---- refusals since the form was drawn */
@@ -80,13 +63,13 @@ static struct refusal {
 } refusals[REMEMBERED];
 static size_t refused;
 
-static void remember_refusal(const struct event *event)
+static void remember_refusal(uint8_t byte, uint8_t answer)
 {
     unsigned at = state.screen.active ? state.screen.cursor1 : state.screen.cursor0;
     if (refused < REMEMBERED) {
         struct refusal *r = refusals + refused;
-        r->byte = event->byte;
-        r->answer = event->answer;
+        r->byte = byte;
+        r->answer = answer;
         r->row = at / WY50_COLUMNS + 1;
         r->column = at % WY50_COLUMNS + 1;
     }
@@ -309,15 +292,16 @@ static int play(int line)
     for (;;) {
         struct pollfd wait = {line, 0, 0};
         while (at < end && QUEUE - queued >= WY50_LONGEST_REPLY) {
-            struct event event;
-            at += take(in + at, end - at, queue + queued, &event);
-            if (event.answer != WY50_DONE)
-                remember_refusal(&event);
-            else if (event.clears)
+            int form_begins;
+            wy50_next_result r = take(in + at, end - at, queue + queued, &form_begins);
+            at += r.taken;
+            if (r.refused)
+                remember_refusal(in[at - 1], r.answer);
+            else if (form_begins)
                 refused = 0;
-            else if (event.asked)
-                tell(queue + queued, event.reply);
-            queued += deaf ? 0 : event.reply;
+            else if (r.command == WY50_ASKS_OPEN_SEGMENT)
+                tell(queue + queued, r.replied);
+            queued += deaf ? 0 : r.replied;
         }
         wait.events = (short)((open && at == end ? POLLIN : 0) | (queued > 0 ? POLLOUT : 0));
         if (wait.events == 0)

@@ -165,6 +165,20 @@ def held_until_drawn_anew():
     return host.end(sent("Guji"), sent("Harrar"), held=(refused, refused, "a byte is outside the alphabet", "the text is empty"))
 
 
+def drawn_anew():
+    """A form begins with ESC *, ESC + or ESC , also where the line cuts it in two; not with these bytes in a text, an argument or a message."""
+    host, fill = Host(), at(1, 1) + b"Guji" + ESC + b"5"
+    line = host.line()
+    others = (b"*+,", ESC + b"=,+", ESC + b"F" + ESC + b",\r", ESC + ESC + b",", ESC + b"G,")
+    line.sendall(b"".join(b"\xe9" + other + fill for other in others))
+    for clear in (b"*", b"+", b",", b"\xe9,"):
+        line.sendall(b"\xe9" + ESC)
+        time.sleep(0.1)
+        line.sendall(clear + fill)
+    guji = {"fields": ["Guji"], "text": "Guji", "units": 4, "parts": 1, "refused": 0}
+    return host.end(*[guji] * 4, held=["bytes were refused since the form was drawn"] * len(others))
+
+
 def pieces():
     """One piece alone is sent; where a piece is not there, nothing."""
     host = Host("-f", "10", "-l", "10")
@@ -263,7 +277,7 @@ def not_there_at_first():
 
 
 failed = 0
-for host in (well, slow, silent, cut_in_a_sequence, rubbish, held_until_drawn_anew, pieces, reads_no_replies, never_reads_and_breaks, stalled_and_gone,
+for host in (well, slow, silent, cut_in_a_sequence, rubbish, held_until_drawn_anew, drawn_anew, pieces, reads_no_replies, never_reads_and_breaks, stalled_and_gone,
              ends_and_comes_back, ends_its_side, not_there_at_first):
     try:
         used = host()
