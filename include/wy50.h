@@ -325,7 +325,7 @@ wy50_run_result wy50_run(uint16_t *page, size_t page_len, wy50_state state, cons
  *     answer 0, replied > 0   it replied, and command says what was asked
  *     answer 0, replied == 0  there was no event: all bytes are taken
  *     answer 1 to 4           it was refused, and refused is 1
- *     answer 6                the byte at input[taken] is not taken: its reply is due, and there is no room
+ *     answer 6                a reply is due and there is no room; the byte at input[taken] waits
  *     answer 7                nothing changed
  *
  * While a send is under way no byte is taken, not even where the send is then over: it sends as much as fits, and command is that send's. So a

@@ -124,6 +124,19 @@ static void replies(void)
     }
     part("each command's reply and number, through rooms of each length, inside its send too");
 
+    for (i = 0; i < 512; i++) {
+        uint8_t byte = (uint8_t)(i / 2);
+        size_t j, asks = 0;
+        START("\033)No\033(!");
+        if (i % 2)
+            CHECK(NEXT("\033", 0) == WY50_DONE);
+        for (j = 0; j < sizeof all / sizeof *all; j++)
+            asks += all[j].command == byte && strlen(all[j].asks) == 1 + i % 2;
+        next((const char *)&byte, 1, sizeof reply);
+        CHECK(last.command == (asks ? byte : 0));
+    }
+    part("no other byte replies, alone or after ESC");
+
     START("");
     CHECK(NEXT("", sizeof reply) == WY50_DONE && TOLD(0, 0, ""));
     CHECK(NEXT("some text, \033=  and more", 0) == WY50_DONE && TOLD(0, 23, "") && page[0] == 'a');

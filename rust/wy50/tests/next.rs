@@ -51,6 +51,26 @@ fn each_reply() {
     }
 }
 
+/// Every byte that replies, alone or after ESC, is a command by name.
+#[test]
+fn every_command() {
+    let mut found = Vec::new();
+    for (before, byte) in [&b""[..], b"\x1b"].into_iter().flat_map(|before| (0..=u8::MAX).map(move |byte| (before, byte))) {
+        let mut room = [0; LONGEST_REPLY];
+        let (mut one, mut other) = (Terminal::new(), Terminal::new());
+        assert_eq!(one.feed(before, &mut []), other.feed(before, &mut []));
+        let replied = one.step(byte, &mut room.clone()).replied;
+        match other.next(&[byte], &mut room).event {
+            Some(Event::Reply { command, bytes, .. }) => {
+                assert_eq!((command.number(), bytes.len()), (byte, replied));
+                found.push(command);
+            }
+            _ => assert_eq!(replied, 0),
+        }
+    }
+    assert_eq!(found.len(), 10);
+}
+
 #[test]
 fn each_refusal() {
     let mut t = Terminal::new();
