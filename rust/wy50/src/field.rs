@@ -1,7 +1,7 @@
 //! What is read of a page: fields, texts and places. Each is asked of the library.
 
 use crate::cell::write_cells;
-use crate::{sys, Cell, CELLS, COLUMNS};
+use crate::{sys, Cell, CELLS, LONGEST_TEXT};
 use core::fmt;
 use core::ops::Deref;
 
@@ -31,14 +31,14 @@ impl Position {
 /// The text of a field or a row: bytes from 20h to 7Eh. It is a `str`.
 #[derive(Clone, Copy)]
 pub struct Text {
-    bytes: [u8; COLUMNS],
+    bytes: [u8; LONGEST_TEXT],
     length: usize,
 }
 
 impl Text {
     /// What `put` puts into a room, if it is answered 0.
     pub(crate) fn read(put: impl FnOnce(&mut [u8]) -> sys::RawText) -> Option<Self> {
-        let mut bytes = [0; COLUMNS];
+        let mut bytes = [0; LONGEST_TEXT];
         let read = put(&mut bytes);
         (read.answer == 0).then_some(Text { bytes, length: read.length })
     }

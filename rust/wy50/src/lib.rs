@@ -68,6 +68,8 @@ pub const CELLS: usize = ROWS * COLUMNS;
 pub const ROW_NUMBERS: usize = 2 * ROWS;
 /// No reply is longer: a byte that has this room begins no send that goes on at the next call.
 pub const LONGEST_REPLY: usize = 1944;
+/// No text of a field or a row is longer.
+pub const LONGEST_TEXT: usize = 132;
 /// The function keys, and the longest text of one.
 pub const KEYS: usize = 32;
 pub const KEY_BYTES: usize = 8;

@@ -3,7 +3,7 @@ use std::collections::BTreeMap;
 use wy50::Command;
 use wy50::{
     library_version, Answer, Attributes, CursorStyle, Features, Kind, Personality, Place, ProtectedLook, RawSending, Scrolling, Sending,
-    SequenceKind, Terminal, CELLS, COLUMNS, KEYS, KEY_BYTES, LABELS, LABEL_BYTES, LONGEST_REPLY, MESSAGE_BYTES, ROWS, ROW_NUMBERS, VERSION,
+    SequenceKind, Terminal, CELLS, COLUMNS, KEYS, KEY_BYTES, LABELS, LABEL_BYTES, LONGEST_REPLY, LONGEST_TEXT, MESSAGE_BYTES, ROWS, ROW_NUMBERS, VERSION,
 };
 
 /// The header without its comments.
@@ -104,6 +104,7 @@ fn ours() -> BTreeMap<String, usize> {
         ("WY50_CELLS", CELLS),
         ("WY50_ROW_NUMBERS", ROW_NUMBERS),
         ("WY50_LONGEST_REPLY", LONGEST_REPLY),
+        ("WY50_LONGEST_TEXT", LONGEST_TEXT),
         ("WY50_KEYS", KEYS),
         ("WY50_KEY_BYTES", KEY_BYTES),
         ("WY50_LABELS", LABELS),
