@@ -1,0 +1,5 @@
+pub mod Feed
+pub mod SetupFed
+pub mod Setups
+pub mod Places
+pub mod Stores

@@ -1,0 +1,5 @@
+pub mod SetupBytes
+pub mod Settings
+pub mod Store
+pub mod Put
+pub mod Calls
