@@ -10,7 +10,7 @@ use Prim.Native.Nat.{ℕ, zero, suc, _+_, _-_, _*_, _%_, _<_, _≤_}
 use native.Mathlib.Numerals.{add-one}
 use native.Mathlib.Omega.{arith}
 use lib.Dec.{leb, ltb, eqb}
-use lib.Seq.{set-getD, set-set}
+use lib.Seq.{set-getD, set-set, getD-drop}
 use lib.ListN.{length, getD, take, drop, set, replicate, length-set, length-drop, length-replicate, replicate-append-replicate}
 use borrow.Author.Tests.{lt-ltb, le-ltb, ltb-true, ltb-false, eqb-true, eq-eqb}
 use Rattle.rules.specs.declared.State.{State}
@@ -24,7 +24,14 @@ use Rattle.saved.proofs.Places.{zeros-zero, zero-zeros, Sound, place-so
 
 -- ---- the test of places
 
--- it goes by which places are used
+-- the place t, of n numbers: used, or not
+used-ok : (n t : ℕ) (p : List ℕ) → t < n → isPlace p ≡ true → pick (ltb t n) (isPlace p) (allZero p) ≡ true
+used-ok n t p h e = rw (lt-ltb t n h) e
+
+unused-ok : (n t : ℕ) (p : List ℕ) → n ≤ t → allZero p ≡ true → pick (ltb t n) (isPlace p) (allZero p) ≡ true
+unused-ok n t p h e = rw (le-ltb t n h) e
+
+-- the test goes by which places are used
 ok-same : (n k t : ℕ) (l : List (List ℕ)) → ((i : ℕ) → t ≤ i → i < t + length l → ltb i n ≡ ltb i k) → placesOk n t l ≡ placesOk k t l
 unfolding placesOk
 ok-same n k t [] h = refl
@@ -55,7 +62,7 @@ unfolding placesOk
 ok-save n t k p [] e h u w = refl
 ok-save n t zero p (q ∷ l) e h u w =
     let r = both-parts (pick (ltb t n) (isPlace q) (allZero q)) (placesOk n (suc t) l) e in
-    both-true (rw (lt-ltb t (suc n) (omega arith)) h) (sym (ok-same n (suc n) (suc t) l (by w)) ∙ r .1)
+    both-true (used-ok (suc n) t p (omega arith) h) (sym (ok-same n (suc n) (suc t) l (by w)) ∙ r .1)
   where
     by : (t + 0 ≡ n) ⊎ (t + suc (length l) ≤ n) → (i : ℕ) → suc t ≤ i → i < suc t + length l → ltb i n ≡ ltb i (suc n)
     by (inl z) i a b = same-above i n (omega arith)
@@ -63,7 +70,7 @@ ok-save n t zero p (q ∷ l) e h u w =
 ok-save n t (suc k) p (q ∷ l) e h u w =
     let r = both-parts (pick (ltb t n) (isPlace q) (allZero q)) (placesOk n (suc t) l) e in
     let i = rw (lt-ltb t n (omega arith)) at (r .0) in
-    both-true (rw (lt-ltb t (suc n) (omega arith)) i) (ok-save n (suc t) k p l (r .1) h (omega arith) (by w))
+    both-true (used-ok (suc n) t q (omega arith) i) (ok-save n (suc t) k p l (r .1) h (omega arith) (by w))
   where
     by : (t + suc k ≡ n) ⊎ (t + suc (length l) ≤ n) → (suc t + k ≡ n) ⊎ (suc t + length l ≤ n)
     by (inl z) = inl (omega arith)
@@ -75,12 +82,12 @@ unfolding placesOk
 ok-unsaved n t k [] e u = refl
 ok-unsaved n t zero (q ∷ l) e u =
     let r = both-parts (pick (ltb t (suc n)) (isPlace q) (allZero q)) (placesOk (suc n) (suc t) l) e in
-    both-true (rw (le-ltb t n (omega arith)) (zeros-zero placeSize))
+    both-true (unused-ok n t empty (omega arith) (zeros-zero placeSize))
     (ok-same n (suc n) (suc t) l (λ i a b. same-above i n (omega arith)) ∙ r .1)
 ok-unsaved n t (suc k) (q ∷ l) e u =
     let r = both-parts (pick (ltb t (suc n)) (isPlace q) (allZero q)) (placesOk (suc n) (suc t) l) e in
     let i = rw (lt-ltb t (suc n) (omega arith)) at (r .0) in
-    both-true (rw (lt-ltb t n (omega arith)) i) (ok-unsaved n (suc t) k l (r .1) (omega arith))
+    both-true (used-ok n t q (omega arith) i) (ok-unsaved n (suc t) k l (r .1) (omega arith))
 
 -- ---- a store by its places
 
@@ -144,7 +151,7 @@ all-empty (suc k) = All.more empty-sound (all-empty k)
 ok-empty : (t k : ℕ) → placesOk 0 t (replicate k empty) ≡ true
 unfolding placesOk
 ok-empty t zero = refl
-ok-empty t (suc k) = both-true (rw (le-ltb t 0 (omega arith)) (zeros-zero placeSize)) (ok-empty (suc t) k)
+ok-empty t (suc k) = both-true (unused-ok 0 t empty (omega arith) (zeros-zero placeSize)) (ok-empty (suc t) k)
 
 zeros-stand : Stands (replicate storeSize 0)
 zeros-stand =
@@ -171,3 +178,66 @@ leaves-stand store h = saves-stand zeros-stand (h .saves)
 
 pub leaves-is : (store : List ℕ) → Leaves store → isStore store ≡ true
 leaves-is store h = stands-is store (leaves-stand store h)
+
+-- the store before its last save, and that save
+module _ (n : ℕ) (l : List (List ℕ)) (less : n < lastOfAll) (eight : length l ≡ 8) (all : All l) (ok : placesOk (suc n) 0 l ≡ true) where
+  abbrev k : ℕ
+  k = n % 8
+
+  sound : Sound (getD l k [])
+  sound = all-at k all (omega arith)
+
+  holds : Holds (getD l k [])
+  holds = is-place (getD l k []) sound (ok-at (suc n) 0 k l ok (omega arith) (omega arith))
+
+  abbrev bytes : List ℕ
+  bytes = setupIn (getD l k [])
+
+  -- the place that was saved, put back
+  put-back : (r : List (List ℕ)) → set r k (getD l k []) ≡ l → length r ≡ 8 → All r → Saves (replicate storeSize 0) n (laid n r)
+      → Saves (replicate storeSize 0) (suc n) (laid (suc n) l)
+  put-back r e size a x =
+      let v = is-saved bytes (holds .setup) in
+      let f : afterSave (setupBytes (v .state .setup)) (laid n r) ≡ laid (suc n) l =
+      ap (λ (b : List ℕ). afterSave b (laid n r)) (v .bytes-of) ∙ after-laid bytes n r size a ∙ ap (λ (p : List ℕ). laid (suc n) (set r k p)) (holds .is)
+      ∙ ap (laid (suc n)) e in
+      let h : lastNumber (laid n r) < lastOfAll = omega (arith, laid-last n r) in
+      subst (λ (z : List ℕ). Saves (replicate storeSize 0) (suc n) z) f (save (v .state) (v .shaped) (v .possible) h x)
+
+  -- any store before it can be left, so this one can
+  abbrev Before : Type 0
+  Before = (r : List (List ℕ)) → length r ≡ 8 → All r → placesOk n 0 r ≡ true → Saves (replicate storeSize 0) n (laid n r)
+
+  last-save : Before → Saves (replicate storeSize 0) (suc n) (laid (suc n) l)
+  last-save before = by (either-way (ltb n 8))
+    where
+      by : (ltb n 8 ≡ true) ⊎ (ltb n 8 ≡ false) → Saves (replicate storeSize 0) (suc n) (laid (suc n) l)
+      by (inl t) =
+          let b = ltb-true n 8 t in
+          let j : n % 8 ≡ n = omega arith in
+          let r = set l n empty in
+          let size = length-set l n empty ∙ eight in
+          let a = all-set n all empty-sound in
+          put-back r (rw j (set-set l n empty (getD l n []) ∙ set-getD l n [])) size a (before r size a (ok-unsaved n 0 n l ok (omega arith)))
+      by (inr t) =
+          let b = ltb-false n 8 t in
+          let same = ok-same n (suc n) 0 l (λ i x y. same-below i n (omega (arith, eight))) in
+          put-back l (set-getD l (n % 8) []) eight all (before l eight all (same ∙ ok))
+
+reached : (n : ℕ) (l : List (List ℕ)) → n ≤ lastOfAll → length l ≡ 8 → All l → placesOk n 0 l ≡ true → Saves (replicate storeSize 0) n (laid n l)
+reached zero l h e a ok =
+    let z : laid 0 l ≡ replicate storeSize 0 = ap (laid 0) (unused-empty 0 l a ok ∙ ap (λ (n : ℕ). replicate n empty) e) ∙ zeros-laid in
+    subst (λ (s : List ℕ). Saves (replicate storeSize 0) 0 s) (sym z) none
+reached (suc n) l h e a ok = last-save n l (omega arith) e a ok (λ r size all before. reached n r (omega arith) size all before)
+
+-- a store of bytes that passes the test is one that saves leave
+pub is-leaves : (store : List ℕ) → ((i : ℕ) → getD store i 0 < 256) → isStore store ≡ true → Leaves store
+unfolding isStore
+is-leaves store bytes e =
+    let r = both-parts (eqb (length store) storeSize) (placesOk (lastNumber store) 0 (places store)) e in
+    let size = eqb-true (length store) storeSize (r .0) in
+    let long : length (drop 2 store) ≡ 8 * placeSize = omega (arith, length-drop 2 store) in
+    let all = cut-all 8 (drop 2 store) long (λ i. rw (getD-drop 2 store i 0) (bytes (2 + i))) in
+    let most : lastNumber store ≤ lastOfAll = omega (arith, bytes 0, bytes 1) in
+    let x = reached (lastNumber store) (places store) most (cut-length 8 (drop 2 store)) all (r .1) in
+    record { count = lastNumber store; saves = rw (laid-self store size (bytes 0)) at x }

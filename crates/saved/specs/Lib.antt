@@ -1,5 +1,6 @@
 pub mod SetupBytes
 pub mod Settings
 pub mod Store
-pub mod Put
 pub mod Calls
+pub mod SavedSetups
+pub mod Put
