@@ -3,3 +3,4 @@ pub mod SetupFed
 pub mod Setups
 pub mod Places
 pub mod Stores
+pub mod SavedSetups

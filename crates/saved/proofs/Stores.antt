@@ -114,22 +114,24 @@ stands-is store s =
     rw (s .is, laid-last n l, laid-places n l (s .eight) (s .all))
     (both-true (eq-eqb (length (laid n l)) storeSize (laid-length n l (s .eight) (s .all))) (s .ok))
 
-pub after-stands : (bytes : List ℕ) {store : List ℕ} → length bytes ≤ 1087 → isSetup bytes ≡ true → Stands store → Stands (afterSave bytes store)
-after-stands bytes {store} short good s =
-    let n = s .number in
-    let l = s .list in
-    record {
-      number = suc n;
-      list = set l (n % 8) (place bytes);
-      eight = length-set l (n % 8) (place bytes) ∙ s .eight;
-      all = all-set (n % 8) (s .all) (place-sound bytes);
-      ok = ok-save n 0 (n % 8) (place bytes) l (s .ok) (place-is bytes short good) (omega arith) (by (either-way (ltb n 8)));
-      is = ap (afterSave bytes) (s .is) ∙ after-laid bytes n l (s .eight) (s .all);
-    }
+-- the places after a save are as they should be
+pub after-ok : (bytes : List ℕ) (n : ℕ) (l : List (List ℕ)) → length bytes ≤ 1087 → isSetup bytes ≡ true → length l ≡ 8 → placesOk n 0 l ≡ true
+    → placesOk (suc n) 0 (set l (n % 8) (place bytes)) ≡ true
+after-ok bytes n l short good eight ok = ok-save n 0 (n % 8) (place bytes) l ok (place-is bytes short good) (omega arith) (by (either-way (ltb n 8)))
   where
-    by : (ltb (s .number) 8 ≡ true) ⊎ (ltb (s .number) 8 ≡ false) → (0 + s .number % 8 ≡ s .number) ⊎ (0 + length (s .list) ≤ s .number)
-    by (inl e) = let h = ltb-true (s .number) 8 e in inl (omega arith)
-    by (inr e) = let h = ltb-false (s .number) 8 e in inr (omega (arith, s .eight))
+    by : (ltb n 8 ≡ true) ⊎ (ltb n 8 ≡ false) → (0 + n % 8 ≡ n) ⊎ (0 + length l ≤ n)
+    by (inl e) = let h = ltb-true n 8 e in inl (omega arith)
+    by (inr e) = let h = ltb-false n 8 e in inr (omega (arith, eight))
+
+abbrev pub after-stands : (bytes : List ℕ) {store : List ℕ} → length bytes ≤ 1087 → isSetup bytes ≡ true → Stands store → Stands (afterSave bytes store)
+after-stands bytes {store} short good s = record {
+  number = suc (s .number);
+  list = set (s .list) (s .number % 8) (place bytes);
+  eight = length-set (s .list) (s .number % 8) (place bytes) ∙ s .eight;
+  all = all-set (s .number % 8) (s .all) (place-sound bytes);
+  ok = after-ok bytes (s .number) (s .list) short good (s .eight) (s .ok);
+  is = ap (afterSave bytes) (s .is) ∙ after-laid bytes (s .number) (s .list) (s .eight) (s .all);
+}
 
 -- ---- the store of zeros
 
