@@ -4,3 +4,5 @@ pub mod Setups
 pub mod Places
 pub mod Stores
 pub mod SavedSetups
+pub mod Puts
+pub mod Running

@@ -90,10 +90,13 @@ module _ (s : State) (store : List ℕ) where
     bad-store = save-bad-store;
     full = save-full;
     done = λ p h n.
-        let e = save-done (p .possible) h n in
-        (ap (λ (o : SaveOutcome). o .result) e,
-        (subst (λ (o : SaveOutcome). Saves store 1 (o .store)) (sym e) (save s (p .shaped) (p .possible) n none),
-        ap (λ (o : SaveOutcome). lastNumber (o .store)) e ∙ after-last h p));
+        let e = save-done (p .possible) h n in (
+          ap (λ (o : SaveOutcome). o .result) e,
+          (
+            subst (λ (o : SaveOutcome). Saves store 1 (o .store)) (sym e) (save s (p .shaped) (p .possible) n none),
+            ap (λ (o : SaveOutcome). lastNumber (o .store)) e ∙ after-last h p,
+          ),
+        );
   }
 
 -- ---- a restore
@@ -294,9 +297,10 @@ module _ (s t : State) (store : List ℕ) (p : Possible s) (ok : possible t ≡ 
         let r : restoreRule t end number ≡ restoring RestoreAnswer.Restored (restored bytes t) =
         restore-done t end number ok good e ∙ ap (λ (b : List ℕ). restoring RestoreAnswer.Restored (restored b t)) (setup-there k) in
         let m = t .core .personality in
-        let given-same : SameSettings (fed m bytes) (s .setup) = rw (fed-given m (s .setup) (fine s p)) (setup-same m (s .setup) (fine s p)) in
-        (ap (λ (o : RestoreOutcome). o .result) r,
-        subst (λ (o : RestoreOutcome). SameSettings (o .state .setup) (s .setup)) (sym r) (settings-same (fed m bytes) (t .setup) (fed-stops m bytes) given-same))
+        let given-same : SameSettings (fed m bytes) (s .setup) = rw (fed-given m (s .setup) (fine s p)) (setup-same m (s .setup) (fine s p)) in (
+          ap (λ (o : RestoreOutcome). o .result) r,
+          subst (λ (o : RestoreOutcome). SameSettings (o .state .setup) (s .setup)) (sym r) (settings-same (fed m bytes) (t .setup) (fed-stops m bytes) given-same),
+        )
 
 of-both : (s t : State) (store : List ℕ) (more : ℕ) (later : List ℕ) → Possible s → possible t ≡ true → Leaves store
     → lastNumber store < lastOfAll → Saves (saveRule s store .store) more later → OfBoth s t store more later

@@ -8,8 +8,8 @@ ghost use mathlib.Core.Path.{_≡_};
 ghost use Rattle.saved.specs.Calls.{saveRule, restoreRule, RestoreOutcome};
 use rules::State;
 use state::possible::possible;
-use store::is_store;
 use store::is_restorable;
+use store::is_store;
 use store::last_number;
 use store::restore_from;
 use store::save_as;
@@ -47,7 +47,7 @@ pub fn save(state: State, store: &mut [u8]) -> SaveAnswer
         return SaveAnswer::BadStore;
     }
     let last = last_number(store);
-    if last == 65535 {
+    if last >= 65535 {
         return SaveAnswer::Full;
     }
     let setup = state.setup;
