@@ -4,5 +4,6 @@ pub mod Setups
 pub mod Places
 pub mod Stores
 pub mod SavedSetups
+pub mod Cases
 pub mod Puts
 pub mod Running

@@ -3,4 +3,5 @@ pub mod Settings
 pub mod Store
 pub mod Calls
 pub mod SavedSetups
+pub mod Cases
 pub mod Put
