@@ -84,19 +84,18 @@ module _ (s : State) (store : List ℕ) where
       let old : lastNumber store ≡ z .number = ap lastNumber (z .is) ∙ laid-last (z .number) (z .list) in
       omega (arith, new, old)
 
+  after-leaves : Leaves store → Possible s → lastNumber store < lastOfAll → Leaves (afterSave (setupBytes (s .setup)) store)
+  after-leaves h p n = record { count = suc (h .count); saves = save s (p .shaped) (p .possible) n (h .saves) }
+
   of-save : OfSave s store
   of-save = record {
     bad-state = save-bad-state;
     bad-store = save-bad-store;
     full = save-full;
     done = λ p h n.
-        let e = save-done (p .possible) h n in (
-          ap (λ (o : SaveOutcome). o .result) e,
-          (
-            subst (λ (o : SaveOutcome). Saves store 1 (o .store)) (sym e) (save s (p .shaped) (p .possible) n none),
-            ap (λ (o : SaveOutcome). lastNumber (o .store)) e ∙ after-last h p,
-          ),
-        );
+        let e = save-done (p .possible) h n in
+        (ap (λ (o : SaveOutcome). o .result) e, subst (λ (o : SaveOutcome). Leaves (o .store)) (sym e) (after-leaves h p n));
+    next = λ p h n. ap (λ (o : SaveOutcome). lastNumber (o .store)) (save-done (p .possible) h n) ∙ after-last h p;
   }
 
 -- ---- a restore

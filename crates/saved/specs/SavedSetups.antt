@@ -66,8 +66,8 @@ pub record OfSave (s : State) (store : List ℕ) : Type 0 where
   pub bad-store : possible s ≡ true → isStore store ≡ false → saveRule s store ≡ saved SaveAnswer.BadStore store
   pub full : possible s ≡ true → Leaves store → lastNumber store ≡ lastOfAll → saveRule s store ≡ saved SaveAnswer.Full store
   pub done : Possible s → Leaves store → lastNumber store < lastOfAll
-      → (saveRule s store .result ≡ SaveAnswer.Saved (lastNumber store + 1))
-      × (Saves store 1 (saveRule s store .store) × (lastNumber (saveRule s store .store) ≡ lastNumber store + 1))
+      → (saveRule s store .result ≡ SaveAnswer.Saved (lastNumber store + 1)) × Leaves (saveRule s store .store)
+  pub next : Possible s → Leaves store → lastNumber store < lastOfAll → lastNumber (saveRule s store .store) ≡ lastNumber store + 1
 
 -- of a restore: its refusals, each leaving the state; and whatever it answers, what it leaves
 pub record OfRestore (s : State) (store : List ℕ) (n : ℕ) : Type 0 where
