@@ -52,7 +52,8 @@ enum {
     WY50_KEY_BYTES = 8,
     WY50_LABELS = 16,
     WY50_LABEL_BYTES = 8,
-    WY50_MESSAGE_BYTES = 46
+    WY50_MESSAGE_BYTES = 46,
+    WY50_STORE_BYTES = 8714 /* saved set-ups: the last number and eight places */
 };
 
 /* What a call answers. */
@@ -66,7 +67,10 @@ enum {
     WY50_NO_ROOM = 6,      /* the room is zero while a reply is due; of a key press also where its bytes do not fit, and during a send; nothing
                               changed, the byte may come again */
     WY50_BAD_CALL = 7,     /* the page is not 1,920 cells long, the state is not possible, or the row list is not the page's; nothing changed */
-    WY50_LOCKED = 8        /* a key is pressed while the keyboard is locked; nothing changed */
+    WY50_LOCKED = 8,       /* a key is pressed while the keyboard is locked; nothing changed */
+    WY50_BAD_STORE = 9,    /* no saves could have left the store so; nothing changed */
+    WY50_BAD_NUMBER = 10,  /* a number never saved, or overwritten since; nothing changed */
+    WY50_FULL = 11         /* number 65,535 is used; nothing changed */
 };
 
 /* An answer in a few words, for a log. A number that is no answer has some too. */
@@ -302,6 +306,16 @@ typedef struct wy50_press_result {
     size_t replied; /* reply bytes */
 } wy50_press_result;
 
+typedef struct wy50_save_result {
+    uint8_t answer;  /* 0, 7, 9 or 11 */
+    uint16_t number; /* the number saved, from 1; 0 where it was refused */
+} wy50_save_result;
+
+typedef struct wy50_restore_result {
+    uint8_t answer; /* 0, 7, 9 or 10 */
+    wy50_state state;
+} wy50_restore_result;
+
 /* Power-on: every cell 0, and the power-on state of that personality. A page of another length than 1,920 answers 7 and is left as it was; the
  * state is given. So does a number that is no personality; the state is that of a WY-50. */
 wy50_power_on_result wy50_power_on(uint16_t *page, size_t page_len, uint8_t personality);
@@ -372,6 +386,18 @@ wy50_run_result wy50_run_rows(uint16_t *page, size_t page_len, uint16_t *rows, s
 /* The row list made anew, whatever it held. Answers 0, or 7 for a list that is not 48 numbers long, a page of another length than 1,920 and a
  * state that is not possible; then the list is left as it was. The page is only read. */
 uint8_t wy50_rebuild_rows(const uint16_t *page, size_t page_len, uint16_t *rows, size_t rows_len, wy50_state state);
+
+/* Saved set-ups: tab stops, features, field attributes, keys and labels, the last eight by number, from 1. The lent store is 8,714 bytes, all 0 at
+ * first, and a file of these bytes keeps it. A set-up is kept as the terminal's own commands: fed to a terminal of the same personality just
+ * powered on they give those settings.
+ *
+ * A save writes its own place and the last number, nothing else. A restore gives the state those settings; cursors, segments, modes, bells, the
+ * sequence under way, the host message and the shifted line stay as they are, and so does the store. Either is refused with 7 for a state that is
+ * not possible, then with 9 for a store that no saves could have left, also one of another length; then a save with 11 after number 65,535, and a
+ * restore with 10 for a number that is not one of the last eight saved. What is refused changes nothing, and a refused restore gives the state back
+ * as it came. Each call runs all eight set-ups through a terminal to be sure of the store. */
+wy50_save_result wy50_save(wy50_state state, uint8_t *store, size_t store_len);
+wy50_restore_result wy50_restore(wy50_state state, const uint8_t *store, size_t store_len, uint16_t number);
 
 /* What a cell's number says: its code, 0 to 127; whether it is protected, 0 or 1; its kind; its attribute, by its flags, 0 to 31; and the byte that
  * a send gives for it, which is the code of a text cell from 20h to 7Eh and 20h for any other cell. */

@@ -3,6 +3,7 @@ mod Zeros
 mod Calls
 mod RowCalls
 mod Next
+mod SavedCalls
 pub mod RoundTrip
 pub mod Kept
 pub mod Noninterference

@@ -3,3 +3,4 @@ pub mod Promise
 pub mod Noninterference
 pub mod Rows
 pub mod RowNoninterference
+pub mod Saved

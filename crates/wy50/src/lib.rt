@@ -2,6 +2,7 @@
 // answers 7, replies nothing, changes nothing and gives the numbers back. A slice crosses as a pointer and a count.
 pub mod raw; // the structs that cross
 mod pack; // the numbers of a state
+mod setups; // the numbers of what a save and a restore answer
 mod unpack; // the state that numbers name
 pub mod reading; // fields, texts and places of a page
 
@@ -11,16 +12,23 @@ ghost use Prim.Native.Nat.{_+_, _*_};
 ghost use Rattle.rules.specs.Cell.{code, protected, kind, attribute, sent};
 ghost use Rattle.wy50.specs.Raw.{flag};
 ghost use Rattle.wy50.specs.Rows.{rawStepRows, rawRunRows, Heard, rawRowsAfter, rawRebuildAnswer, rawRebuilt};
+ghost use Rattle.wy50.specs.Saved.{saveNumbers, restoreNumber, rawSave, rawRestore, stateAfter};
 ghost use Rattle.wy50.specs.Promise.{rawPowerOn, rawStep, rawRun, rawPress, PoweredOn, Stepped, Completed, Sent};
 use pack::flag;
 use pack::pack;
 use raw::RawNext;
 use raw::RawPowerOn;
 use raw::RawPress;
+use raw::RawRestore;
 use raw::RawRun;
+use raw::RawSave;
 use raw::RawState;
 use raw::RawStep;
 use rules::Personality;
+use saved::restore;
+use saved::save;
+use setups::restore_number;
+use setups::save_numbers;
 use state::power_on_state;
 use terminal::answer_number;
 use terminal::attribute_of;
@@ -312,6 +320,49 @@ pub extern "C" fn wy50_rebuild_rows(page: &[u16], rows: &mut [u16], state: RawSt
     }
     let a = rebuild_rows(page, rows, unpack(state));
     answer_number(a)
+}
+
+// Saves the set-up of the state under the next number. Ruled out: one that saves for numbers that name no state, or gives a number for what it
+// refuses.
+#[no_mangle]
+pub extern "C" fn wy50_save(state: RawState, store: &mut [u8]) -> RawSave
+    ensures { λ r. ⌜ (r ≡ saveNumbers (rawSave state (now (store .entry)) .result)) × (now (store .exit) ≡ rawSave state (now (store .entry)) .store) ⌝ }
+{
+    if !is_named(state) {
+        return RawSave {
+            answer: 7,
+            number: 0,
+        };
+    }
+    let a = save(unpack(state), store);
+    save_numbers(a)
+}
+
+// Restores the settings saved under a number. Ruled out: one that gives other numbers back than it was handed where it refuses.
+#[no_mangle]
+pub extern "C" fn wy50_restore(state: RawState, store: &[u8], number: u16) -> RawRestore
+    ensures { λ r. ⌜ (r .answer ≡ restoreNumber (rawRestore state (now (store .entry)) number .result)) × (r .state ≡ stateAfter state (rawRestore state (now (store .entry)) number)) ⌝ }
+{
+    if !is_named(state) {
+        return RawRestore {
+            answer: 7,
+            state: state,
+        };
+    }
+    let t = restore(unpack(state), store, number);
+    let s = t.state;
+    let a = t.answer;
+    let n = restore_number(a);
+    if n != 0 {
+        return RawRestore {
+            answer: n,
+            state: state,
+        };
+    }
+    RawRestore {
+        answer: 0,
+        state: pack(s),
+    }
 }
 
 // Readers of a cell's number: its code, whether it is protected (0 or 1), its kind, its attribute, and what a send gives for it.

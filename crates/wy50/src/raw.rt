@@ -110,3 +110,15 @@ pub struct RawPress {
     pub answer: u8,
     pub replied: usize,
 }
+
+#[repr(C)]
+pub struct RawSave {
+    pub answer: u8,
+    pub number: u16,
+}
+
+#[repr(C)]
+pub struct RawRestore {
+    pub answer: u8,
+    pub state: RawState,
+}
