@@ -36,8 +36,12 @@
 //!
 //! [`Terminal::with_row_list`] takes long feeds faster over forms that are mostly labels, and changes nothing else.
 //!
+//! A [`Store`] keeps the last eight set-ups.
+//!
 //! It links the proved library libwy50.a (see `build.rs`), which keeps nothing between calls and allocates nothing; neither does this crate.
 #![no_std]
+#[cfg(feature = "std")]
+extern crate std;
 
 mod answer;
 mod cell;
@@ -47,6 +51,7 @@ mod field;
 mod personality;
 mod sending;
 mod sequence;
+mod store;
 mod sys;
 
 pub use answer::Answer;
@@ -58,6 +63,7 @@ pub use field::{Field, Fields, Position, ProtectOff, Text};
 pub use personality::Personality;
 pub use sending::{Place, Sending};
 pub use sequence::SequenceKind;
+pub use store::{Refusal, Store, STORE_BYTES};
 pub use sys::{Key, Message, Modes, RawSending, Screen, Sequence, State};
 
 pub const ROWS: usize = 24;

@@ -1,6 +1,6 @@
 //! What crosses to the library: the structs of include/wy50.h and its calls. All members are numbers, so every bit pattern is a value.
 
-use crate::{CELLS, COLUMNS, KEYS, KEY_BYTES, LABELS, MESSAGE_BYTES, ROW_NUMBERS};
+use crate::{CELLS, COLUMNS, KEYS, KEY_BYTES, LABELS, MESSAGE_BYTES, ROW_NUMBERS, STORE_BYTES};
 
 /// A function key or a key label: the first `len` of `bytes`.
 #[repr(C)]
@@ -147,6 +147,18 @@ pub struct RawPosition {
     pub column: usize,
 }
 
+#[repr(C)]
+pub struct RawSave {
+    pub answer: u8,
+    pub number: u16,
+}
+
+#[repr(C)]
+pub struct RawRestore {
+    pub answer: u8,
+    pub state: State,
+}
+
 mod linked {
     use super::*;
 
@@ -198,6 +210,8 @@ mod linked {
             reply_len: usize,
         ) -> RawRun;
         pub fn wy50_rebuild_rows(page: *const u16, page_len: usize, rows: *mut u16, rows_len: usize, state: State) -> u8;
+        pub fn wy50_save(state: State, store: *mut u8, store_len: usize) -> RawSave;
+        pub fn wy50_restore(state: State, store: *const u8, store_len: usize, number: u16) -> RawRestore;
         pub safe fn wy50_cell_code(cell: u16) -> u8;
         pub safe fn wy50_cell_protected(cell: u16) -> u8;
         pub safe fn wy50_cell_kind(cell: u16) -> u8;
@@ -278,4 +292,14 @@ pub fn field_text(page: &[u16; CELLS], start: usize, trim: bool, text: &mut [u8]
 pub fn row_text(page: &[u16; CELLS], row: usize, trim: bool, text: &mut [u8]) -> RawText {
     // SAFETY: as above.
     unsafe { linked::wy50_row_text(page.as_ptr(), page.len(), row, trim.into(), text.as_mut_ptr(), text.len()) }
+}
+
+pub fn save(state: State, store: &mut [u8; STORE_BYTES]) -> RawSave {
+    // SAFETY: as above, for one slice.
+    unsafe { linked::wy50_save(state, store.as_mut_ptr(), store.len()) }
+}
+
+pub fn restore(state: State, store: &[u8; STORE_BYTES], number: u16) -> RawRestore {
+    // SAFETY: as above; the store is only read.
+    unsafe { linked::wy50_restore(state, store.as_ptr(), store.len(), number) }
 }
