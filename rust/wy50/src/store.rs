@@ -89,7 +89,7 @@ impl Store {
     /// Writes the store to a file: first to one beside it, which then takes its name.
     pub fn write(&self, path: impl AsRef<std::path::Path>) -> std::io::Result<()> {
         let path = path.as_ref();
-        let mut beside = path.as_os_str().to_owned();
+        let mut beside = std::ffi::OsString::from(path);
         beside.push(".new");
         std::fs::write(&beside, self.0)?;
         std::fs::rename(&beside, path)
