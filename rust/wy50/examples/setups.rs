@@ -39,7 +39,7 @@ fn list(file: &str) -> Result<(), Box<dyn Error>> {
 
 fn save(file: &str) -> Result<(), Box<dyn Error>> {
     let mut store = match opened(file) {
-        Err(e) if e.downcast_ref::<io::Error>().is_some_and(|e| e.kind() == io::ErrorKind::NotFound) => Store::new(),
+        Err(e) if e.kind() == io::ErrorKind::NotFound => Store::new(),
         other => other?,
     };
     let number = store.save(&fed()?)?;
@@ -57,11 +57,8 @@ fn restore(file: &str, number: &str) -> Result<(), Box<dyn Error>> {
 }
 
 // A damaged file is named, and never written.
-fn opened(file: &str) -> Result<Store, Box<dyn Error>> {
-    Store::read(file).map_err(|e| match e.kind() {
-        io::ErrorKind::NotFound => e.into(),
-        _ => format!("{file}: {e}").into(),
-    })
+fn opened(file: &str) -> io::Result<Store> {
+    Store::read(file).map_err(|e| io::Error::new(e.kind(), format!("{file}: {e}")))
 }
 
 // A terminal after the host's bytes.
