@@ -7,7 +7,7 @@ use Rattle.rules.specs.Slot.{isText, allText, textOk, textsOk}
 use Rattle.rules.specs.Possible.{powerOn, screenOk, unsplitOk, attributesOk, featuresOk, noStops, pendingOk, rememberedOk, coreOk, setupOk, possible}
 use Rattle.saved.specs.SetupBytes.{stopBytes, byCode, featureBytes, attributeBytes, textBytes, textsBytes, keyValue, labelValue, setupBytes}
 use Rattle.saved.specs.Settings.{withSettings}
-use Rattle.saved.specs.Store.{place, cut, joined, laid, afterSave, allZero, isSetup, isPlace, placesOk, isStore}
+use Rattle.saved.specs.Store.{place, cut, joined, laid, afterSave, allZero, isPlace, placesOk, isStore}
 use Rattle.saved.specs.Calls.{saveRule, restoreRule}
 use Rattle.saved.specs.Cases.{Bytes, Restored, Stores, Numbers, Calls, Worked}
 

@@ -5,10 +5,10 @@
 use mathlib.Core.Path.{_≡_, refl, sym, ap, _∙_}
 use mathlib.Core.Bool.{Bool, true, false, not}
 use mathlib.Core.List.{List, [], _∷_, _++_}
-use Prim.Native.Nat.{ℕ, suc, _+_, _-_, _*_, _<_, _≤_}
+use Prim.Native.Nat.{ℕ, suc, _+_, _-_, _<_, _≤_}
 use native.Mathlib.Nat.{sub-zero}
 use native.Mathlib.Omega.{arith}
-use lib.Dec.{leb, ltb, eqb, leb·zero, lit<}
+use lib.Dec.{leb·zero}
 use lib.ListN.{length, getD, take, set}
 use borrow.Author.Tests.{lt-ltb, le-leb}
 use Rattle.rules.specs.declared.Core.{Core}
@@ -25,15 +25,15 @@ use Rattle.rules.specs.declared.Decoded.the-variants as Decoded
 use Rattle.rules.specs.declared.Pending.{Pending}
 use Rattle.rules.specs.declared.Pending.the-variants as Pending
 use Rattle.rules.specs.declared.SetupChange.{SetupChange}
-use Rattle.rules.specs.Cell.{pick, both, among, guarded}
+use Rattle.rules.specs.Cell.{among}
 use Rattle.rules.specs.Row.{columns}
-use Rattle.rules.specs.State.{withScreen, withCursor, awaiting, idle, segmentTop, segmentBottom, cursorOf, changed, stored, gatheredAfter, setupAfter}
+use Rattle.rules.specs.State.{withScreen, withCursor, awaiting, segmentTop, segmentBottom, changed, stored, gatheredAfter, setupAfter}
 use Rattle.rules.specs.Search.{guardedAt, others, settled}
 use Rattle.rules.specs.Possible.{powerOn, good}
 use Rattle.rules.specs.Decode.{decodeRule}
 use Rattle.rules.specs.Plan.{changing, settling, addressPlan, movePlan, planRule}
 use Rattle.rules.specs.Send.{places, bytesOf, replied}
-use Rattle.rules.specs.Carry.{Effect, quiet, applied, landed, done, carried}
+use Rattle.rules.specs.Carry.{quiet, applied, landed, done, carried}
 use Rattle.rules.specs.Step.{Outcome, outcomeOf, obeyed, innerRule, stepRule}
 use Rattle.rules.specs.Calls.{Ran, joined, repeated, runRule}
 use Rattle.rules.proofs.Tests.{both-true}

@@ -3,15 +3,14 @@
 --     laid-last, laid-places, laid-self     a store is laid out of its last number and its places
 -- Assumes nothing.
 use mathlib.Core.Path.{_≡_, refl, sym, ap, ap₂, _∙_}
-use mathlib.Core.Bool.{Bool, true, false}
+use mathlib.Core.Bool.{true}
 use mathlib.Core.List.{List, [], _∷_, _++_}
 use Prim.Native.Nat.{ℕ, zero, suc, _+_, _-_, _*_, _/_, _%_, _<_, _≤_}
 use native.Mathlib.Omega.{arith}
 use lib.Dec.{leb, eqb}
-use lib.Seq.{take-append-add, take-append-seam, drop-append-seam, take-at, drop-at, getD-take, getD-drop, take-all}
-use lib.ListN.{length, getD, take, drop, set, replicate, length-append, length-take, length-drop, length-replicate, take-append-drop, replicate-append-replicate}
+use lib.Seq.{take-append-add, drop-append-seam, take-at, drop-at, getD-take, getD-drop}
+use lib.ListN.{length, getD, take, drop, set, replicate, length-append, length-take, length-drop, length-replicate, take-append-drop}
 use borrow.Author.Tests.{leb-true, le-leb, eqb-true}
-use Rattle.rules.specs.Cell.{both}
 use Rattle.rules.specs.State.{padded}
 use Rattle.rules.proofs.Tests.{both-parts, both-true}
 use Rattle.rules.proofs.Texts.{text-of}

@@ -5,25 +5,23 @@
 use mathlib.Core.Path.{_≡_, refl, sym, ap, _∙_}
 use mathlib.Core.Bool.{Bool, true, false}
 use mathlib.Core.List.{List, [], _∷_, _++_, append-nil}
-use Prim.Native.Nat.{ℕ, suc, _+_, _-_, _*_, _<_, _≤_}
+use Prim.Native.Nat.{ℕ, suc, _+_, _*_, _<_, _≤_}
 use native.Mathlib.Numerals.{add-one}
 use native.Mathlib.Omega.{arith}
-use lib.Dec.{ltb}
 use lib.ListN.{length, getD, set, take, drop, drop-of-length-le, length-append, length-take}
-use lib.Seq.{drop-cons, getD-take, take-append-seam}
+use lib.Seq.{drop-cons, getD-take}
 use borrow.Author.Tests.{lt-ltb, le-ltb}
 use Rattle.rules.specs.declared.Setup.{Setup}
 use Rattle.rules.specs.declared.ShortText.{ShortText}
 use Rattle.rules.specs.Room.{over}
 use Rattle.rules.specs.State.{shortBytes}
-use Rattle.rules.specs.Slot.{textOk, textsOk, allText}
-use Rattle.rules.proofs.Tests.{pick-if}
+use Rattle.rules.specs.Slot.{textsOk}
 use Rattle.rules.proofs.Texts.{text-parts, texts-at, text-begun}
 use Rattle.page.specs.Room.{stored}
 use Rattle.page.proofs.Room.{unstored, stored-append, stored-over}
-use Rattle.saved.specs.SetupBytes.{stopBytes, byCode, featureBytes, attributeBytes, textBytes, textsBytes, keyValue, labelValue, keysBytes, labelsBytes, setupBytes}
+use Rattle.saved.specs.SetupBytes.{stopBytes, byCode, featureBytes, attributeBytes, textBytes, textsBytes, keysBytes, labelsBytes, setupBytes}
 use Rattle.saved.specs.Put.{Put}
-use Rattle.saved.proofs.Setups.{texts-most, text-most}
+use Rattle.saved.proofs.Setups.{texts-most}
 
 pub put-one : (l : List ℕ) (i n m : ℕ) (w : List ℕ) → i < length l → m ≡ n + 1
     → stored m (drop (i + 1) l) (set w n (getD l i 0)) ≡ stored n (drop i l) w

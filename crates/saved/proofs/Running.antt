@@ -3,28 +3,27 @@
 use mathlib.Core.Path.{_≡_, refl, sym, ap, ap₂, _∙_}
 use mathlib.Core.Bool.{Bool, true, false}
 use mathlib.Core.List.{List, [], _∷_, _++_, append-nil, append-assoc}
-use Prim.Native.Nat.{ℕ, zero, suc, _+_, _-_, _*_, _/_, _%_, _<_, _≤_}
+use Prim.Native.Nat.{ℕ, zero, suc, _+_, _-_, _*_, _<_, _≤_}
 use native.Mathlib.Numerals.{add-one}
 use native.Mathlib.Omega.{arith}
 use lib.Dec.{leb, ltb, eqb}
-use lib.ListN.{length, getD, take, drop, set, replicate, length-append, length-take, length-drop, length-set, drop-of-length-le, length-replicate}
-use lib.Seq.{append-snoc, take-add, drop-cons, take-suc, set-at, drop-drop, take-all, take-at, drop-at, drop-length}
-use borrow.Rule.Slice.PartMut.{putMid, same-len-mid}
+use lib.ListN.{length, getD, take, drop, set, replicate, length-take, length-drop, drop-of-length-le, length-replicate}
+use lib.Seq.{append-snoc, take-add, drop-cons, take-suc, set-at, drop-drop, take-all, take-at}
+use borrow.Rule.Slice.PartMut.{putMid}
 use borrow.Author.Tests.{eq-eqb, ne-eqb, lt-ltb, le-ltb, le-leb, lt-leb, leb-true, eqb-true, ltb-true, ltb-false}
 use Rattle.rules.specs.declared.State.{State}
-use Rattle.rules.specs.declared.Setup.{Setup}
 use Rattle.rules.specs.declared.Personality.{Personality}
 use Rattle.rules.specs.Cell.{pick, both, same}
 use Rattle.rules.specs.Room.{over}
 use Rattle.rules.specs.State.{padded}
 use Rattle.rules.specs.Slot.{textsOk}
 use Rattle.rules.specs.Possible.{powerOn, blank, possible}
-use Rattle.rules.specs.Calls.{Ran, runRule}
-use Rattle.rules.proofs.Tests.{pick-if, both-parts, both-true}
+use Rattle.rules.specs.Calls.{runRule}
+use Rattle.rules.proofs.Tests.{pick-if, both-parts}
 use Rattle.page.specs.Room.{stored}
 use Rattle.page.proofs.Room.{stored-over}
 use Rattle.saved.specs.SetupBytes.{setupBytes, longest}
-use Rattle.saved.specs.Settings.{fed, withSettings, withSetup}
+use Rattle.saved.specs.Settings.{fed}
 use Rattle.saved.specs.Store.{placeSize, storeSize, twoBytes, twoAt, place, lastNumber, lastOfAll, cut, places, joined, laid, placeOf, setupIn, setupOf, afterSave, allZero, isSetup, isPlace, placesOk, isStore}
 use Rattle.saved.specs.Calls.{SaveOutcome, saved, saveRule, restorable, restored, RestoreOutcome, restoring, restoreRule}
 use Rattle.saved.specs.Put.{Put}

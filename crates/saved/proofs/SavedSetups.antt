@@ -1,34 +1,31 @@
 -- Saved set-ups are as request A10 says.
 --     saved-setups     the statement of specs/SavedSetups
 -- Assumes nothing.
-use mathlib.Core.Path.{_≡_, refl, sym, ap, ap₂, subst, _∙_}
+use mathlib.Core.Path.{_≡_, refl, sym, ap, subst, _∙_}
 use mathlib.Core.Bool.{Bool, true, false}
-use mathlib.Core.List.{List, [], _∷_, _++_, map}
-use Prim.Native.Nat.{ℕ, zero, suc, _+_, _-_, _*_, _%_, _<_, _≤_}
+use mathlib.Core.List.{List, [], _++_}
+use Prim.Native.Nat.{ℕ, suc, _+_, _%_, _<_, _≤_}
 use native.Mathlib.Omega.{arith}
-use lib.Dec.{leb, ltb, eqb}
-use lib.Seq.{take-at, drop-at, drop-append-add, drop-drop, getD-set-same, getD-set-other}
-use lib.ListN.{length, getD, take, drop, set, replicate, length-take, length-append}
+use lib.Seq.{take-at, drop-at, getD-set-same, getD-set-other}
+use lib.ListN.{length, getD, take, drop, set, length-take}
 use borrow.Author.Tests.{le-leb, lt-ltb, le-ltb}
 use Rattle.rules.specs.declared.State.{State}
 use Rattle.rules.specs.declared.Setup.{Setup}
 use Rattle.rules.specs.declared.Personality.{Personality}
-use Rattle.rules.specs.Cell.{pick, both}
 use Rattle.rules.specs.Row.{columns, addressed}
-use Rattle.rules.specs.State.{widthOf}
-use Rattle.rules.specs.Possible.{powerOn, blank, noStops, possible, setupOk}
-use Rattle.rules.specs.Calls.{Ran, runRule}
+use Rattle.rules.specs.Possible.{blank, noStops, possible}
+use Rattle.rules.specs.Calls.{Ran}
 use Rattle.rules.proofs.Tests.{pick-if, both-true}
 use Rattle.rules.proofs.Kept.{PossibleSetup, possible-parts, possible-whole}
 use Rattle.saved.specs.declared.SaveAnswer.the-variants as SaveAnswer
 use Rattle.saved.specs.declared.RestoreAnswer.the-variants as RestoreAnswer
 use Rattle.saved.specs.SetupBytes.{setupBytes}
-use Rattle.saved.specs.Settings.{SameSettings, withSettings, fed, Shaped}
-use Rattle.saved.specs.Store.{place, lastNumber, lastOfAll, places, laid, placeOf, setupIn, setupOf, afterSave, Saves, none, save, Leaves, isSetup, isStore}
+use Rattle.saved.specs.Settings.{SameSettings, withSettings, fed}
+use Rattle.saved.specs.Store.{place, lastNumber, lastOfAll, places, placeOf, setupIn, setupOf, afterSave, Saves, none, save, Leaves, isSetup, isStore}
 use Rattle.saved.specs.Calls.{SaveOutcome, saved, saveRule, restorable, restored, RestoreOutcome, restoring, restoreRule}
-use Rattle.saved.specs.SavedSetups.{Possible, Gives, LeavesAlone, OfBytes, OfStores, OfSave, OfRestore, OfBoth, SavedSetups}
+use Rattle.saved.specs.SavedSetups.{Possible, Gives, LeavesAlone, OfBytes, OfSave, OfRestore, OfBoth, SavedSetups}
 use Rattle.saved.proofs.Feed.{took}
-use Rattle.saved.proofs.SetupFed.{Fine, given, givenState}
+use Rattle.saved.proofs.SetupFed.{Fine, givenState}
 use Rattle.saved.proofs.Setups.{setup-short, setup-same, setup-given, fed-given, fed-fine, fine-is, possible-fine, saved-is, is-saved}
 use Rattle.saved.proofs.Places.{place-setup, laid-last, laid-places}
 use Rattle.saved.proofs.Stores.{Stands, stands-is, after-stands, leaves-stand, leaves-is, is-leaves}

@@ -2,17 +2,17 @@
 --     stops-fed, features-fed, attributes-fed, keys-fed, labels-fed
 --     setup-fed     all of them, from power-on
 -- Assumes nothing.
-use mathlib.Core.Path.{_≡_, refl, sym, ap, subst, _∙_}
+use mathlib.Core.Path.{_≡_, refl, sym, _∙_}
 use mathlib.Core.Bool.{Bool, true, false}
 use mathlib.Core.List.{List, [], _∷_, _++_, append-nil, map}
 use mathlib.Core.Logic.{_⊎_, inl, inr}
-use Prim.Native.Nat.{ℕ, zero, suc, _+_, _-_, _*_, _%_, _<_, _≤_}
+use Prim.Native.Nat.{ℕ, suc, _+_, _-_, _%_, _<_, _≤_}
 use native.Mathlib.Nat.{add-zero}
 use native.Mathlib.Numerals.{add-one}
 use native.Mathlib.Omega.{arith}
 use lib.Dec.{leb, ltb, eqb, lit<}
 use lib.Seq.{append-snoc, set-at, take-suc-set}
-use lib.ListN.{length, getD, take, set, replicate, length-set, length-append, length-take}
+use lib.ListN.{length, take, set, replicate, length-set, length-append, length-take}
 use borrow.Author.Tests.{lt-ltb, le-ltb, le-leb, lt-leb, leb-true, ltb-true, ltb-false, eqb-true, eq-eqb, ne-eqb}
 use Rattle.rules.specs.declared.State.{State}
 use Rattle.rules.specs.declared.Setup.{Setup}
@@ -28,13 +28,13 @@ use Rattle.rules.specs.declared.Decoded.{Decoded}
 use Rattle.rules.specs.declared.Decoded.the-variants as Decoded
 use Rattle.rules.specs.declared.Pending.{Pending}
 use Rattle.rules.specs.declared.Pending.the-variants as Pending
-use Rattle.rules.specs.Cell.{pick, both, either, among}
+use Rattle.rules.specs.Cell.{both, either, among}
 use Rattle.rules.specs.Row.{columns}
 use Rattle.rules.specs.Search.{lastMark}
 use Rattle.rules.specs.State.{cursorOf, shortBytes, shortText, noText, keyPlace, labelPlace, withTabs, withAttributes, withFeatures, withKeys, withLabels, changed, stored}
 use Rattle.rules.specs.Arguments.{isAttribute, featurePlace, isKey, isLabel}
-use Rattle.rules.specs.Slot.{slotOk, slotEnd, slotMost, slotLow, isText, allText, textOk, textsOk}
-use Rattle.rules.specs.Possible.{powerOn, blank, attributesOk, featuresOk}
+use Rattle.rules.specs.Slot.{slotEnd, slotMost, slotLow, isText, allText, textOk, textsOk}
+use Rattle.rules.specs.Possible.{powerOn, attributesOk, featuresOk}
 use Rattle.rules.specs.Decode.{lookup, judged, idleRule, escapeRule, featureRule, fieldRule, slotRule, textRule, argumentRule, decodeRule}
 use Rattle.rules.specs.Plan.{settingPlan, planRule}
 use Rattle.rules.proofs.Tests.{pick-if, both-parts, both-true, among-parts, either-way}

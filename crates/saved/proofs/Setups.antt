@@ -7,11 +7,11 @@
 use mathlib.Core.Path.{_≡_, refl, sym, ap, ap₂, _∙_}
 use mathlib.Core.Bool.{Bool, true, false}
 use mathlib.Core.List.{List, [], _∷_, _++_, map}
-use Prim.Native.Nat.{ℕ, suc, _+_, _-_, _*_, _<_, _≤_}
+use Prim.Native.Nat.{ℕ, suc, _+_, _-_, _*_, _≤_}
 use native.Mathlib.Omega.{arith}
 use lib.Dec.{ltb, eqb}
 use lib.Seq.{take-at}
-use lib.ListN.{length, getD, take, set, replicate, length-set, length-append, length-take}
+use lib.ListN.{length, getD, take, replicate, length-set, length-append, length-take}
 use borrow.Author.Tests.{eqb-true, eq-eqb}
 use Rattle.rules.specs.declared.State.{State}
 use Rattle.rules.specs.declared.Setup.{Setup}
@@ -24,7 +24,7 @@ use Rattle.rules.specs.declared.SetupChange.{SetupChange}
 use Rattle.rules.specs.declared.SetupChange.the-variants as SetupChange
 use Rattle.rules.specs.declared.Change.{Change}
 use Rattle.rules.specs.declared.Change.the-variants as Change
-use Rattle.rules.specs.Cell.{pick, both, same}
+use Rattle.rules.specs.Cell.{same}
 use Rattle.rules.specs.Row.{columns}
 use Rattle.rules.specs.State.{shortBytes, changed, stored, setupAfter}
 use Rattle.rules.specs.Slot.{textOk, textsOk}
@@ -37,7 +37,7 @@ use Rattle.rules.proofs.Kept.{possible-parts, good-whole, run-keeps, powerOn-po
 use Rattle.saved.specs.SetupBytes.{stopBytes, byCode, featureBytes, attributeBytes, textBytes, textsBytes, keyValue, labelValue, keysBytes, labelsBytes, setupBytes}
 use Rattle.saved.specs.Settings.{SameSettings, fed, Shaped, Saved}
 use Rattle.saved.specs.Store.{isSetup}
-use Rattle.saved.proofs.Feed.{Fed, took, fed-run}
+use Rattle.saved.proofs.Feed.{took, fed-run}
 use Rattle.saved.proofs.SetupFed.{clean, Fine, given, givenState, setup-fed}
 
 -- ---- equal lists

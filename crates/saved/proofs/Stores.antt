@@ -3,22 +3,20 @@
 --     leaves-is, is-leaves     the test decides
 -- Assumes nothing.
 use mathlib.Core.Path.{_≡_, refl, sym, ap, ap₂, subst, _∙_}
-use mathlib.Core.Bool.{Bool, true, false}
+use mathlib.Core.Bool.{true, false}
 use mathlib.Core.Logic.{_⊎_, inl, inr}
 use mathlib.Core.List.{List, [], _∷_, _++_}
 use Prim.Native.Nat.{ℕ, zero, suc, _+_, _-_, _*_, _%_, _<_, _≤_}
 use native.Mathlib.Numerals.{add-one}
 use native.Mathlib.Omega.{arith}
-use lib.Dec.{leb, ltb, eqb}
+use lib.Dec.{ltb, eqb}
 use lib.Seq.{set-getD, set-set, getD-drop}
-use lib.ListN.{length, getD, take, drop, set, replicate, length-set, length-drop, length-replicate, replicate-append-replicate}
+use lib.ListN.{length, getD, drop, set, replicate, length-set, length-drop, replicate-append-replicate}
 use borrow.Author.Tests.{lt-ltb, le-ltb, ltb-true, ltb-false, eqb-true, eq-eqb}
-use Rattle.rules.specs.declared.State.{State}
-use Rattle.rules.specs.Cell.{pick, both}
+use Rattle.rules.specs.Cell.{pick}
 use Rattle.rules.proofs.Tests.{both-parts, both-true, either-way}
 use Rattle.saved.specs.SetupBytes.{setupBytes}
-use Rattle.saved.specs.Settings.{Saved}
-use Rattle.saved.specs.Store.{placeSize, storeSize, place, empty, lastNumber, places, joined, laid, placeOf, setupIn, afterSave, lastOfAll, Saves, none, save, Leaves, allZero, isSetup, isPlace, placesOk, isStore}
+use Rattle.saved.specs.Store.{placeSize, storeSize, place, empty, lastNumber, places, joined, laid, setupIn, afterSave, lastOfAll, Saves, none, save, Leaves, allZero, isSetup, isPlace, placesOk, isStore}
 use Rattle.saved.proofs.Setups.{setup-short, possible-fine, fine-is, is-saved}
 use Rattle.saved.proofs.Places.{zeros-zero, zero-zeros, Sound, place-sound, empty-sound, Holds, is-place, place-is, All, all-set, all-at, cut-length, cut-all, laid-last, laid-places, laid-length, laid-self}
 

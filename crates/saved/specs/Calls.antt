@@ -1,12 +1,10 @@
 -- The two calls: save and restore. The order of refusals is that of the tests: an impossible state, a store that no saves could leave, then the
 -- number or that all are used. What is refused changes nothing.
-use mathlib.Core.Path.{_≡_}
 use mathlib.Core.Bool.{Bool}
 use mathlib.Core.List.{List}
 use Prim.Native.Nat.{ℕ, _+_}
 use lib.Dec.{leb, ltb}
 use Rattle.rules.specs.declared.State.{State}
-use Rattle.rules.specs.declared.Setup.{Setup}
 use Rattle.rules.specs.Cell.{pick, both}
 use Rattle.rules.specs.Possible.{possible}
 use Rattle.saved.specs.declared.SaveAnswer.{SaveAnswer}

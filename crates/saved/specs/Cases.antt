@@ -1,20 +1,19 @@
 -- Worked set-ups and stores, by the sentences of request A10 of document 02.
 use mathlib.Core.Path.{_≡_}
-use mathlib.Core.Bool.{Bool, true, false}
+use mathlib.Core.Bool.{true, false}
 use mathlib.Core.List.{List, [], _∷_, _++_}
 use Prim.Native.Nat.{ℕ, _+_, _*_}
-use lib.ListN.{length, getD, take, drop, replicate}
+use lib.ListN.{length, take, drop, replicate}
 use Rattle.rules.specs.declared.State.{State}
 use Rattle.rules.specs.declared.Setup.{Setup}
-use Rattle.rules.specs.declared.ShortText.{ShortText}
 use Rattle.rules.specs.declared.Personality.the-variants as Personality
-use Rattle.rules.specs.State.{shortText, noText, withTabs, withFeatures, withKeys, withLabels}
+use Rattle.rules.specs.State.{shortText, noText, withTabs, withKeys, withLabels}
 use Rattle.rules.specs.Possible.{powerOn}
 use Rattle.saved.specs.declared.SaveAnswer.the-variants as SaveAnswer
 use Rattle.saved.specs.declared.RestoreAnswer.the-variants as RestoreAnswer
 use Rattle.saved.specs.SetupBytes.{stopBytes, byCode, featureBytes, attributeBytes, textBytes, keyValue, labelValue, setupBytes}
 use Rattle.saved.specs.Settings.{withSettings, withSetup}
-use Rattle.saved.specs.Store.{twoBytes, twoAt, place, lastNumber, placeOf, setupOf, afterSave, allZero, isPlace, isStore}
+use Rattle.saved.specs.Store.{twoBytes, twoAt, lastNumber, placeOf, setupOf, afterSave, allZero, isPlace, isStore}
 use Rattle.saved.specs.Calls.{saved, saveRule, restorable, restoring, restoreRule}
 
 abbrev pub on : State

@@ -1,8 +1,8 @@
 -- What request A10 of document 02 says of saved set-ups, the statement.
 use mathlib.Core.Path.{_≡_}
-use mathlib.Core.Bool.{Bool, true, false}
+use mathlib.Core.Bool.{true, false}
 use mathlib.Core.List.{List, []}
-use Prim.Native.Nat.{ℕ, _+_, _-_, _<_, _≤_}
+use Prim.Native.Nat.{ℕ, _+_, _<_, _≤_}
 use lib.ListN.{length, getD, drop}
 use Rattle.rules.specs.declared.State.{State}
 use Rattle.rules.specs.declared.Setup.{Setup}
@@ -15,7 +15,7 @@ use Rattle.saved.specs.declared.RestoreAnswer.the-variants as RestoreAns
 use Rattle.saved.specs.SetupBytes.{setupBytes, longest}
 use Rattle.saved.specs.Settings.{SameSettings, Shaped, Saved}
 use Rattle.saved.specs.Store.{lastNumber, lastOfAll, Saves, Leaves, isSetup, isStore}
-use Rattle.saved.specs.Calls.{SaveOutcome, saved, saveRule, restorable, RestoreOutcome, restoring, restoreRule}
+use Rattle.saved.specs.Calls.{saved, saveRule, restorable, restoring, restoreRule}
 
 -- a state that can be saved: a possible one
 pub record Possible (s : State) : Type 0 where

@@ -1,14 +1,12 @@
 -- The settings of a set-up: what is saved and restored. Host message and shifted line are none.
 use mathlib.Core.Path.{_≡_}
-use mathlib.Core.List.{List, [], _++_, map}
-use mathlib.Core.Bool.{Bool, true}
+use mathlib.Core.List.{List, _++_, map}
+use mathlib.Core.Bool.{true}
 use Prim.Native.Nat.{ℕ}
 use lib.ListN.{length, take, drop}
 use Rattle.rules.specs.declared.Setup.{Setup}
 use Rattle.rules.specs.declared.State.{State}
-use Rattle.rules.specs.declared.ShortText.{ShortText}
 use Rattle.rules.specs.declared.Personality.{Personality}
-use Rattle.rules.specs.Cell.{same}
 use Rattle.rules.specs.Row.{addressed}
 use Rattle.rules.specs.State.{shortBytes, withTabs, withAttributes, withFeatures, withKeys, withLabels}
 use Rattle.rules.specs.Possible.{powerOn, blank, possible}

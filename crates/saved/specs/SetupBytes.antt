@@ -1,6 +1,6 @@
 -- A set-up as the terminal's own command bytes (document 02, A10): its tab stops, features, field attributes, keys and labels, each group
 -- ascending by value.
-use mathlib.Core.Bool.{Bool, true, false}
+use mathlib.Core.Bool.{Bool}
 use mathlib.Core.List.{List, [], _∷_, _++_}
 use Prim.Native.Nat.{ℕ, suc, _+_}
 use lib.Dec.{ltb}

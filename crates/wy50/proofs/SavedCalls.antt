@@ -1,11 +1,10 @@
 -- The exported save and restore, from the promises of the crate `saved`.
 -- Assumes nothing.
-use mathlib.Core.Path.{_≡_, refl, sym, ap, _∙_}
+use mathlib.Core.Path.{_≡_, refl, ap, _∙_}
 use mathlib.Core.Bool.{true, false}
 use mathlib.Core.List.{List}
 use Prim.Native.Nat.{ℕ}
-use lib.Dec.{eqb}
-use borrow.Author.Tests.{eq-eqb, ne-eqb}
+use borrow.Author.Tests.{ne-eqb}
 use Rattle.rules.specs.declared.State.{State}
 use Rattle.saved.specs.declared.SaveAnswer.{SaveAnswer}
 use Rattle.saved.specs.declared.RestoreResult.{RestoreResult}
