@@ -7,7 +7,7 @@ use native.Mathlib.Numerals.{add-one}
 use native.Mathlib.Omega.{arith}
 use lib.ListN.{length, getD, drop, drop-of-length-le}
 use lib.Seq.{drop-cons}
-use Rattle.replay.specs.Digest.{prime, start, withCell, digestFrom}
+use Rattle.replay.specs.Digest.{prime, start, withByte, withCell, digestFrom, bytesFrom}
 
 -- a sum modulo m may take its parts modulo m
 sum-mod : (m a b : ℕ) {x y r : ℕ} → x ≡ a % m → y ≡ b % m → r ≡ (x + y) % m → r ≡ (a + b) % m
@@ -44,3 +44,20 @@ module _ {p : List ℕ} {h i : ℕ} (v : Digesting p h i) where
   pub digest-on : {r : ℕ} → i < length p → r ≡ withCell h (getD p i 0) → Digesting p r (i + 1)
   unfolding digestFrom
   digest-on k q = record { within = omega arith; digest = v .digest ∙ rw (add-one, drop-cons p i 0 k, q) }
+
+-- after i bytes the digest is h
+pub record Hashing (l : List ℕ) (h i : ℕ) : Type 0 where
+  pub within : i ≤ length l
+  pub digest : bytesFrom start l ≡ bytesFrom h (drop i l)
+
+pub hash-start : (l : List ℕ) → Hashing l start 0
+hash-start l = record { within = omega arith; digest = refl }
+
+module _ {l : List ℕ} {h i : ℕ} (v : Hashing l h i) where
+  pub hash-end : length l ≤ i → h ≡ bytesFrom start l
+  unfolding bytesFrom
+  hash-end k = sym (v .digest ∙ rw (drop-of-length-le l k))
+
+  pub hash-on : {r b : ℕ} → i < length l → b ≡ getD l i 0 → r ≡ withByte h b → Hashing l r (i + 1)
+  unfolding bytesFrom
+  hash-on k e q = record { within = omega arith; digest = v .digest ∙ rw (add-one, drop-cons l i 0 k, q, e) }

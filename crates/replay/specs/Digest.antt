@@ -1,4 +1,4 @@
--- FNV-1a of 64 bits over a page: each cell's low byte, then its high byte.
+-- FNV-1a of 64 bits over a page, each cell's low byte and then its high byte, and over bytes.
 use Prim.Native.Nat.{ℕ, _+_, _*_, _/_, _%_, _^_}
 use mathlib.Core.List.{List, [], _∷_}
 use lib.Bits.{bitXor}
@@ -18,3 +18,8 @@ withCell h v = withByte (withByte h (v % 256)) (v / 256)
 unfoldable pub digestFrom : ℕ → List ℕ → ℕ
 digestFrom h [] = h
 digestFrom h (v ∷ p) = digestFrom (withCell h v) p
+
+-- over bytes
+unfoldable pub bytesFrom : ℕ → List ℕ → ℕ
+bytesFrom h [] = h
+bytesFrom h (b ∷ l) = bytesFrom (withByte h b) l

@@ -31,14 +31,14 @@ fn opening(out: &mut [u8], at: usize, count: usize, word: &[u8], a: Answer) -> u
     named(out, n, b" answer=", terminal::answer_number(a) as usize)
 }
 
-fn heading(out: &mut [u8], at: usize, count: usize, word: &[u8]) -> usize {
+pub fn heading(out: &mut [u8], at: usize, count: usize, word: &[u8]) -> usize {
     let n = decimal(out, at, count);
     let n1 = put(out, n, b' ');
     text(out, n1, word)
 }
 
 // The state, the page's digest, the end of the line.
-fn ending(out: &mut [u8], at: usize, s: State, page: &[u16]) -> Called {
+pub fn ending(out: &mut [u8], at: usize, s: State, page: &[u16]) -> Called {
     let n = state_text::state(out, at, s);
     let n1 = text(out, n, b" page=");
     let n2 = hex_word(out, n1, digest::of(page));

@@ -1,7 +1,7 @@
-// The digest of a page: FNV-1a of 64 bits over each cell's low byte and high byte.
+// Digests: FNV-1a of 64 bits, of a page over each cell's low byte and high byte, of a store over its bytes.
 ghost use Prim.Native.Nat.{_*_, _%_, _^_};
 ghost use mathlib.Core.Path.{_≡_};
-ghost use Rattle.replay.specs.Digest.{prime, start, withByte, withCell, digestFrom};
+ghost use Rattle.replay.specs.Digest.{prime, start, withByte, withCell, digestFrom, bytesFrom};
 use std::num::wrapping_add_u64;
 
 // h times 2^40 + 2^8 + 2^7 + 2^5 + 2^4 + 2 + 1, the prime of FNV, modulo 2^64.
@@ -34,6 +34,24 @@ pub fn of(page: &[u16]) -> u64
     let mut i = 0;
     while i < page.len() {
         h = with_cell(h, page[i]);
+        i += 1;
+    }
+    h
+}
+
+fn wide(b: u8) -> u64
+    ensures { λ r. ⌜ r ≡ b ⌝ }
+{
+    b as u64
+}
+
+pub fn of_bytes(store: &[u8]) -> u64
+    ensures { λ r. ⌜ r ≡ bytesFrom start (now (store .entry)) ⌝ }
+{
+    let mut h = 0xcbf2_9ce4_8422_2325;
+    let mut i = 0;
+    while i < store.len() {
+        h = with_byte(h, wide(store[i]));
         i += 1;
     }
     h

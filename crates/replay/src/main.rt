@@ -9,6 +9,7 @@ mod script;
 mod send;
 mod sequence;
 mod state_text;
+mod store;
 mod text;
 mod trace;
 
@@ -39,6 +40,7 @@ fn obey_lines(
     input: &[u8],
     page: &mut [u16],
     rows: &mut [u16],
+    store: &mut [u8],
     out: &mut [u8],
 ) -> Progress {
     let mut t = s;
@@ -48,7 +50,7 @@ fn obey_lines(
         if end == rest.len() {
             break;
         }
-        let u = obey(t, &rest[..end], page, rows, out);
+        let u = obey(t, &rest[..end], page, rows, store, out);
         t = u;
         if !t.going {
             break;
@@ -78,14 +80,15 @@ fn piece(
     input: &mut [u8],
     page: &mut [u16],
     rows: &mut [u16],
+    store: &mut [u8],
     out: &mut [u8],
 ) -> Progress {
     let held = within(s.held, input);
     let n = read(&mut input[held..]);
     if n == 0 {
-        return end(s, &input[..held], page, rows, out);
+        return end(s, &input[..held], page, rows, store, out);
     }
-    filled(s, held + n, input, page, rows, out)
+    filled(s, held + n, input, page, rows, store, out)
 }
 
 // Obeys the whole lines of the n bytes that the buffer holds, and moves the rest to its front.
@@ -95,10 +98,11 @@ fn filled(
     input: &mut [u8],
     page: &mut [u16],
     rows: &mut [u16],
+    store: &mut [u8],
     out: &mut [u8],
 ) -> Progress {
     let size = within(n, input);
-    let t = obey_lines(s, &input[..size], page, rows, out);
+    let t = obey_lines(s, &input[..size], page, rows, store, out);
     let left = least(t.held, size);
     if left == input.len() {
         return too_long(t);
@@ -108,8 +112,15 @@ fn filled(
 }
 
 // The last line may have no line end.
-fn end(s: Progress, line: &[u8], page: &mut [u16], rows: &mut [u16], out: &mut [u8]) -> Progress {
-    let t = obey(s, line, page, rows, out);
+fn end(
+    s: Progress,
+    line: &[u8],
+    page: &mut [u16],
+    rows: &mut [u16],
+    store: &mut [u8],
+    out: &mut [u8],
+) -> Progress {
+    let t = obey(s, line, page, rows, store, out);
     stopped(t)
 }
 
@@ -136,11 +147,11 @@ fn left(pieces: u64, going: bool) -> u64
 }
 
 // A proved loop has to end, and nothing says that the input does: the count of pieces falls from a number that no script uses up.
-fn replay(input: &mut [u8], page: &mut [u16], rows: &mut [u16], out: &mut [u8]) {
+fn replay(input: &mut [u8], page: &mut [u16], rows: &mut [u16], store: &mut [u8], out: &mut [u8]) {
     let mut s = progress::start();
     let mut pieces = u64::MAX;
     while 0 < pieces {
-        let t = piece(s, input, page, rows, out);
+        let t = piece(s, input, page, rows, store, out);
         s = t;
         pieces = left(pieces, s.going);
     }
@@ -152,5 +163,6 @@ fn main() {
     let mut out = io::large_buffer();
     let mut page = [0u16; 4000];
     let mut rows = [0u16; 4000];
-    replay(&mut input, &mut page, &mut rows, &mut out);
+    let mut store = [0u8; 16384];
+    replay(&mut input, &mut page, &mut rows, &mut store, &mut out);
 }

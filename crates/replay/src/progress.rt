@@ -9,9 +9,11 @@ use crate::script::Command;
 use crate::script::ListLine;
 use crate::script::PageLine;
 use crate::script::Setting;
+use crate::script::StoreLine;
 use crate::script::read;
 use crate::send;
 use crate::sequence;
+use crate::store;
 use crate::text;
 use libc::STDERR_FILENO;
 use rules::Personality;
@@ -24,9 +26,10 @@ const MOST: usize = 32768;
 
 pub struct Progress {
     pub state: State,
-    // the lengths of the page and of the row list
+    // the lengths of the page, of the row list and of the store
     pub cells: usize,
     pub numbers: usize,
+    pub bytes: usize,
     // how many lines were written, and read
     pub written: usize,
     pub line: usize,
@@ -45,6 +48,7 @@ pub fn start() -> Progress {
         state: state,
         cells: CELLS,
         numbers: 48,
+        bytes: 8714,
         written: 0,
         line: 0,
         at: 0,
@@ -76,11 +80,12 @@ pub fn obey(
     line: &[u8],
     page: &mut [u16],
     rows: &mut [u16],
+    store: &mut [u8],
     out: &mut [u8],
 ) -> Progress {
     let mut t = s;
     t.line = wrapping_add_usize(s.line, 1);
-    let u = carry_out(t, line, page, rows, out);
+    let u = carry_out(t, line, page, rows, store, out);
     if !u.going {
         complain(u.line, line);
     }
@@ -92,6 +97,7 @@ fn carry_out(
     line: &[u8],
     page: &mut [u16],
     rows: &mut [u16],
+    store: &mut [u8],
     out: &mut [u8],
 ) -> Progress {
     let c = read(line);
@@ -100,6 +106,7 @@ fn carry_out(
         Command::Skip => s,
         Command::Page(x) => change_page(s, x, page),
         Command::List(x) => change_list(s, x, rows),
+        Command::Store(x) => keep(s, x, page, store, out),
         Command::Set(x) => set(s, x),
         Command::Key(k) => set_key(s, k, line),
         Command::Label(k) => set_label(s, k, line),
@@ -162,6 +169,55 @@ fn set_numbers(s: Progress, n: usize, rows: &mut [u16]) -> Progress {
     change::fill(&mut rows[..numbers], 0);
     let mut t = s;
     t.numbers = numbers;
+    t
+}
+
+// The lines about the store.
+fn keep(s: Progress, x: StoreLine, page: &[u16], store: &mut [u8], out: &mut [u8]) -> Progress {
+    let cells = within_cells(s.cells, page);
+    let size = within(s.bytes, store);
+    match x {
+        StoreLine::Length(n) => set_bytes(s, n, store),
+        StoreLine::Byte(i, v) => set_byte(s, i, v, &mut store[..size]),
+        StoreLine::Save => save(s, &page[..cells], &mut store[..size], out),
+        StoreLine::Restore(n) => restore(s, n, &page[..cells], &store[..size], out),
+    }
+}
+
+fn set_bytes(s: Progress, n: usize, store: &mut [u8]) -> Progress {
+    let size = within(n, store);
+    store::clear(&mut store[..size]);
+    let mut t = s;
+    t.bytes = size;
+    t
+}
+
+fn set_byte(s: Progress, i: usize, v: u8, store: &mut [u8]) -> Progress {
+    if i < store.len() {
+        store[i] = v;
+        return s;
+    }
+    stopped(s)
+}
+
+fn save(s: Progress, page: &[u16], store: &mut [u8], out: &mut [u8]) -> Progress {
+    let state = s.state;
+    let count = wrapping_add_usize(s.written, 1);
+    let mut t = s;
+    t.written = count;
+    t.at = store::save(count, state, page, store, out, s.at);
+    t
+}
+
+fn restore(s: Progress, n: u16, page: &[u16], store: &[u8], out: &mut [u8]) -> Progress {
+    let state = s.state;
+    let count = wrapping_add_usize(s.written, 1);
+    let r = store::restore(count, state, n, page, store, out, s.at);
+    let next = r.state;
+    let mut t = s;
+    t.state = next;
+    t.written = count;
+    t.at = r.at;
     t
 }
 

@@ -23,6 +23,14 @@ pub enum ListLine {
     Number(usize, u16),
 }
 
+// Lines about the store: its length, a byte of it, a save and a restore.
+pub enum StoreLine {
+    Length(usize),
+    Byte(usize, u8),
+    Save,
+    Restore(u16),
+}
+
 // Lines that change the state by numbers alone. A mode counts from 0 in the order of `Modes`.
 pub enum Setting {
     Active(u8),
@@ -59,6 +67,7 @@ pub enum Command {
     Skip,
     Page(PageLine),
     List(ListLine),
+    Store(StoreLine),
     Set(Setting),
     Key(usize),
     Label(usize),
@@ -96,6 +105,9 @@ fn one_word(line: &[u8]) -> Command {
     if same(line, b"rebuild") {
         return Command::Call(Call::Rebuild, 0);
     }
+    if same(line, b"save") {
+        return Command::Store(StoreLine::Save);
+    }
     Command::Bad
 }
 
@@ -125,6 +137,12 @@ fn two_words(line: &[u8]) -> Command {
     if same(word, b"rows") {
         return given(n <= 4000, Command::List(ListLine::Length(n)));
     }
+    if same(word, b"store") {
+        return given(n <= 16384, Command::Store(StoreLine::Length(n)));
+    }
+    if same(word, b"restore") {
+        return restore(n);
+    }
     if 255 < n {
         return Command::Bad;
     }
@@ -145,6 +163,13 @@ fn two_words(line: &[u8]) -> Command {
         return given(v < 32, Command::Set(Setting::Remembered(v)));
     }
     of_personality(word, v)
+}
+
+fn restore(n: usize) -> Command {
+    if 65535 < n {
+        return Command::Bad;
+    }
+    Command::Store(StoreLine::Restore(n as u16))
 }
 
 // A word with a personality, 50 or 60.
@@ -231,6 +256,9 @@ fn pair(word: &[u8], i: usize, n: usize) -> Command {
         return Command::Bad;
     }
     let b = n as u8;
+    if same(word, b"byte") {
+        return Command::Store(StoreLine::Byte(i, b));
+    }
     if same(word, b"attribute") {
         return given(i < 4, Command::Set(Setting::Attribute(i, b)));
     }

@@ -1,7 +1,7 @@
 -- `replay::piece` is safe.
 use lib.ListN.{length-take}
-use borrow.Author.Needs.{needs}
 use native.Mathlib.Omega.{arith}
+use borrow.Author.Needs.{needs}
 use Rattle.replay.proofs.piece.Statement.{statement}
 use Rattle.replay.proofs.piece.Tie as tie
 
@@ -33,19 +33,23 @@ piece-spec =
     (λ c. search needs)
     -- same-length-4
     (λ c. search needs)
+    -- same-length-5
+    (λ c. search needs)
     -- returns
     (λ c. search needs)
     -- add-filled
     (λ c. search needs)
     -- filled-requires
     (λ c κs. search needs)
-    -- same-length-5
-    (λ c. search needs)
     -- same-length-6
     (λ c. search needs)
     -- same-length-7
     (λ c. search needs)
     -- same-length-8
+    (λ c. search needs)
+    -- same-length-9
+    (λ c. search needs)
+    -- same-length-10
     (λ c. search needs)
     -- returns-2
     (λ c. search needs))
