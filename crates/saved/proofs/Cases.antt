@@ -4,7 +4,7 @@ use mathlib.Core.Path.{refl}
 use Rattle.rules.specs.Row.{columns}
 use Rattle.rules.specs.Arguments.{isAttribute, featurePlace}
 use Rattle.rules.specs.Slot.{isText, allText, textOk, textsOk}
-use Rattle.rules.specs.Possible.{powerOn, screenOk, unsplitOk, attributesOk, featuresOk, noStops, pendingOk, rememberedOk, coreOk, setupOk, possible}
+use Rattle.rules.specs.Possible.{powerOn, screenOk, unsplitOk, attributesOk, featuresOk, noStops, pendingOk, rememberedOk, sendingOk, coreOk, setupOk, possible}
 use Rattle.saved.specs.SetupBytes.{stopBytes, byCode, featureBytes, attributeBytes, textBytes, textsBytes, keyValue, labelValue, setupBytes}
 use Rattle.saved.specs.Settings.{withSettings}
 use Rattle.saved.specs.Store.{place, cut, joined, laid, afterSave, allZero, isPlace, placesOk, isStore}
@@ -56,7 +56,7 @@ numbers = record { none = refl; three = refl; nine = refl; last = refl }
 
 calls : Calls
 unfolding saveRule restoreRule possible coreOk setupOk powerOn columns noStops screenOk unsplitOk textsOk textOk allText isText attributesOk isAttribute
-    featuresOk featurePlace rememberedOk pendingOk cut allZero placesOk isStore
+    featuresOk featurePlace rememberedOk pendingOk sendingOk cut allZero placesOk isStore
 calls = record {
   first = refl;
   save-state = refl;

@@ -8,7 +8,6 @@ use mathlib.Core.List.{List, [], _∷_, _++_}
 use Prim.Native.Nat.{ℕ, suc, _+_, _-_, _<_, _≤_}
 use native.Mathlib.Nat.{sub-zero}
 use native.Mathlib.Omega.{arith}
-use lib.Dec.{leb·zero}
 use lib.ListN.{length, getD, take, set}
 use borrow.Author.Tests.{lt-ltb, le-leb}
 use Rattle.rules.specs.declared.Core.{Core}
@@ -24,15 +23,15 @@ use Rattle.rules.specs.declared.Decoded.{Decoded}
 use Rattle.rules.specs.declared.Decoded.the-variants as Decoded
 use Rattle.rules.specs.declared.Pending.{Pending}
 use Rattle.rules.specs.declared.Pending.the-variants as Pending
+use Rattle.rules.specs.declared.Sending.the-variants as Sending
 use Rattle.rules.specs.declared.SetupChange.{SetupChange}
 use Rattle.rules.specs.Cell.{among}
 use Rattle.rules.specs.Row.{columns}
-use Rattle.rules.specs.State.{withScreen, withCursor, awaiting, segmentTop, segmentBottom, changed, stored, gatheredAfter, setupAfter}
+use Rattle.rules.specs.State.{withScreen, withCursor, awaiting, segmentTop, segmentBottom, changed, stored, sends, sendingAfter, gatheredAfter, setupAfter}
 use Rattle.rules.specs.Search.{guardedAt, others, settled}
 use Rattle.rules.specs.Possible.{powerOn, good}
 use Rattle.rules.specs.Decode.{decodeRule}
 use Rattle.rules.specs.Plan.{changing, settling, addressPlan, movePlan, planRule}
-use Rattle.rules.specs.Send.{places, bytesOf, replied}
 use Rattle.rules.specs.Carry.{quiet, applied, landed, done, carried}
 use Rattle.rules.specs.Step.{Outcome, outcomeOf, obeyed, innerRule, stepRule}
 use Rattle.rules.specs.Calls.{Ran, joined, repeated, runRule}
@@ -47,45 +46,50 @@ abbrev pub inner : List ℕ → State → ℕ → ℕ → Outcome
 inner p s b room = outcomeOf s (innerRule p (s .core) (s .setup .tabs) b room)
 
 abbrev pub quietly : List ℕ → State → Outcome
-quietly p s = record { answer = 0; state = s; page = p; reply = [] }
+quietly p s = record { answer = 0; taken = true; state = s; page = p; reply = [] }
 
 -- the run of n bytes, all taken with answer 0 and without a reply
 abbrev pub took : ℕ → List ℕ → State → Ran
 took n p s = record { answer = 0; taken = n; refused = 0; reply = []; rest = []; state = s; page = p }
 
--- the bytes lead from a state to a state, whatever the room
+-- the bytes lead from a state to a state, whatever the room; no send is under way
 pub data Fed (p : List ℕ) : List ℕ → State → State → Type 0 where
-  none : {s : State} → Fed p [] s s
-  byte : {b : ℕ} {bs : List ℕ} {s t z : State} → ((room : ℕ) → inner p s b room ≡ quietly p t) → Fed p bs t z → Fed p (b ∷ bs) s z
+  none : {s : State} → sends (s .sending) ≡ false → Fed p [] s s
+  byte : {b : ℕ} {bs : List ℕ} {s t z : State} → sends (s .sending) ≡ false → ((room : ℕ) → inner p s b room ≡ quietly p t) → Fed p bs t z
+      → Fed p (b ∷ bs) s z
+
+unsent : {p bytes : List ℕ} {s t : State} → Fed p bytes s t → sends (s .sending) ≡ false
+unsent (none u) = u
+unsent (byte u e x) = u
 
 pub fed-append : {p a b : List ℕ} {s t z : State} → Fed p a s t → Fed p b t z → Fed p (a ++ b) s z
-fed-append none y = y
-fed-append (byte e x) y = byte e (fed-append x y)
+fed-append (none u) y = y
+fed-append (byte u e x) y = byte u e (fed-append x y)
 
-module _ (b : ℕ) (p : List ℕ) (s : State) (room : ℕ) {t : State} where
+module _ (b : ℕ) (p : List ℕ) (s : State) (room : ℕ) {t : State} (u : sends (s .sending) ≡ false) where
   step-fed : good p s ≡ true → ((room : ℕ) → inner p s b room ≡ quietly p t) → stepRule p s b room ≡ quietly p t
   unfolding stepRule
-  step-fed g e = rw g (e room)
+  step-fed g e = rw (g, u) (e room)
 
   next-fed : (bs : List ℕ) {n : ℕ} {z : State} → stepRule p s b room ≡ quietly p t → repeated bs p t room ≡ took n p z
       → repeated (b ∷ bs) p s room ≡ took (suc n) p z
   unfolding repeated joined
-  next-fed bs e h = rw (e, sub-zero, h)
+  next-fed bs e h = rw (u, e, sub-zero, h)
 
   next-good : good p s ≡ true → stepRule p s b room ≡ quietly p t → good p t ≡ true
   next-good g e = rw e at (step-good p s b room g)
 
 fed-repeated : {bytes p : List ℕ} {s t : State} (room : ℕ) → good p s ≡ true → Fed p bytes s t → repeated bytes p s room ≡ took (length bytes) p t
 unfolding repeated
-fed-repeated room g none = refl
-fed-repeated {p = p} room g (byte {b} {bs} {s} {t} e x) =
-    let f = step-fed b p s room g e in
-    next-fed b p s room bs f (fed-repeated room (next-good b p s room g f) x)
+fed-repeated room g (none u) = refl
+fed-repeated {p = p} room g (byte {b} {bs} {s} {t} u e x) =
+    let f = step-fed b p s room u g e in
+    next-fed b p s room u bs f (fed-repeated room (next-good b p s room u g f) x)
 
 -- on a good page and state it is the run
 pub fed-run : {bytes p : List ℕ} {s t : State} (room : ℕ) → good p s ≡ true → Fed p bytes s t → runRule p s bytes room ≡ took (length bytes) p t
 unfolding runRule
-fed-run room g x = rw g (fed-repeated room g x)
+fed-run room g x = rw (g, unsent x) (fed-repeated room g x)
 
 -- ---- the states on the way
 
@@ -97,43 +101,43 @@ abbrev pub coreAt : Personality → ℕ → Pending → Core
 coreAt m i q = awaiting (withScreen (powerOn m .core) (screenAt i)) q
 
 abbrev pub stateAt : Personality → ℕ → Pending → List ℕ → Setup → State
-stateAt m i q g u = record { core = coreAt m i q; gathered = g; setup = u }
+stateAt m i q g u = record { core = coreAt m i q; sending = Sending.Nothing; gathered = g; setup = u }
 
 -- ---- one byte
 
 module _ (m : Personality) {i : ℕ} {g : List ℕ} {u : Setup} {p : List ℕ} {q : Pending} (b : ℕ) (h : b < 128) where
   pub waits : {bs : List ℕ} {z : State} {r : Pending} → decodeRule q b ≡ Decoded.Wait r → Fed p bs (stateAt m i r g u) z
       → Fed p (b ∷ bs) (stateAt m i q g u) z
-  unfolding innerRule obeyed gatheredAfter setupAfter changed
+  unfolding innerRule obeyed sendingAfter gatheredAfter setupAfter changed
   waits {r = r} e f =
       let j : (room : ℕ) → inner p (stateAt m i q g u) b room ≡ quietly p (stateAt m i r g u) = λ room. rw (lt-ltb b 128 h, e) in
-      byte j f
+      byte refl j f
 
   pub gathers : {bs : List ℕ} {z : State} {x : Slot} {n : ℕ} → decodeRule q b ≡ Decoded.Gather x n b
       → Fed p bs (stateAt m i (Pending.Text x (n + 1)) (set g n b) u) z → Fed p (b ∷ bs) (stateAt m i q g u) z
-  unfolding innerRule obeyed gatheredAfter setupAfter changed
+  unfolding innerRule obeyed sendingAfter gatheredAfter setupAfter changed
   gathers {x = x} {n = n} e f =
       let j : (room : ℕ) → inner p (stateAt m i q g u) b room ≡ quietly p (stateAt m i (Pending.Text x (n + 1)) (set g n b) u) =
       λ room. rw (lt-ltb b 128 h, e) in
-      byte j f
+      byte refl j f
 
   pub takes : {x : Slot} {n : ℕ} → decodeRule q b ≡ Decoded.Take x n
       → Fed p (b ∷ []) (stateAt m i q g u) (stateAt m i Pending.Idle g (stored x (take n g) u))
-  unfolding innerRule obeyed gatheredAfter setupAfter changed
+  unfolding innerRule obeyed sendingAfter gatheredAfter setupAfter changed
   takes {x} {n} e =
       let j : (room : ℕ) → inner p (stateAt m i q g u) b room ≡ quietly p (stateAt m i Pending.Idle g (stored x (take n g) u)) =
       λ room. rw (lt-ltb b 128 h, e) in
-      byte j none
+      byte refl j (none refl)
 
   -- a command that changes the set-up alone
   pub sets : (d : Command) (y : SetupChange) → decodeRule q b ≡ Decoded.Do d
       → planRule (guardedAt false p) (u .tabs) (coreAt m i Pending.Idle) d ≡ changing (coreAt m i Pending.Idle) y
       → Fed p (b ∷ []) (stateAt m i q g u) (stateAt m i Pending.Idle g (changed y u))
-  unfolding innerRule obeyed carried done places bytesOf replied landed applied gatheredAfter setupAfter powerOn
+  unfolding innerRule obeyed carried done landed applied sendingAfter gatheredAfter setupAfter powerOn
   sets d y e f =
       let j : (room : ℕ) → inner p (stateAt m i q g u) b room ≡ quietly p (stateAt m i Pending.Idle g (changed y u)) =
-      λ room. rw (lt-ltb b 128 h, e, f, leb·zero room) in
-      byte j none
+      λ room. rw (lt-ltb b 128 h, e, f) in
+      byte refl j (none refl)
 
 -- ---- the byte that ends ESC = and its row
 
@@ -159,12 +163,12 @@ module _ (m : Personality) (i : ℕ) (g : List ℕ) (u : Setup) (p : List ℕ) (
 
   settles : (room : ℕ) → carried p (coreAt m i (Pending.AddressRow 0x20)) (settling (coreAt m i Pending.Idle) k) room
       ≡ quiet 0 (coreAt m k Pending.Idle) p
-  unfolding carried done places bytesOf replied landed applied segmentTop segmentBottom withCursor columns powerOn
-  settles room = rw (leb·zero room, settled-free p k size (omega arith))
+  unfolding carried done landed applied segmentTop segmentBottom withCursor columns powerOn
+  settles room = rw (settled-free p k size (omega arith))
 
   pub goes : Fed p ((0x20 + k) ∷ []) (stateAt m i (Pending.AddressRow 0x20) g u) (stateAt m k Pending.Idle g u)
-  unfolding innerRule obeyed decodeRule gatheredAfter setupAfter changed powerOn
+  unfolding innerRule obeyed decodeRule sendingAfter gatheredAfter setupAfter changed powerOn
   goes =
       let j : (room : ℕ) → inner p (stateAt m i (Pending.AddressRow 0x20) g u) (0x20 + k) room ≡ quietly p (stateAt m k Pending.Idle g u) =
       λ room. rw (lt-ltb (0x20 + k) 128 (omega arith), address, settles room) in
-      byte j none
+      byte refl j (none refl)

@@ -18,10 +18,22 @@ use Rattle.rules.specs.State.{shortBytes}
 use Rattle.rules.specs.Slot.{textsOk}
 use Rattle.rules.proofs.Texts.{text-parts, texts-at, text-begun}
 use Rattle.page.specs.Room.{stored}
-use Rattle.page.proofs.Room.{unstored, stored-append, stored-over}
+use Rattle.page.proofs.Room.{stored-over}
 use Rattle.saved.specs.SetupBytes.{stopBytes, byCode, featureBytes, attributeBytes, textBytes, textsBytes, keysBytes, labelsBytes, setupBytes}
 use Rattle.saved.specs.Put.{Put}
 use Rattle.saved.proofs.Setups.{texts-most}
+
+stored-append : (r s : List ℕ) (n : ℕ) (w : List ℕ) → stored n (r ++ s) w ≡ stored (n + length r) s (stored n r w)
+unfolding stored
+stored-append [] s n w = let e : n + 0 ≡ n = omega arith in rw e
+stored-append (x ∷ r) s n w =
+    let e : n + suc (length r) ≡ n + 1 + length r = omega arith in
+    stored-append r s (n + 1) (set w n x) ∙ rw e
+
+-- where nothing is left to put, the room is as it will be
+unstored : {x r v : List ℕ} (n : ℕ) → x ≡ [] → stored n x r ≡ v → r ≡ v
+unfolding stored
+unstored {x} {r} {v} n e h = sym (ap (λ (t : List ℕ). stored n t r) e) ∙ h
 
 pub put-one : (l : List ℕ) (i n m : ℕ) (w : List ℕ) → i < length l → m ≡ n + 1
     → stored m (drop (i + 1) l) (set w n (getD l i 0)) ≡ stored n (drop i l) w

@@ -141,6 +141,7 @@ restored-leaves : (bytes : List ℕ) (s : State) → LeavesAlone s (restored byt
 unfolding restored withSettings
 restored-leaves bytes s = record {
   core = refl;
+  sending = refl;
   gathered = refl;
   message = refl;
   shifted = refl;
@@ -148,15 +149,19 @@ restored-leaves bytes s = record {
 }
 
 alone : (s : State) → LeavesAlone s s
-alone s = record { core = refl; gathered = refl; message = refl; shifted = refl; beyond = refl }
+alone s = record { core = refl; sending = refl; gathered = refl; message = refl; shifted = refl; beyond = refl }
 
 restored-possible : (bytes : List ℕ) (s : State) → possible s ≡ true → possible (restored bytes s) ≡ true
 unfolding restored
 restored-possible bytes s h =
     let r = possible-parts s h in
     let m = s .core .personality in
-    possible-whole _ (r .narrow) (r .core)
-    (settings-possible (fed m bytes) (s .setup) (fed-stops m bytes) (fed-fine m bytes) (s .core .screen .wide) (r .narrow) (r .setup))
+    possible-whole _ record {
+      narrow = r .narrow;
+      core = r .core;
+      sending = r .sending;
+      setup = settings-possible (fed m bytes) (s .setup) (fed-stops m bytes) (fed-fine m bytes) (s .core .screen .wide) (r .narrow) (r .setup);
+    }
 
 module _ (s : State) (store : List ℕ) (n : ℕ) where
   restore-bad-state : possible s ≡ false → restoreRule s store n ≡ restoring RestoreAnswer.BadState s

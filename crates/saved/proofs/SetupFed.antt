@@ -63,7 +63,7 @@ module _ (m : Personality) (g : List ℕ) (u : Setup) (p : List ℕ) (size : len
       → Fed p (stopBytes k l) (stateAt m i Pending.Idle g (withTabs u (a ++ (replicate (length l) false ++ beyond))))
       (stateAt m (lastMark i k l) Pending.Idle g (withTabs u (a ++ (l ++ beyond))))
   unfolding stopBytes
-  stops-fed i k a [] e f = none
+  stops-fed i k a [] e f = none refl
   stops-fed i k a (true ∷ l) e f =
       let more : length (a ++ true ∷ []) ≡ suc k = omega (arith, length-append a (true ∷ [])) in
       fed-append (stop-fed i k a (replicate (length l) false ++ beyond) (omega arith) e)
@@ -164,7 +164,7 @@ module _ (m : Personality) (i : ℕ) (g : List ℕ) (u : Setup) (p : List ℕ) w
       → attributesOk l ≡ true
       → Fed p (attributeBytes n l) (Here m i g u p (withAttributes u (a ++ old))) (Here m i g u p (withAttributes u (a ++ l)))
   unfolding attributeBytes attributesOk
-  attributes-fed n k a [] [] is e s f h = none
+  attributes-fed n k a [] [] is e s f h = none refl
   attributes-fed n k a [] (o ∷ old) is e s f h = absurd (omega arith)
   attributes-fed n k a (v ∷ l) [] is e s f h = absurd (omega arith)
   attributes-fed n k a (v ∷ l) (o ∷ old) is e s f h =
@@ -345,7 +345,7 @@ module _ (m : Personality) (i : ℕ) (u : Setup) (p : List ℕ) where
       → Fed p (keysBytes n l) (stateAt m i Pending.Idle g (withKeys u (a ++ old)))
       (stateAt m i Pending.Idle (gatheredTexts l g) (withKeys u (a ++ map clean l)))
   unfolding textsBytes textsOk gatheredTexts
-  keys-fed n a [] [] g e s f size h = none
+  keys-fed n a [] [] g e s f size h = none refl
   keys-fed n a [] (o ∷ old) g e s f size h = absurd (omega arith)
   keys-fed n a (t ∷ l) [] g e s f size h = absurd (omega arith)
   keys-fed n a (t ∷ l) (o ∷ old) g e s f size h =
@@ -375,7 +375,7 @@ module _ (m : Personality) (i : ℕ) (u : Setup) (p : List ℕ) where
       → Fed p (labelsBytes n l) (stateAt m i Pending.Idle g (withLabels u (a ++ old) s))
       (stateAt m i Pending.Idle (gatheredTexts l g) (withLabels u (a ++ map clean l) (shiftedBy n l s)))
   unfolding textsBytes textsOk gatheredTexts shiftedBy
-  labels-fed n a [] [] s g e z f size h = none
+  labels-fed n a [] [] s g e z f size h = none refl
   labels-fed n a [] (o ∷ old) s g e z f size h = absurd (omega arith)
   labels-fed n a (t ∷ l) [] s g e z f size h = absurd (omega arith)
   labels-fed n a (t ∷ l) (o ∷ old) s g e z f size h =

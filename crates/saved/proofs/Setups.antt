@@ -26,10 +26,10 @@ use Rattle.rules.specs.declared.Change.{Change}
 use Rattle.rules.specs.declared.Change.the-variants as Change
 use Rattle.rules.specs.Cell.{same}
 use Rattle.rules.specs.Row.{columns}
-use Rattle.rules.specs.State.{shortBytes, changed, stored, setupAfter}
+use Rattle.rules.specs.State.{shortBytes, changed, stored, sends, setupAfter}
 use Rattle.rules.specs.Slot.{textOk, textsOk}
 use Rattle.rules.specs.Possible.{powerOn, blank, possible, good}
-use Rattle.rules.specs.Step.{Outcome, innerRule, stepRule}
+use Rattle.rules.specs.Step.{Outcome, innerRule, goesOn, stepInside, stepRule}
 use Rattle.rules.specs.Calls.{Ran, joined, repeated, runRule}
 use Rattle.rules.proofs.Tests.{pick-if, both-parts, both-true}
 use Rattle.rules.proofs.Texts.{text-of, text-parts}
@@ -207,20 +207,24 @@ unfolding setupAfter
 after-shaped (Change.Gather n b) g u h = h
 after-shaped (Change.Take x n) g u h = stored-shaped x (take n g) u h
 after-shaped (Change.Set x) g u h = changed-shaped x u h
+after-shaped (Change.Send x) g u h = h
 
 step-shaped : (p : List ℕ) (s : State) (b room : ℕ) → Shaped (s .setup) → Shaped (stepRule p s b room .state .setup)
-unfolding stepRule
+unfolding stepRule stepInside goesOn
 step-shaped p s b room h =
-    pick-if (λ (o : Outcome). Shaped (o .state .setup)) (good p s)
-    (λ e. after-shaped (innerRule p (s .core) (s .setup .tabs) b room .change) (s .gathered) (s .setup) h) (λ e. h)
+    let Q : Outcome → Type 0 = λ o. Shaped (o .state .setup) in
+    pick-if Q (good p s)
+    (λ e. pick-if Q (sends (s .sending)) (λ u. pick-if Q (eqb room 0) (λ z. h) (λ z. h))
+    (λ u. after-shaped (innerRule p (s .core) (s .setup .tabs) b room .change) (s .gathered) (s .setup) h)) (λ e. h)
 
 repeated-shaped : (bytes p : List ℕ) (s : State) (room : ℕ) → Shaped (s .setup) → Shaped (repeated bytes p s room .state .setup)
 unfolding repeated joined
 repeated-shaped [] p s room h = h
 repeated-shaped (b ∷ bytes) p s room h =
     let o = stepRule p s b room in
-    pick-if (λ (r : Ran). Shaped (r .state .setup)) (eqb (o .answer) 6) (λ e. h)
-    (λ e. repeated-shaped bytes (o .page) (o .state) (room - length (o .reply)) (step-shaped p s b room h))
+    let Q : Ran → Type 0 = λ r. Shaped (r .state .setup) in
+    pick-if Q (sends (s .sending)) (λ u. h) (λ u. pick-if Q (eqb (o .answer) 6) (λ e. h)
+    (λ e. repeated-shaped bytes (o .page) (o .state) (room - length (o .reply)) (step-shaped p s b room h)))
 
 power-shaped : (m : Personality) → Shaped (powerOn m .setup)
 unfolding powerOn
@@ -231,7 +235,7 @@ abbrev fedState : Personality → List ℕ → State
 fedState m bytes = runRule blank (powerOn m) bytes 0 .state
 
 fed-shaped : (m : Personality) (bytes : List ℕ) → Shaped (fedState m bytes .setup)
-unfolding runRule
+unfolding runRule powerOn
 fed-shaped m bytes =
     pick-if (λ (r : Ran). Shaped (r .state .setup)) (good blank (powerOn m)) (λ e. repeated-shaped bytes blank (powerOn m) 0 (power-shaped m)) (λ e. power-shaped m)
 

@@ -39,6 +39,7 @@ pub record Gives (u : Setup) (bytes p : List ℕ) (r : Ran) : Type 0 where
 -- remembered attribute; of the set-up the host message, the shifted line and the stops beyond column 80
 pub record LeavesAlone (s t : State) : Type 0 where
   pub core : t .core ≡ s .core
+  pub sending : t .sending ≡ s .sending
   pub gathered : t .gathered ≡ s .gathered
   pub message : t .setup .message ≡ s .setup .message
   pub shifted : t .setup .shifted ≡ s .setup .shifted

@@ -28,7 +28,7 @@ withSettings v u =
     (v .keys)) (v .labels) (u .shifted)
 
 abbrev pub withSetup : State → Setup → State
-withSetup s u = record { core = s .core; gathered = s .gathered; setup = u }
+withSetup s u = record { core = s .core; sending = s .sending; gathered = s .gathered; setup = u }
 
 -- the set-up of a power-on terminal after the bytes, fed without room for a reply
 unfoldable pub fed : Personality → List ℕ → Setup
