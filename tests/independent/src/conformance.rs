@@ -12,6 +12,7 @@ mod possible;
 mod protection;
 mod rows;
 mod sends;
+mod setups;
 mod tables;
 mod texts;
 mod writing;
@@ -41,5 +42,6 @@ pub fn script() -> Vec<u8> {
     book.rows();
     book.personalities();
     book.narrow_sends();
+    book.setups();
     book.text
 }

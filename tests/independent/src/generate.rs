@@ -8,6 +8,7 @@ mod phrases;
 mod rows;
 mod scenes;
 mod sends;
+mod setups;
 mod texts;
 
 use crate::random::Random;
@@ -114,6 +115,9 @@ impl Generator {
     pub fn call(&mut self) {
         if self.random.once_in(4) && !self.avoids_excluded {
             self.disturb_send();
+        }
+        if self.random.once_in(30) {
+            return self.setup_call();
         }
         if self.tend_rows() {
             return self.rebuild();

@@ -7,6 +7,7 @@ mod generate;
 mod pairs;
 mod program;
 mod random;
+mod setups;
 mod shrink;
 mod state;
 mod terminal;

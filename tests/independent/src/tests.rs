@@ -5,6 +5,7 @@ mod narrow;
 mod personalities;
 mod rows;
 mod sends;
+mod setups;
 mod texts;
 
 use crate::state::{Cell, Personality, ESC};
@@ -245,6 +246,8 @@ fn bad_lines_are_named() {
         ("sending 1b35:65535\nsending 1b35:65536\n", 2),
         ("sending 1b62:255\nsending 1b62:cr\n", 2),
         ("sending 1b4d:0\n", 1),
+        ("byte 8713 255\nbyte 8714 0\n", 2),
+        ("save\nrestore 65535\nrestore 65536\n", 3),
         ("sending 1b3F:1\n", 1),
         ("rebuild\nliststep 1b\n", 2),
         ("pending 1b4600\n", 1),

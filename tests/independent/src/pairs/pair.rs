@@ -100,7 +100,7 @@ fn are_alike(first: &[Cell], second: &[Cell]) -> bool {
 /// A list call whose list agrees takes the same bytes as one without a list; one
 /// whose list does not agree takes none, and a step takes none during a send.
 fn obeys_without_excluded(bench: &mut Bench, call: &Line) -> bool {
-    let Bench { terminal, rows } = bench;
+    let Bench { terminal, rows, .. } = bench;
     let is_sending = terminal.state.sending.is_some();
     let (bytes, room) = match call {
         Line::ListStep { .. } | Line::ListRun { .. } if !terminal.agrees_with(rows) => (&[][..], 0),

@@ -19,6 +19,11 @@ impl TabStops {
         }
     }
 
+    /// The columns with a stop, from the left.
+    pub fn columns(self) -> impl Iterator<Item = usize> {
+        (0..COLUMNS).filter(move |&column| self.0 & TabStops::bit(column) != 0)
+    }
+
     pub fn next_after(self, column: usize) -> Option<usize> {
         let right = self.0 & (TabStops::bit(column) - 1);
         (right != 0).then(|| COLUMNS - 1 - right.ilog2() as usize)

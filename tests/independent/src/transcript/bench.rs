@@ -3,6 +3,7 @@
 use super::line::Line;
 use super::set::set;
 use super::WIDEST_ROOM;
+use crate::setups::{self, STORE};
 use crate::state::Personality;
 use crate::terminal::{Terminal, ROW_NUMBERS};
 
@@ -12,6 +13,8 @@ pub struct Bench {
     pub terminal: Terminal,
     /// The list of rows that have room, right or wrong.
     pub rows: Vec<u16>,
+    /// The store of set-ups, right or wrong.
+    pub store: Vec<u8>,
 }
 
 impl Bench {
@@ -19,13 +22,18 @@ impl Bench {
         Bench {
             terminal: Terminal::new(),
             rows: vec![0; ROW_NUMBERS],
+            store: vec![0; STORE],
         }
     }
 
     /// Obeys a line and says how many of its bytes were taken. None if the line
     /// is bad.
     pub fn follow(&mut self, line: &Line) -> Option<usize> {
-        let Bench { terminal, rows } = self;
+        let Bench {
+            terminal,
+            rows,
+            store,
+        } = self;
         let mut widest = [0; WIDEST_ROOM];
         let taken = match line {
             Line::On(personality) => {
@@ -44,6 +52,14 @@ impl Bench {
             }
             Line::Rebuild => {
                 let _ = terminal.rebuild_rows(rows);
+                0
+            }
+            Line::Save => {
+                let _ = setups::save(&terminal.state, store);
+                0
+            }
+            Line::Restore(number) => {
+                let _ = setups::restore(&mut terminal.state, store, *number);
                 0
             }
             _ if line.is_output() => 0,

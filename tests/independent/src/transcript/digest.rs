@@ -1,4 +1,4 @@
-//! The digest of a page.
+//! The digests of a page and of bytes.
 
 use crate::state::{Cell, COLUMNS};
 
@@ -74,4 +74,10 @@ impl PageDigest {
 
 fn same_cells(a: &[Cell], b: &[Cell]) -> bool {
     a.iter().zip(b).fold(0, |sum, (a, b)| sum | (a.0 ^ b.0)) == 0
+}
+
+pub fn bytes_digest(bytes: &[u8]) -> u64 {
+    bytes.iter().fold(PageDigest::OFFSET, |digest, &byte| {
+        (digest ^ byte as u64).wrapping_mul(PageDigest::PRIME)
+    })
 }

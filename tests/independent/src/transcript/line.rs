@@ -68,6 +68,11 @@ pub enum Line {
     Personality(Personality),
     Remembered(u8),
     Sending(Option<Sending>),
+    Store(usize),
+    Byte {
+        index: usize,
+        value: u8,
+    },
     /// WY-50 if none is named.
     On(Option<Personality>),
     Step {
@@ -98,6 +103,8 @@ pub enum Line {
         bytes: Vec<u8>,
         room: usize,
     },
+    Save,
+    Restore(u16),
 }
 
 impl Line {
@@ -115,6 +122,8 @@ impl Line {
                 | Line::Rebuild
                 | Line::ListStep { .. }
                 | Line::ListRun { .. }
+                | Line::Save
+                | Line::Restore(_)
         )
     }
 

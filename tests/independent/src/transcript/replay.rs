@@ -1,13 +1,14 @@
 //! The calls, and the trace that they leave.
 
 use super::bench::Bench;
-use super::digest::PageDigest;
+use super::digest::{bytes_digest, PageDigest};
 use super::line::Line;
 use super::set::set;
 use super::state::write_state;
 use super::write::*;
 use super::WIDEST_ROOM;
 use crate::counter::{write_count, write_entry};
+use crate::setups::{self, Unkept};
 use crate::state::Personality;
 use crate::terminal::{answer_number, Outcome, Run, Step};
 
@@ -46,6 +47,8 @@ impl Replay {
             Line::Rebuild => self.rebuild(out),
             Line::ListStep { byte, room } => self.list_step(*byte, *room, out),
             Line::ListRun { bytes, room } => self.list_run(bytes, *room, out),
+            Line::Save => self.save(out),
+            Line::Restore(number) => self.restore(*number, out),
             Line::Count { reply, first, last } => {
                 out.extend_from_slice(b" count");
                 write_count(reply, *first, *last, out);
@@ -89,7 +92,7 @@ impl Replay {
     }
 
     fn rebuild(&mut self, out: &mut Vec<u8>) {
-        let Bench { terminal, rows } = &mut self.bench;
+        let Bench { terminal, rows, .. } = &mut self.bench;
         let outcome = terminal.rebuild_rows(rows);
         out.extend_from_slice(b" rebuild answer=");
         push_number(out, answer_number(outcome) as usize);
@@ -97,7 +100,7 @@ impl Replay {
     }
 
     fn list_step(&mut self, byte: u8, room: usize, out: &mut Vec<u8>) {
-        let Bench { terminal, rows } = &mut self.bench;
+        let Bench { terminal, rows, .. } = &mut self.bench;
         let step = terminal.step_with_rows(byte, &mut self.room[..room], rows);
         out.extend_from_slice(b" liststep");
         self.write_step(step, room, out);
@@ -105,11 +108,39 @@ impl Replay {
     }
 
     fn list_run(&mut self, bytes: &[u8], room: usize, out: &mut Vec<u8>) {
-        let Bench { terminal, rows } = &mut self.bench;
+        let Bench { terminal, rows, .. } = &mut self.bench;
         let report = terminal.run_with_rows(bytes, &mut self.room[..room], rows);
         out.extend_from_slice(b" listrun");
         self.write_report(report, room, out);
         self.write_rows(out);
+    }
+
+    fn save(&mut self, out: &mut Vec<u8>) {
+        let result = setups::save(&self.bench.terminal.state, &mut self.bench.store);
+        out.extend_from_slice(b" save result=");
+        match result {
+            Ok(number) => {
+                out.extend_from_slice(b"saved:");
+                push_number(out, number as usize);
+            }
+            Err(unkept) => out.extend_from_slice(unkept_name(unkept)),
+        }
+        self.write_store(out);
+    }
+
+    fn restore(&mut self, number: u16, out: &mut Vec<u8>) {
+        let Bench {
+            terminal, store, ..
+        } = &mut self.bench;
+        let result = setups::restore(&mut terminal.state, store, number);
+        out.extend_from_slice(b" restore result=");
+        out.extend_from_slice(result.map_or_else(unkept_name, |()| b"restored"));
+        self.write_store(out);
+    }
+
+    fn write_store(&self, out: &mut Vec<u8>) {
+        out.extend_from_slice(b" store=");
+        push_digest(out, bytes_digest(&self.bench.store));
     }
 
     fn write_rows(&self, out: &mut Vec<u8>) {
@@ -174,5 +205,14 @@ impl Replay {
         });
         front.fill(ROOM_FILLER);
         beyond.fill(ROOM_FILLER);
+    }
+}
+
+fn unkept_name(unkept: Unkept) -> &'static [u8] {
+    match unkept {
+        Unkept::State => b"state",
+        Unkept::Store => b"store",
+        Unkept::Full => b"full",
+        Unkept::Number => b"number",
     }
 }

@@ -12,7 +12,11 @@ const BAD_CHARACTER: &[u8] = &[0x00];
 /// Obeys a line that sets something. False if it doesn't fit the page or a list,
 /// or has a sequence that is not in its one spelling.
 pub fn set(bench: &mut Bench, line: &Line) -> bool {
-    let Bench { terminal, rows } = bench;
+    let Bench {
+        terminal,
+        rows,
+        store,
+    } = bench;
     let Terminal { page, state } = terminal;
     match line {
         Line::Length(count) => *page = vec![Cell::NULL; *count],
@@ -48,6 +52,11 @@ pub fn set(bench: &mut Bench, line: &Line) -> bool {
         Line::Message(bytes) => state.message = Text::holding(bytes),
         Line::Label { label, bytes } => state.labels[*label] = Text::holding(bytes),
         Line::Shifted(on) => state.shifted = *on,
+        Line::Store(count) => *store = vec![0; *count],
+        Line::Byte { index, value } => match store.get_mut(*index) {
+            Some(byte) => *byte = *value,
+            None => return false,
+        },
         Line::Personality(personality) => state.personality = *personality,
         Line::Sending(sending) => {
             state.sending = *sending;

@@ -6,6 +6,7 @@ use crate::transcript::words::*;
 
 const LONGEST_PAGE: usize = 4000;
 const LONGEST_LIST: usize = 4000;
+const LONGEST_STORE: usize = 20000;
 
 impl Line {
     pub fn parse(text: &str) -> Option<Line> {
@@ -68,6 +69,11 @@ impl Line {
             "personality" => Line::Personality(personality(words.next()?)?),
             "remembered" => Line::Remembered(number(words.next()?, 31)? as u8),
             "sending" => Line::Sending(sending(words.next()?)?),
+            "store" => Line::Store(number(words.next()?, LONGEST_STORE)?),
+            "byte" => Line::Byte {
+                index: number(words.next()?, LONGEST_STORE)?,
+                value: number(words.next()?, 255)? as u8,
+            },
             "on" => Line::On(match words.next() {
                 Some(word) => Some(personality(word)?),
                 None => None,
@@ -85,6 +91,8 @@ impl Line {
                 room: room(words.next()?)?,
             },
             "show" => Line::Show,
+            "save" => Line::Save,
+            "restore" => Line::Restore(number(words.next()?, 0xFFFF)? as u16),
             "rebuild" => Line::Rebuild,
             "liststep" => Line::ListStep {
                 byte: hex_byte(words.next()?)?,

@@ -51,6 +51,8 @@ impl Line {
                 word(out, "sending ");
                 push_sending(out, *sending);
             }
+            Line::Store(count) => word(out, &format!("store {count}")),
+            Line::Byte { index, value } => word(out, &format!("byte {index} {value}")),
             Line::On(None) => word(out, "on"),
             Line::On(Some(personality)) => word(out, &format!("on {}", personality.digits())),
             Line::Step { byte, room } => word(out, &format!("step {byte:02x} {room}")),
@@ -66,6 +68,8 @@ impl Line {
                 push_bytes(out, reply);
                 word(out, &format!(" {first} {last}"));
             }
+            Line::Save => word(out, "save"),
+            Line::Restore(number) => word(out, &format!("restore {number}")),
             Line::Rebuild => word(out, "rebuild"),
             Line::ListStep { byte, room } => word(out, &format!("liststep {byte:02x} {room}")),
             Line::ListRun { bytes, room } => {
