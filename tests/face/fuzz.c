@@ -1,4 +1,4 @@
-/* Calls the library with random pages, states, bytes, rooms and row lists, and checks what holds of every call. Compiled with the address and undefined
+/* Calls the library with random pages, states, bytes, rooms, row lists and stores, and checks what holds of every call. Compiled with the address and undefined
  * behaviour sanitizers. Each buffer lies against a page of memory that may not be touched, before it or behind it by turns, and has guard
  * bytes on its other side. One of no bytes is often NULL.
  *
@@ -14,9 +14,9 @@
 #include <time.h>
 #include <unistd.h>
 
-enum { MOST_ROOM = 2000, MOST_INPUT = 600, MOST_PAGE = 2100, MOST_ROWS = 60, GUARD = 64 };
+enum { MOST_ROOM = 2000, MOST_INPUT = 600, MOST_PAGE = 2100, MOST_ROWS = 60, MOST_STORE = 9000, GUARD = 64 };
 
-static uint64_t seed, calls, bytes, turns, answered_7, replies, lists, wrong_lists, nulls;
+static uint64_t seed, calls, bytes, turns, answered_7, replies, lists, wrong_lists, nulls, saves;
 
 static uint64_t next(void)
 {
@@ -412,6 +412,83 @@ static void rebuilt(size_t cells, wy50_state x)
     lent(cells, page_before, 0, room_before, answer, &x);
 }
 
+/* The store that the saves so far left. */
+static buffer store_buffer;
+static uint8_t kept_store[WY50_STORE_BYTES];
+
+static int same_texts(const wy50_key *a, const wy50_key *b, size_t n)
+{
+    size_t i;
+    for (i = 0; i < n; i++) {
+        if (a[i].len != b[i].len || memcmp(a[i].bytes, b[i].bytes, a[i].len) != 0)
+            return 0;
+    }
+    return 1;
+}
+
+static int same_settings(const wy50_state *a, const wy50_state *b)
+{
+    return memcmp(a->tabs, b->tabs, sizeof a->tabs) == 0 && memcmp(a->features, b->features, sizeof a->features) == 0
+        && memcmp(a->attributes, b->attributes, sizeof a->attributes) == 0 && same_texts(a->keys, b->keys, WY50_KEYS) && same_texts(a->labels, b->labels, WY50_LABELS);
+}
+
+/* A save of x and a restore of its number into the state that the last calls left; or both refused, in a store that is off or of another length. */
+static wy50_state kept_setups(wy50_state last, wy50_state x)
+{
+    static uint16_t any_page[WY50_CELLS];
+    static uint8_t store_before[MOST_STORE];
+    uint8_t none = 0;
+    size_t i, k = below(12), len = k ? WY50_STORE_BYTES : below(MOST_STORE + 1), place_at;
+    uint8_t *store = (uint8_t *)place(&store_buffer, len);
+    int possible = wy50_step(any_page, WY50_CELLS, x, 0xe9, &none, 0).answer != WY50_BAD_CALL;
+    uint16_t number;
+    wy50_state other;
+    wy50_save_result s;
+    wy50_restore_result r;
+    for (i = 0; i < len; i++)
+        store[i] = i < WY50_STORE_BYTES ? kept_store[i] : 0;
+    if (k == 1)
+        store[below(3) ? below(300) : below(len)] ^= (uint8_t)(1 << below(8));
+    memcpy(store_before, store, len);
+    s = wy50_save(x, store, len);
+    untouched(&store_buffer);
+    calls++;
+    if (s.answer != WY50_DONE) {
+        expect(s.number == 0 && memcmp(store, store_before, len) == 0, "a refused save gives no number and writes nothing");
+        expect(possible ? s.answer == WY50_BAD_STORE || s.answer == WY50_FULL : s.answer == WY50_BAD_CALL, "a save judges the state first");
+        expect(!possible || len != WY50_STORE_BYTES || memcmp(store, kept_store, len) != 0 || (store[0] == 255 && store[1] == 255), "a store that saves left is taken");
+        r = wy50_restore(last, store, len, 0);
+        expect(same(&r.state, &last) && (!possible || r.answer == (s.answer == WY50_FULL ? WY50_BAD_NUMBER : WY50_BAD_STORE)), "a restore judges the store before the number, and leaves the state");
+        if (s.answer == WY50_FULL)
+            memset(kept_store, 0, sizeof kept_store);
+        return last;
+    }
+    saves++;
+    number = (uint16_t)(store_before[0] + 256 * store_before[1] + 1);
+    place_at = 2 + (size_t)(number - 1) % 8 * 1089;
+    expect(possible && len == WY50_STORE_BYTES && s.number == number && store[0] + 256 * store[1] == number, "a save gives the next number");
+    expect(memcmp(store + 2, store_before + 2, place_at - 2) == 0 && memcmp(store + place_at + 1089, store_before + place_at + 1089, len - place_at - 1089) == 0, "a save writes its own place");
+    memcpy(kept_store, store, len);
+    /* the end of the numbers comes near at times */
+    if (number >= 8 && below(100) == 0) {
+        kept_store[0] = (uint8_t)(250 + below(6));
+        kept_store[1] = 255;
+    }
+    r = wy50_restore(last, store, len, number);
+    expect(r.answer == WY50_DONE && same_settings(&r.state, &x), "a restore gives the settings that were saved");
+    other = r.state;
+    memcpy(other.tabs, last.tabs, sizeof other.tabs);
+    memcpy(other.features, last.features, sizeof other.features);
+    memcpy(other.attributes, last.attributes, sizeof other.attributes);
+    memcpy(other.keys, last.keys, sizeof other.keys);
+    memcpy(other.labels, last.labels, sizeof other.labels);
+    last = tidied(last);
+    expect(same(&other, &last), "a restore leaves all else");
+    expect(wy50_restore(last, store, len, 0).answer == WY50_BAD_NUMBER && wy50_restore(last, store, len, (uint16_t)(number + 1)).answer == WY50_BAD_NUMBER, "only numbers that were saved");
+    untouched(&store_buffer);
+    return below(2) ? r.state : last;
+}
+
 static wy50_state turn(wy50_state last, uint16_t *kept)
 {
     size_t i, cells = below(20) ? WY50_CELLS : below(2) * below(MOST_PAGE + 1);
@@ -494,6 +571,8 @@ static wy50_state turn(wy50_state last, uint16_t *kept)
         break;
     }
     }
+    if (below(8) == 0)
+        last = kept_setups(last, x);
     untouched(&page_buffer);
     untouched(&reply_buffer);
     calls++;
@@ -518,6 +597,7 @@ int main(int argc, char **argv)
     lent_page_buffer = make(MOST_PAGE * sizeof *kept);
     lent_reply_buffer = make(MOST_ROOM);
     rows_buffer = make(MOST_ROWS * sizeof *kept);
+    store_buffer = make(MOST_STORE);
     last = powered_on(kept);
     do {
         if (turns % 5000 == 0)
@@ -526,8 +606,9 @@ int main(int argc, char **argv)
         turns++;
         clock_gettime(CLOCK_MONOTONIC, &to);
     } while ((double)(to.tv_sec - from.tv_sec) + 1e-9 * (double)(to.tv_nsec - from.tv_nsec) < seconds);
-    printf("fuzz: nothing found in %.0f seconds: %llu turns (%llu answered 7), %llu row lists (%llu wrong), %llu NULLs, %llu calls, %llu host bytes, %llu reply bytes (seed %llu)\n",
+    printf("fuzz: nothing found in %.0f seconds: %llu turns (%llu answered 7), %llu row lists (%llu wrong), %llu NULLs, %llu saves, %llu calls, %llu host bytes, %llu reply bytes (seed %llu)\n",
         seconds, (unsigned long long)turns, (unsigned long long)answered_7, (unsigned long long)lists, (unsigned long long)wrong_lists,
-        (unsigned long long)nulls, (unsigned long long)calls, (unsigned long long)bytes, (unsigned long long)replies, (unsigned long long)seed);
+        (unsigned long long)nulls, (unsigned long long)saves, (unsigned long long)calls, (unsigned long long)bytes, (unsigned long long)replies,
+        (unsigned long long)seed);
     return 0;
 }
