@@ -68,6 +68,8 @@ install: lib ## libraries, headers, pkg-config files and the Rust crates' source
 	    install -d $(TO)/share/wy50/rust/$$crate/src && install -m 644 LICENSE rust/$$crate/Cargo.toml rust/$$crate/build.rs $(TO)/share/wy50/rust/$$crate \
 	        && install -m 644 rust/$$crate/src/*.rs $(TO)/share/wy50/rust/$$crate/src || exit 1; \
 	done
+	install -d $(TO)/share/wy50/rust/wy50/examples
+	install -m 644 rust/wy50/examples/*.rs $(TO)/share/wy50/rust/wy50/examples
 
 uninstall: ## takes out what install put there; the same PREFIX
 	rm -f $(addprefix $(TO)/lib/,$(notdir $(LIB) $(COUNTER))) $(addprefix $(TO)/include/,$(HEADERS)) $(TO)/lib/pkgconfig/wy50.pc $(TO)/lib/pkgconfig/wy50_counter.pc
