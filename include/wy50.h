@@ -392,10 +392,10 @@ uint8_t wy50_rebuild_rows(const uint16_t *page, size_t page_len, uint16_t *rows,
  * powered on they give those settings.
  *
  * A save writes its own place and the last number, nothing else. A restore gives the state those settings; cursors, segments, modes, bells, the
- * sequence under way, the host message and the shifted line stay as they are, and so does the store. Either is refused with 7 for a state that is
- * not possible, then with 9 for a store that no saves could have left, also one of another length; then a save with 11 after number 65,535, and a
- * restore with 10 for a number that is not one of the last eight saved. What is refused changes nothing, and a refused restore gives the state back
- * as it came. Each call runs all eight set-ups through a terminal to be sure of the store. */
+ * sequence or the send under way, the host message and the shifted line stay as they are, and so does the store. Either is refused with 7 for a
+ * state that is not possible, then with 9 for a store that no saves could have left, also one of another length; then a save with 11 after number
+ * 65,535, and a restore with 10 for a number that is not one of the last eight saved. What is refused changes nothing, and a refused restore gives
+ * the state back as it came. Each call runs all eight set-ups through a terminal to be sure of the store. */
 wy50_save_result wy50_save(wy50_state state, uint8_t *store, size_t store_len);
 wy50_restore_result wy50_restore(wy50_state state, const uint8_t *store, size_t store_len, uint16_t number);
 
