@@ -1,6 +1,10 @@
 -- The worked set-ups and stores hold: the definitions are computed.
 -- Assumes nothing.
 use mathlib.Core.Path.{refl}
+use mathlib.Core.List.{[], _∷_}
+use Prim.Native.Nat.{ℕ, zero, suc, _<_}
+use native.Mathlib.Omega.{arith}
+use lib.ListN.{getD}
 use Rattle.rules.specs.Row.{columns}
 use Rattle.rules.specs.Arguments.{isAttribute, featurePlace}
 use Rattle.rules.specs.Slot.{isText, allText, textOk, textsOk}
@@ -32,11 +36,18 @@ restored : Restored
 unfolding powerOn withSettings
 restored = record { keys = refl; labels = refl; stops = refl; shifted = refl }
 
+-- the one byte of a list, and none behind it
+each : (i : ℕ) → getD (0xff ∷ []) i 0 < 256
+each zero = omega arith
+each (suc i) = omega arith
+
 stores : Stores
 unfolding place cut joined laid afterSave allZero isPlace placesOk isStore
 stores = record {
   number = refl;
   read = refl;
+  end = refl;
+  byte = each;
   first = refl;
   behind = refl;
   size = refl;

@@ -13,7 +13,8 @@ use Rattle.saved.specs.declared.SaveAnswer.the-variants as SaveAnswer
 use Rattle.saved.specs.declared.RestoreAnswer.the-variants as RestoreAnswer
 use Rattle.saved.specs.SetupBytes.{stopBytes, byCode, featureBytes, attributeBytes, textBytes, keyValue, labelValue, setupBytes}
 use Rattle.saved.specs.Settings.{withSettings, withSetup}
-use Rattle.saved.specs.Store.{twoBytes, twoAt, lastNumber, placeOf, setupOf, afterSave, allZero, isPlace, isStore}
+use Rattle.saved.specs.Store.{twoBytes, twoAt, lastNumber, placeOf, setupOf, afterSave, lastOfAll, allZero, isPlace, isStore}
+use Rattle.saved.specs.SavedSetups as Statement
 use Rattle.saved.specs.Calls.{saved, saveRule, restorable, restoring, restoreRule}
 
 abbrev pub on : State
@@ -72,6 +73,9 @@ pub record Stores : Type 0 where
   -- numbers and lengths take two bytes, low first
   pub number : twoBytes 1087 ≡ 0x3f ∷ 0x04 ∷ []
   pub read : twoAt (0x00 ∷ 0x3f ∷ 0x04 ∷ []) 1 ≡ 1087
+  -- the last number of all is the last that two bytes hold
+  pub end : twoBytes lastOfAll ≡ 0xff ∷ 0xff ∷ []
+  pub byte : Statement.Bytes (0xff ∷ [])
   pub first : take 7 one ≡ 0x01 ∷ 0x00 ∷ 0x03 ∷ 0x00 ∷ 0x61 ∷ 0x62 ∷ 0x63 ∷ []
   pub behind : allZero (drop 7 one) ≡ true
   pub size : length nine ≡ 8714
