@@ -15,7 +15,7 @@ use Rattle.rules.specs.State.{padded}
 use Rattle.rules.proofs.Tests.{both-parts, both-true}
 use Rattle.rules.proofs.Texts.{text-of}
 use Rattle.saved.specs.SetupBytes.{longest}
-use Rattle.saved.specs.Store.{placeSize, twoBytes, twoAt, place, empty, lastNumber, cut, places, joined, laid, setupIn, allZero, isSetup, isPlace}
+use Rattle.saved.specs.Store.{placeSize, twoBytes, twoAt, place, lastNumber, cut, places, joined, laid, setupIn, allZero, isSetup, isPlace}
 
 -- ---- zeros
 
@@ -37,6 +37,10 @@ take-zeros (suc n) zero h = absurd (omega arith)
 take-zeros (suc n) (suc k) h = ap {B = List ℕ} (λ l. 0 ∷ l) (take-zeros n k (omega arith))
 
 -- ---- one place
+
+-- one that holds no set-up
+abbrev pub empty : List ℕ
+empty = replicate placeSize 0
 
 pub padded-split : (l : List ℕ) → length l ≤ longest → padded longest l ≡ l ++ replicate (longest - length l) 0
 padded-split l h =

@@ -12,7 +12,6 @@ use native.Mathlib.Omega.{arith}
 use lib.Dec.{ltb, eqb}
 use lib.Seq.{take-at}
 use lib.ListN.{length, getD, take, replicate, length-set, length-append, length-take}
-use borrow.Author.Tests.{eqb-true, eq-eqb}
 use Rattle.rules.specs.declared.State.{State}
 use Rattle.rules.specs.declared.Setup.{Setup}
 use Rattle.rules.specs.declared.ShortText.{ShortText}
@@ -31,30 +30,15 @@ use Rattle.rules.specs.Slot.{textOk, textsOk}
 use Rattle.rules.specs.Possible.{powerOn, blank, possible, good}
 use Rattle.rules.specs.Step.{Outcome, innerRule, goesOn, stepInside, stepRule}
 use Rattle.rules.specs.Calls.{Ran, joined, repeated, runRule}
-use Rattle.rules.proofs.Tests.{pick-if, both-parts, both-true}
+use Rattle.rules.proofs.Tests.{pick-if, both-parts}
 use Rattle.rules.proofs.Texts.{text-of, text-parts}
+use Rattle.rules.proofs.RowSteps.{same-is, same-refl}
 use Rattle.rules.proofs.Kept.{possible-parts, good-whole, run-keeps, powerOn-possible}
 use Rattle.saved.specs.SetupBytes.{stopBytes, byCode, featureBytes, attributeBytes, textBytes, textsBytes, keyValue, labelValue, keysBytes, labelsBytes, setupBytes}
 use Rattle.saved.specs.Settings.{SameSettings, fed, Shaped, Saved}
 use Rattle.saved.specs.Store.{isSetup}
 use Rattle.saved.proofs.Feed.{took, fed-run}
 use Rattle.saved.proofs.SetupFed.{clean, Fine, given, givenState, setup-fed}
-
--- ---- equal lists
-
-pub same-is : (a b : List ℕ) → same a b ≡ true → a ≡ b
-unfolding same
-same-is [] [] e = refl
-same-is [] (y ∷ b) e = absurd (let z : _≡_ {A = ℕ} 0 1 = cc in omega arith)
-same-is (x ∷ a) [] e = absurd (let z : _≡_ {A = ℕ} 0 1 = cc in omega arith)
-same-is (x ∷ a) (y ∷ b) e =
-    let r = both-parts (eqb x y) (same a b) e in
-    ap₂ (λ (n : ℕ) (l : List ℕ). n ∷ l) (eqb-true x y (r .0)) (same-is a b (r .1))
-
-pub same-self : (a : List ℕ) → same a a ≡ true
-unfolding same
-same-self [] = refl
-same-self (x ∷ a) = both-true (eq-eqb x x refl) (same-self a)
 
 -- ---- the settings given
 
@@ -258,7 +242,7 @@ pub fine-is : (u : Setup) → Fine u → isSetup (setupBytes u) ≡ true
 unfolding isSetup
 fine-is u h =
     let e : setupBytes (fed Personality.Wy50 (setupBytes u)) ≡ setupBytes u = ap setupBytes (fed-given Personality.Wy50 u h) ∙ setup-clean Personality.Wy50 u h in
-    rw e (same-self (setupBytes u))
+    rw e (same-refl (setupBytes u))
 
 pub saved-is : (bytes : List ℕ) → Saved bytes → isSetup bytes ≡ true
 saved-is bytes v = rw (v .bytes-of) at (fine-is (v .state .setup) (possible-fine (v .state) (v .shaped) (v .possible)))

@@ -16,9 +16,9 @@ use borrow.Author.Tests.{lt-ltb, le-ltb, ltb-true, ltb-false, eqb-true, eq-eqb}
 use Rattle.rules.specs.Cell.{pick}
 use Rattle.rules.proofs.Tests.{both-parts, both-true, either-way}
 use Rattle.saved.specs.SetupBytes.{setupBytes}
-use Rattle.saved.specs.Store.{placeSize, storeSize, place, empty, lastNumber, places, joined, laid, setupIn, afterSave, lastOfAll, Saves, none, save, Leaves, allZero, isSetup, isPlace, placesOk, isStore}
+use Rattle.saved.specs.Store.{placeSize, storeSize, place, lastNumber, places, joined, laid, setupIn, afterSave, lastOfAll, Saves, none, save, Leaves, allZero, isSetup, isPlace, placesOk, isStore}
 use Rattle.saved.proofs.Setups.{setup-short, possible-fine, fine-is, is-saved}
-use Rattle.saved.proofs.Places.{zeros-zero, zero-zeros, Sound, place-sound, empty-sound, Holds, is-place, place-is, All, all-set, all-at, cut-length, cut-all, laid-last, laid-places, laid-length, laid-self}
+use Rattle.saved.proofs.Places.{zeros-zero, zero-zeros, empty, Sound, place-sound, empty-sound, Holds, is-place, place-is, All, all-set, all-at, cut-length, cut-all, laid-last, laid-places, laid-length, laid-self}
 
 -- ---- the test of places
 

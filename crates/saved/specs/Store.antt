@@ -26,12 +26,9 @@ twoBytes n = n % 256 ∷ n / 256 ∷ []
 abbrev pub twoAt : List ℕ → ℕ → ℕ
 twoAt l i = getD l i 0 + 256 * getD l (i + 1) 0
 
--- a place that holds a set-up, and one that holds none
+-- a place that holds a set-up
 unfoldable pub place : List ℕ → List ℕ
 place bytes = twoBytes (length bytes) ++ padded longest bytes
-
-abbrev pub empty : List ℕ
-empty = replicate placeSize 0
 
 -- the number saved last, 0 where none was, and the places
 abbrev pub lastNumber : List ℕ → ℕ
