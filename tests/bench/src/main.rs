@@ -22,7 +22,7 @@ use std::{
     time::Instant,
 };
 use workloads::{Shifts, Stream, Workload, ALERTS, LISTED, SENDS, SHIFTS, WORKLOADS};
-use wy50::{Answer, State, Terminal, CELLS, LONGEST_REPLY};
+use wy50::{Answer, State, Store, Terminal, CELLS, LONGEST_REPLY};
 
 const ROUNDS: usize = 5;
 const SIZE: usize = 20_000_000;
@@ -36,6 +36,7 @@ const ALERT_BYTES: usize = 1_000_000;
 const ALERT_ROUNDS: usize = 50; // each is short
 const LIST_SIZE: usize = 100_000;
 const LIST_ROUNDS: usize = 50; // each is short
+const STORE_CALLS: usize = 1_000;
 
 /// Nanoseconds a byte, a row shift or a reply byte, where a peer has the workload.
 struct Row {
@@ -106,6 +107,10 @@ fn report() -> Result<String, String> {
         single("step", Some(400.0), Terminal::new(), step),
         single("step with a row list", None, Terminal::new().with_row_list(), step),
         single("press", Some(300.0), Terminal::new(), press),
+        kept("save, with eight such set-ups kept", |store, terminal| assert!(store.save(terminal).is_ok())),
+        kept("restore, with eight such set-ups kept", |store, terminal| {
+            assert_eq!(store.restore(terminal, *store.numbers().start()), Ok(()))
+        }),
     ];
     let mut out = String::new();
     introduction(&mut out);
@@ -355,6 +360,27 @@ fn fill_keys(terminal: &mut Terminal) {
         let fed = terminal.feed(&program, &mut []);
         assert_eq!((fed.answer, fed.refused), (Answer::Done, 0));
     }
+}
+
+fn kept(name: &'static str, call: fn(&mut Store, &mut Terminal)) -> Single {
+    let [empty, full] = [false, true].map(|full| {
+        let mut terminal = Terminal::new();
+        if full {
+            fill_keys(&mut terminal);
+        }
+        let mut store = Store::new();
+        for _ in 0..8 {
+            assert!(store.save(&terminal).is_ok());
+        }
+        (0..ROUNDS).fold(f64::MAX, |least, _| {
+            let start = Instant::now();
+            for _ in 0..STORE_CALLS {
+                call(black_box(&mut store), &mut terminal);
+            }
+            least.min(start.elapsed().as_nanos() as f64 / STORE_CALLS as f64)
+        })
+    });
+    Single { name, most: None, empty, full }
 }
 
 fn step(terminal: &mut Terminal, bytes: &[u8]) {
