@@ -50,6 +50,21 @@ fn refusals() {
     assert_eq!((damaged.save(&bad), damaged.restore(&mut bad, 0)), (Err(Refusal::BadState), Err(Refusal::BadState)));
 }
 
+#[test]
+fn numbers_end() {
+    let mut store = Store::new();
+    for _ in 0..8 {
+        store.save(&Terminal::new()).unwrap();
+    }
+    let mut bytes = *store.as_bytes();
+    bytes[..2].fill(255);
+    let mut last = Store::from_bytes(bytes);
+    assert_eq!((last.numbers(), last.save(&Terminal::new())), (65528..=65535, Err(Refusal::Full)));
+    assert_eq!((last.as_bytes(), last.is_sound()), (&bytes, true));
+    assert_eq!(last.restore(&mut Terminal::new(), 65528), Ok(()));
+    assert_eq!(last.restore(&mut Terminal::new(), 65527), Err(Refusal::BadNumber));
+}
+
 #[cfg(feature = "std")]
 #[test]
 fn files() {
