@@ -93,6 +93,12 @@ static inline const char *wy50_answer_name(uint8_t answer)
         return "a page, state or row list that is not possible";
     case WY50_LOCKED:
         return "the keyboard is locked";
+    case WY50_BAD_STORE:
+        return "no saves could have left the store so";
+    case WY50_BAD_NUMBER:
+        return "no set-up is kept under that number";
+    case WY50_FULL:
+        return "all numbers are used";
     default:
         return "no answer";
     }

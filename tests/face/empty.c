@@ -133,6 +133,8 @@ static void no_page(void)
     wy50_step_result x;
     wy50_run_result r;
     wy50_next_result n;
+    wy50_save_result s;
+    wy50_restore_result y;
     memcpy(list, rows, sizeof list);
     memset(reply, 0x55, sizeof reply);
     x = wy50_step(NO_NUMBERS, 0, state, 5, reply, sizeof reply);
@@ -165,6 +167,13 @@ static void no_page(void)
     CHECK(wy50_rebuild_rows(page, WY50_CELLS, NO_NUMBERS, 0, state) == WY50_BAD_CALL);
     CHECK(wy50_rebuild_rows(NO_NUMBERS, 0, NO_NUMBERS, 0, state) == WY50_BAD_CALL);
     CHECK(memcmp(rows, list, sizeof list) == 0 && memcmp(page, before, sizeof page) == 0 && reply[0] == 0x55);
+    s = wy50_save(state, NO_BYTES, 0);
+    CHECK(s.answer == wy50_save(state, reply, 0).answer && s.answer != WY50_DONE && s.number == 0);
+    y = wy50_restore(state, NO_BYTES, 0, 1);
+    CHECK(y.answer == s.answer && same(&y.state, &state));
+    CHECK(wy50_next_field(NO_NUMBERS, 0, 0).length == 0);
+    CHECK(wy50_field_text(NO_NUMBERS, 0, 0, 1, NO_BYTES, 0).answer == WY50_BAD_CALL && wy50_row_text(NO_NUMBERS, 0, 0, 1, NO_BYTES, 0).answer == WY50_BAD_CALL);
+    CHECK(wy50_row_text(page, WY50_CELLS, 0, 0, NO_BYTES, 0).answer == WY50_NO_ROOM);
 }
 
 int main(void)

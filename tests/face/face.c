@@ -794,10 +794,11 @@ static void version(void)
 static void names(void)
 {
     static const char *const words[] = {"done", "a byte of 80h or above", "no such byte after ESC", "an argument outside its range",
-        "barred by protection", NULL, "no room for the reply", "a page, state or row list that is not possible", "the keyboard is locked"};
+        "barred by protection", NULL, "no room for the reply", "a page, state or row list that is not possible", "the keyboard is locked",
+        "no saves could have left the store so", "no set-up is kept under that number", "all numbers are used"};
     int i;
     for (i = 0; i < 256; i++)
-        CHECK(strcmp(wy50_answer_name((uint8_t)i), i <= WY50_LOCKED && words[i] ? words[i] : "no answer") == 0);
+        CHECK(strcmp(wy50_answer_name((uint8_t)i), i <= WY50_FULL && words[i] ? words[i] : "no answer") == 0);
     part("the answers' names, of all 256 numbers");
 }
 

@@ -96,6 +96,18 @@ impl Store {
     }
 }
 
+impl Refusal {
+    /// Its number, an answer of C.
+    pub fn number(self) -> u8 {
+        match self {
+            Refusal::BadState => 7,
+            Refusal::BadStore => 9,
+            Refusal::BadNumber => 10,
+            Refusal::Full => 11,
+        }
+    }
+}
+
 // The library gives 0, 7 and 9 to 11 and no other number.
 fn refused(answer: u8) -> Option<Refusal> {
     match answer {
@@ -119,6 +131,7 @@ impl fmt::Debug for Store {
     }
 }
 
+/// In a few words, those of `wy50_answer_name`.
 impl fmt::Display for Refusal {
     fn fmt(&self, f: &mut fmt::Formatter<'_>) -> fmt::Result {
         match self {

@@ -2,8 +2,9 @@
 use std::collections::BTreeMap;
 use wy50::Command;
 use wy50::{
-    library_version, Answer, Attributes, CursorStyle, Features, Kind, Personality, Place, ProtectedLook, RawSending, Scrolling, Sending,
-    SequenceKind, Terminal, CELLS, COLUMNS, KEYS, KEY_BYTES, LABELS, LABEL_BYTES, LONGEST_REPLY, LONGEST_TEXT, MESSAGE_BYTES, ROWS, ROW_NUMBERS, VERSION,
+    library_version, Answer, Attributes, CursorStyle, Features, Kind, Personality, Place, ProtectedLook, RawSending, Refusal, Scrolling, Sending,
+    SequenceKind, Terminal, CELLS, COLUMNS, KEYS, KEY_BYTES, LABELS, LABEL_BYTES, LONGEST_REPLY, LONGEST_TEXT, MESSAGE_BYTES, ROWS,
+    ROW_NUMBERS, STORE_BYTES, VERSION,
 };
 
 /// The header without its comments.
@@ -34,6 +35,11 @@ fn constants() -> BTreeMap<String, usize> {
         }
     }
     found
+}
+
+/// The answers of stores alone.
+fn refusals() -> [(&'static str, Refusal); 3] {
+    [("WY50_BAD_STORE", Refusal::BadStore), ("WY50_BAD_NUMBER", Refusal::BadNumber), ("WY50_FULL", Refusal::Full)]
 }
 
 fn kinds() -> Vec<(&'static str, SequenceKind)> {
@@ -110,6 +116,7 @@ fn ours() -> BTreeMap<String, usize> {
         ("WY50_LABELS", LABELS),
         ("WY50_LABEL_BYTES", LABEL_BYTES),
         ("WY50_MESSAGE_BYTES", MESSAGE_BYTES),
+        ("WY50_STORE_BYTES", STORE_BYTES),
         ("WY50_CURSOR_SHOWN", Features::CURSOR_SHOWN),
         ("WY50_CURSOR_STYLE", Features::CURSOR_STYLE),
         ("WY50_PROTECTED_LOOK", Features::PROTECTED_LOOK),
@@ -149,6 +156,7 @@ fn ours() -> BTreeMap<String, usize> {
         ("WY50_JUMP", Scrolling::Jump.code()),
     ];
     all.extend(bytes.map(|(name, byte)| (name, usize::from(byte))));
+    all.extend(refusals().map(|(name, refusal)| (name, usize::from(refusal.number()))));
     all.extend(answers().into_iter().map(|(name, answer)| (name, usize::from(answer.number()))));
     all.extend(commands().into_iter().map(|(name, command)| (name, usize::from(command.number()))));
     all.extend(kinds().into_iter().map(|(name, kind)| (name, usize::from(kind.number()))));
@@ -243,10 +251,14 @@ fn words() {
     let cases = &cases[..cases.find("default:").unwrap()];
     let words: BTreeMap<&str, &str> =
         cases.split("case ").skip(1).map(|case| (case.split_once(':').unwrap().0, case.split('"').nth(1).unwrap())).collect();
-    assert_eq!(words.len(), answers().len());
+    assert_eq!(words.len(), answers().len() + refusals().len());
     for (name, answer) in answers() {
         assert_eq!(words[name], answer.to_string());
     }
+    for (name, refusal) in refusals() {
+        assert_eq!(words[name], refusal.to_string());
+    }
+    assert_eq!((Refusal::BadState.number(), Refusal::BadState.to_string()), (Answer::BadCall.number(), Answer::BadCall.to_string()));
 }
 
 #[test]
