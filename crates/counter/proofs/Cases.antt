@@ -2,7 +2,8 @@
 -- Assumes nothing.
 use mathlib.Core.Path.{refl}
 use Rattle.counter.specs.Alphabet.{inAlphabet, cost, units, firstOutside}
-use Rattle.counter.specs.Pieces.{returns, isMark, onto, cutAtMarks, pieces, pieceOf, joined, whole, kept, trimmed}
+use Rattle.counter.specs.Pieces.{returns, isMark, onto, cutAtMarks, pieces, pieceOf, joined, whole}
+use Rattle.rules.specs.Fields.{kept, trimmed}
 use Rattle.counter.specs.Parts.{filling, parts}
 use Rattle.counter.specs.Count.{capped, sized, textCount, countRule}
 use Rattle.counter.specs.Cases.{Texts, Outside, Replies, Refusals, Worked}

@@ -14,7 +14,8 @@ use Rattle.rules.specs.Cell.{pick, either, among}
 use Rattle.counter.specs.declared.Counted.{Counted}
 use Rattle.counter.specs.declared.Counted.the-variants as Counted
 use Rattle.counter.specs.Alphabet.{space, backquote, inAlphabet, units, firstOutside}
-use Rattle.counter.specs.Pieces.{returns, before, isMark, onto, cutAtMarks, pieces, joined, whole, kept, trimmed}
+use Rattle.counter.specs.Pieces.{returns, before, isMark, onto, cutAtMarks, pieces, joined, whole}
+use Rattle.rules.specs.Fields.{kept, trimmed}
 use Rattle.counter.specs.Parts.{parts}
 use Rattle.counter.specs.Count.{capped, sized, textCount, inOrder, countRule}
 use Rattle.counter.specs.Ask.{isSent, AllSent, none, more, Replies, RepliesCount}

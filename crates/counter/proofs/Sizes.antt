@@ -10,7 +10,7 @@ use lib.Dec.{leb, eqb}
 use lib.ListN.{length}
 use Rattle.rules.specs.Cell.{pick}
 use Rattle.counter.specs.Alphabet.{space, cost, units}
-use Rattle.counter.specs.Pieces.{kept, trimmed}
+use Rattle.rules.specs.Fields.{kept, trimmed}
 use Rattle.counter.specs.Parts.{alone, ofSeveral, filling, parts}
 use Rattle.counter.specs.Count.{Exact, FewParts}
 use Rattle.counter.proofs.Fewest.{cost-some, cost-small, opened, opened-fits, opened-new, filling-length}

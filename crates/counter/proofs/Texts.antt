@@ -19,7 +19,7 @@ use Rattle.counter.specs.declared.Counted.{Counted}
 use Rattle.counter.specs.declared.Counted.the-variants as Counted
 use Rattle.counter.specs.declared.text.Tally.{Tally}
 use Rattle.counter.specs.Alphabet.{space, inAlphabet, cost, units, firstOutside}
-use Rattle.counter.specs.Pieces.{kept, trimmed}
+use Rattle.rules.specs.Fields.{kept, trimmed}
 use Rattle.counter.specs.Parts.{alone, ofSeveral, filling, parts}
 use Rattle.counter.specs.Count.{largest, capped, sized, textCount}
 use Rattle.counter.specs.Walk.{noTally, tallied, tallyParts, cuts, remaining, refuses, advanced, walked, drops, ontoStripped, stripped}

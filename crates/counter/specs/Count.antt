@@ -5,11 +5,12 @@ use mathlib.Core.List.{List}
 use Prim.Native.Nat.{ℕ, _≤_, _<_}
 use lib.Dec.{leb, ltb}
 use lib.ListN.{length}
+use Rattle.rules.specs.Fields.{trimmed}
 use Rattle.rules.specs.Cell.{pick, both}
 use Rattle.counter.specs.declared.Counted.{Counted}
 use Rattle.counter.specs.declared.Counted.the-variants as Counted
 use Rattle.counter.specs.Alphabet.{units, firstOutside}
-use Rattle.counter.specs.Pieces.{returns, pieces, whole, trimmed}
+use Rattle.counter.specs.Pieces.{returns, pieces, whole}
 use Rattle.counter.specs.Parts.{parts}
 
 -- units are told up to the largest 64-bit number

@@ -5,7 +5,6 @@ use Prim.Native.Nat.{ℕ, _+_, _-_}
 use lib.Dec.{eqb}
 use lib.ListN.{length, getD, take, drop}
 use Rattle.rules.specs.Cell.{pick, either}
-use Rattle.counter.specs.Alphabet.{space}
 
 -- a reply's last byte is a CR
 unfoldable pub returns : List ℕ → Bool
@@ -36,16 +35,6 @@ pieces r = pick (returns r) (cutAtMarks (before r)) []
 -- the piece of a number, from 1; nothing where no piece has it
 unfoldable pub pieceOf : List ℕ → ℕ → List ℕ
 pieceOf r n = pick (eqb n 0) [] (getD (pieces r) (n - 1) [])
-
--- a byte before a text without trailing spaces
-unfoldable pub kept : ℕ → List ℕ → List ℕ
-kept b [] = pick (eqb b space) [] (b ∷ [])
-kept b (x ∷ l) = b ∷ x ∷ l
-
--- the trailing spaces dropped
-unfoldable pub trimmed : List ℕ → List ℕ
-trimmed [] = []
-trimmed (b ∷ l) = kept b (trimmed l)
 
 -- texts joined with nothing between
 unfoldable pub joined : List (List ℕ) → List ℕ

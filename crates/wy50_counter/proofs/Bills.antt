@@ -11,7 +11,8 @@ use Rattle.rules.specs.Cell.{pick}
 use Rattle.counter.specs.declared.Counted.{Counted}
 use Rattle.counter.specs.declared.Counted.the-variants as Counted
 use Rattle.counter.specs.Alphabet.{inAlphabet, cost, units, firstOutside}
-use Rattle.counter.specs.Pieces.{onto, kept, trimmed}
+use Rattle.rules.specs.Fields.{kept, trimmed}
+use Rattle.counter.specs.Pieces.{onto}
 use Rattle.counter.specs.Parts.{filling, parts}
 use Rattle.counter.specs.Count.{largest, capped, sized, textCount}
 use Rattle.counter.proofs.Sizes.{few-parts}
