@@ -2,7 +2,7 @@
 --     named-bells     a bell count that is named is below 256
 --     powered-on, stepped, numbered, completed, sent     the terminal's, in numbers
 --     power-on-refused     a number that is no personality
---     step-refused, run-refused, press-refused     a bad call
+--     nothing-done, step-refused, run-refused, press-refused     a bad call
 --     step-seven, run-seven     a 7 of the terminal's gives the numbers back as they were
 -- Assumes nothing.
 use mathlib.Core.Path.{_≡_, refl, sym, ap, _∙_}
@@ -35,7 +35,7 @@ use Rattle.state.proofs.Tests.{both-left, both-right}
 use Rattle.terminal.specs.Promise as terminal
 use Rattle.wy50.specs.declared.raw.RawState.{RawState}
 use Rattle.wy50.specs.Raw.{allBelow, flag, isPersonality, personalityAt, areFlags, isSequence, isSending, packed, unpacked, named}
-use Rattle.wy50.specs.Promise.{rawGood, rawPowerOn, rawStep, rawRan, rawRun, rawPress, PoweredOn, Stepped, Completed, Sent}
+use Rattle.wy50.specs.Promise.{rawGood, rawPowerOn, rawStep, rawRan, badRun, rawRun, rawPress, PoweredOn, Stepped, Completed, Sent}
 
 pub named-bells : (x : RawState) → named x ≡ true → x .bells < 256
 unfolding named
@@ -162,26 +162,30 @@ unfolding rawPress
 sent p x v w on e h a = rw (on, ← e) (record { answer = a ∙ h .answer; replied = h .replied; room = h .room; fits = h .fits })
 
 -- a bad call: numbers that name no state, or a 7 of the terminal's, which changed nothing
+pub nothing-done : (p : List ℕ) (x : RawState) (l w : List ℕ)
+    → Completed (badRun p x l) (record { answer = 7; taken = 0; replied = 0; refused = 0; state = x }) l p w w
+unfolding over
+nothing-done p x l w = record {
+  answer = refl;
+  taken = refl;
+  replied = refl;
+  refused = refl;
+  rest = refl;
+  state = refl;
+  page = refl;
+  room = refl;
+  fits = omega arith;
+  within = omega arith;
+}
+
 module _ (p : List ℕ) (x : RawState) (bad : rawGood p x ≡ false) (w : List ℕ) where
   pub step-refused : (b : ℕ) → Stepped (rawStep p x b (length w)) (record { answer = 7; taken = 0; replied = 0; state = x }) p w w
   unfolding rawStep over
   step-refused b = rw bad (record { answer = refl; taken = refl; state = refl; replied = refl; page = refl; room = refl; fits = omega arith })
 
   pub run-refused : (l : List ℕ) → Completed (rawRun p x l (length w)) (record { answer = 7; taken = 0; replied = 0; refused = 0; state = x }) l p w w
-  unfolding rawRun over
-  run-refused l =
-      rw bad (record {
-        answer = refl;
-        taken = refl;
-        replied = refl;
-        refused = refl;
-        rest = refl;
-        state = refl;
-        page = refl;
-        room = refl;
-        fits = omega arith;
-        within = omega arith;
-      })
+  unfolding rawRun
+  run-refused l = rw bad (nothing-done p x l w)
 
 pub unnamed-bad : (p : List ℕ) (x : RawState) → named x ≡ false → rawGood p x ≡ false
 unfolding rawGood

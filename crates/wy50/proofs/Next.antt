@@ -31,7 +31,7 @@ use Rattle.wy50.specs.declared.raw.RawRun.{RawRun}
 use Rattle.wy50.specs.Raw.{packed, unpacked, named}
 use Rattle.wy50.specs.Promise.{rawGood, rawRan, Completed}
 use Rattle.wy50.specs.Rows.{rawListed, rawSuited, rawNext, rawRowsAfter, Heard}
-use Rattle.wy50.proofs.Calls.{good-step, not-bad, not-good, raw-good, unnamed-bad, numbered}
+use Rattle.wy50.proofs.Calls.{good-step, not-bad, not-good, raw-good, unnamed-bad, numbered, nothing-done}
 use Rattle.wy50.proofs.RowCalls.{numbers-rows}
 
 -- ---- a good page and state answer no 7
@@ -95,20 +95,8 @@ suited-false p l x n = by (rawGood p x) refl (suits l p (unpacked x)) refl
 
 unheard : (p l : List ℕ) (x : RawState) (i w : List ℕ) → rawSuited p l x ≡ false
     → Completed (rawNext p l x i (length w)) (record { answer = 7; taken = 0; replied = 0; refused = 0; state = x }) i p w w
-unfolding rawNext over
-unheard p l x i w bad =
-    rw bad (record {
-      answer = refl;
-      taken = refl;
-      replied = refl;
-      refused = refl;
-      rest = refl;
-      state = refl;
-      page = refl;
-      room = refl;
-      fits = omega arith;
-      within = omega arith;
-    })
+unfolding rawNext
+unheard p l x i w bad = rw bad (nothing-done p x i w)
 
 -- the list is left: it does not agree, or is the page's
 listed-suits : (p l : List ℕ) (x : RawState) → rawSuited p l x ≡ false → rawListed p l x ≡ false

@@ -31,7 +31,7 @@ use Rattle.wy50.specs.Raw.{flag, packed, unpacked, named}
 use Rattle.wy50.specs.Promise.{rawGood, Stepped, Completed}
 use Rattle.wy50.specs.Rows.{rawListed, rawStepRows, rawRunRows, rawRowsAfter, rawCanRebuild, rawRebuildAnswer, rawRebuilt}
 use Rattle.wy50.proofs.RoundTrip.{possible-fits, unpacked-packed}
-use Rattle.wy50.proofs.Calls.{good-step, bad-seven, good-run, bad-run-seven, not-bad, not-good, raw-good, numbered, step-left, run-left}
+use Rattle.wy50.proofs.Calls.{good-step, bad-seven, good-run, bad-run-seven, not-bad, not-good, raw-good, numbered, nothing-done, step-left, run-left}
 
 -- the row list of a good state, by its numbers
 pub numbers-rows : (p : List ℕ) (s : State) → good p s ≡ true → rowsOf p (unpacked (packed s)) ≡ rowsOf p s
@@ -70,22 +70,8 @@ module _ (p l : List ℕ) (x : RawState) (w : List ℕ) (bad : rawListed p l x �
 
   run-refused : (i : List ℕ)
       → Completed (rawRunRows p l x i (length w)) (record { answer = 7; taken = 0; replied = 0; refused = 0; state = x }) i p w w × (l ≡ rawRowsAfter p l x p x)
-  unfolding rawRunRows over
-  run-refused i = (
-    rw bad (record {
-      answer = refl;
-      taken = refl;
-      replied = refl;
-      refused = refl;
-      rest = refl;
-      state = refl;
-      page = refl;
-      room = refl;
-      fits = omega arith;
-      within = omega arith;
-    }),
-    rows-left p x,
-  )
+  unfolding rawRunRows
+  run-refused i = (rw bad (nothing-done p x i w), rows-left p x)
 
 module _ (p l : List ℕ) (x : RawState) (w : List ℕ) (off : named x ≡ false) where
   pub step-unnamed : (b : ℕ) → Stepped (rawStepRows p l x b (length w)) (record { answer = 7; taken = 0; replied = 0; state = x }) p w w × (l ≡ rawRowsAfter p l x p x)
