@@ -10,7 +10,7 @@ use lib.ListN.{length, set}
 use Rattle.page.specs.Room.{stored}
 use Rattle.rules.specs.Room.{over}
 
-stored-cons : (r : List ℕ) (n y : ℕ) (w : List ℕ) → stored (n + 1) r (y ∷ w) ≡ y ∷ stored n r w
+pub stored-cons : (r : List ℕ) (n y : ℕ) (w : List ℕ) → stored (n + 1) r (y ∷ w) ≡ y ∷ stored n r w
 unfolding stored
 stored-cons [] n y w = refl
 stored-cons (x ∷ r) n y w =

@@ -137,11 +137,11 @@ lead-column row = lead-digits 3 (Pending.DecimalColumn row) takes
 -- ---- texts
 
 -- the bytes gathered after more of them, behind n
-unfoldable gatheredBy : ℕ → List ℕ → List ℕ → List ℕ
+unfoldable pub gatheredBy : ℕ → List ℕ → List ℕ → List ℕ
 gatheredBy n [] g = g
 gatheredBy n (b ∷ l) g = gatheredBy (n + 1) l (set g n b)
 
-gathered-text : (n : ℕ) (l g : List ℕ) → n + length l ≤ length g → take (n + length l) (gatheredBy n l g) ≡ take n g ++ l
+pub gathered-text : (n : ℕ) (l g : List ℕ) → n + length l ≤ length g → take (n + length l) (gatheredBy n l g) ≡ take n g ++ l
 unfolding gatheredBy
 gathered-text n [] g h = rw (append-nil, add-zero)
 gathered-text n (b ∷ l) g h =
@@ -150,7 +150,7 @@ gathered-text n (b ∷ l) g h =
     rw (e, gathered-text (n + 1) l (set g n b) (omega (arith, length-set g n b)), t, append-snoc)
 
 -- a byte of a kind is below 80h and ends no text of that kind
-text-byte : (x : Slot) (b : ℕ) → isText (slotLow x) b ≡ true → (b < 128) × (eqb b (slotEnd x) ≡ false)
+pub text-byte : (x : Slot) (b : ℕ) → isText (slotLow x) b ≡ true → (b < 128) × (eqb b (slotEnd x) ≡ false)
 unfolding isText slotLow slotEnd
 text-byte (Slot.Key v) b e = let r = both-parts (leb 0 b) (ltb b 0x7f) e in let h = ltb-true b 0x7f (r .1) in (omega arith, ne-eqb b 0x7f (omega arith))
 text-byte (Slot.Label v) b e =

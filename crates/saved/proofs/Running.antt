@@ -21,7 +21,7 @@ use Rattle.rules.specs.Possible.{powerOn, blank, possible}
 use Rattle.rules.specs.Calls.{runRule}
 use Rattle.rules.proofs.Tests.{pick-if, both-parts}
 use Rattle.page.specs.Room.{stored}
-use Rattle.page.proofs.Room.{stored-over}
+use Rattle.page.proofs.Room.{stored-cons, stored-over}
 use Rattle.saved.specs.SetupBytes.{setupBytes, longest}
 use Rattle.saved.specs.Settings.{fed}
 use Rattle.saved.specs.Store.{placeSize, storeSize, twoBytes, twoAt, place, lastNumber, lastOfAll, cut, places, joined, laid, placeOf, setupIn, setupOf, afterSave, allZero, isSetup, isPlace, placesOk, isStore}
@@ -212,13 +212,6 @@ pub two-written : (l : List ℕ) (a b : ℕ) → 2 ≤ length l → set (set l 0
 two-written [] a b h = absurd (omega arith)
 two-written (x ∷ []) a b h = absurd (omega arith)
 two-written (x ∷ y ∷ l) a b h = refl
-
-stored-cons : (r : List ℕ) (n y : ℕ) (w : List ℕ) → stored (n + 1) r (y ∷ w) ≡ y ∷ stored n r w
-unfolding stored
-stored-cons [] n y w = refl
-stored-cons (x ∷ r) n y w =
-    let e : n + 1 ≡ suc n = omega arith in
-    rw e (stored-cons r (suc n) y (set w n x))
 
 -- bytes behind the first two, to the end
 pub behind-two : (p bytes : List ℕ) {q r : List ℕ} (a b : ℕ) → q ≡ a ∷ b ∷ drop 2 p → r ≡ stored 2 bytes q → length p ≡ 2 + length bytes → r ≡ a ∷ b ∷ bytes

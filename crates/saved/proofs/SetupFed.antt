@@ -4,16 +4,15 @@
 -- Assumes nothing.
 use mathlib.Core.Path.{_≡_, refl, sym, _∙_}
 use mathlib.Core.Bool.{Bool, true, false}
-use mathlib.Core.List.{List, [], _∷_, _++_, append-nil, map}
+use mathlib.Core.List.{List, [], _∷_, _++_, map}
 use mathlib.Core.Logic.{_⊎_, inl, inr}
 use Prim.Native.Nat.{ℕ, suc, _+_, _-_, _%_, _<_, _≤_}
 use native.Mathlib.Nat.{add-zero}
-use native.Mathlib.Numerals.{add-one}
 use native.Mathlib.Omega.{arith}
 use lib.Dec.{leb, ltb, eqb, lit<}
-use lib.Seq.{append-snoc, set-at, take-suc-set}
+use lib.Seq.{append-snoc, set-at}
 use lib.ListN.{length, take, set, replicate, length-set, length-append, length-take}
-use borrow.Author.Tests.{lt-ltb, le-ltb, le-leb, lt-leb, leb-true, ltb-true, ltb-false, eqb-true, eq-eqb, ne-eqb}
+use borrow.Author.Tests.{lt-ltb, le-ltb, le-leb, lt-leb, ltb-true, ltb-false, eqb-true, eq-eqb, ne-eqb}
 use Rattle.rules.specs.declared.State.{State}
 use Rattle.rules.specs.declared.Setup.{Setup}
 use Rattle.rules.specs.declared.ShortText.{ShortText}
@@ -39,6 +38,7 @@ use Rattle.rules.specs.Decode.{lookup, judged, idleRule, escapeRule, featureRul
 use Rattle.rules.specs.Plan.{settingPlan, planRule}
 use Rattle.rules.proofs.Tests.{pick-if, both-parts, both-true, among-parts, either-way}
 use Rattle.rules.proofs.Texts.{text-parts}
+use Rattle.rules.proofs.Reach.{gatheredBy, gathered-text, text-byte}
 use Rattle.saved.specs.SetupBytes.{stopBytes, byCode, featureBytes, attributeBytes, textBytes, textsBytes, keyValue, labelValue, keysBytes, labelsBytes, setupBytes}
 use Rattle.saved.specs.Settings.{Shaped}
 use Rattle.saved.proofs.Feed.{Fed, none, fed-append, stateAt, waits, gathers, takes, sets, goes}
@@ -175,38 +175,10 @@ module _ (m : Personality) (i : ℕ) (g : List ℕ) (u : Setup) (p : List ℕ) w
 
 -- ---- texts
 
--- the bytes gathered after more of them, behind n
-unfoldable pub gatheredBy : ℕ → List ℕ → List ℕ → List ℕ
-gatheredBy n [] g = g
-gatheredBy n (b ∷ l) g = gatheredBy (n + 1) l (set g n b)
-
 gathered-length : (n : ℕ) (l g : List ℕ) → length (gatheredBy n l g) ≡ length g
 unfolding gatheredBy
 gathered-length n [] g = refl
 gathered-length n (b ∷ l) g = gathered-length (n + 1) l (set g n b) ∙ length-set g n b
-
-gathered-text : (n : ℕ) (l g : List ℕ) → n + length l ≤ length g → take (n + length l) (gatheredBy n l g) ≡ take n g ++ l
-unfolding gatheredBy
-gathered-text n [] g h = rw (append-nil, add-zero)
-gathered-text n (b ∷ l) g h =
-    let e : n + suc (length l) ≡ n + 1 + length l = omega arith in
-    let t : take (n + 1) (set g n b) ≡ take n g ++ b ∷ [] = rw (add-one n) (take-suc-set g n b (omega arith)) in
-    rw (e, gathered-text (n + 1) l (set g n b) (omega (arith, length-set g n b)), t, append-snoc)
-
--- a byte of a kind is below 80h and ends no text of that kind
-text-byte : (x : Slot) (b : ℕ) → isText (slotLow x) b ≡ true → (b < 128) × (eqb b (slotEnd x) ≡ false)
-unfolding isText slotLow slotEnd
-text-byte (Slot.Key v) b e = let r = both-parts (leb 0 b) (ltb b 0x7f) e in let h = ltb-true b 0x7f (r .1) in (omega arith, ne-eqb b 0x7f (omega arith))
-text-byte (Slot.Label v) b e =
-    let r = both-parts (leb 0x20 b) (ltb b 0x7f) e in
-    let h = ltb-true b 0x7f (r .1) in
-    let l = leb-true 0x20 b (r .0) in
-    (omega arith, ne-eqb b 0x0d (omega arith))
-text-byte Slot.Message b e =
-    let r = both-parts (leb 0x20 b) (ltb b 0x7f) e in
-    let h = ltb-true b 0x7f (r .1) in
-    let l = leb-true 0x20 b (r .0) in
-    (omega arith, ne-eqb b 0x0d (omega arith))
 
 end-low : (x : Slot) → slotEnd x < 128
 unfolding slotEnd
