@@ -9,7 +9,7 @@ use Rattle.rules.specs.Possible.{powerOn, blank, unsplitOk, splitOk, scr
 use Rattle.rules.specs.Arguments.{isAttribute, attributeContents, attributeOf, featurePlace, isKey, isLabel}
 use Rattle.rules.specs.Slot.{slotOk, slotEnd, slotMost, slotLow, isText, allText, textOk, textsOk}
 use Rattle.rules.specs.Decode.{lookup, idleRule, escapeRule, judged, featureRule, fieldRule, splitRule, digitRule, decimalRowRule, decimalColumnRule, slotRule, textRule, spoiltRule, argumentRule, decodeRule}
-use Rattle.rules.specs.Plan.{unlessGuarded, scrolls, nextCell, atTop, upCell, reversePlan, downPlan, tabCell, backTabCell, addressPlan, movePlan, activate, isSegment, windowPlan, storing, advancing, storePlan, takesCell, attributePlan, rowEditPlan, editPlan, clearPlan, settingPlan, sendPlan, excludedPlan, planRule}
+use Rattle.rules.specs.Plan.{unlessGuarded, scrolls, nextCell, atTop, upCell, reversePlan, downPlan, tabCell, backTabCell, addressPlan, movePlan, activate, isSegment, windowPlan, storing, advancing, storePlan, takesCell, attributePlan, rowEditPlan, editPlan, clearPlan, settingPlan, unlessWide, sendPlan, excludedPlan, planRule}
 use Rattle.rules.specs.Send.{model, openCell, shortReply, each, cellPlace, textPlaces, followsLeftOut, textAt, places, bytesOf, beyond, standing, sentFrom, leftFrom}
 use Rattle.rules.specs.Carry.{applied, landed, done, begun, carried}
 use Rattle.rules.specs.Step.{obeyed, innerRule, goesOn, stepInside, stepRule}
@@ -47,7 +47,7 @@ unfolding completes runCompletes insideCompletes callCompletes anyCompleted comp
     attributesOk featurePlace featuresOk isKey pendingOk rememberedOk placeOk sendingOk noStops coreOk setupOk possible good lookup idleRule escapeRule judged attributeContents attributeOf
     featureRule fieldRule splitRule digitRule decimalRowRule decimalColumnRule slotRule textRule spoiltRule argumentRule decodeRule unlessGuarded
     scrolls nextCell atTop upCell reversePlan downPlan tabCell backTabCell addressPlan movePlan activate isSegment windowPlan storing
-    advancing storePlan takesCell attributePlan rowEditPlan editPlan clearPlan settingPlan sendPlan excludedPlan planRule applied model openCell shortReply each cellPlace textPlaces followsLeftOut textAt places bytesOf beyond standing sentFrom leftFrom landed done begun carried obeyed innerRule goesOn stepInside stepRule joined repeated behind runInside runRule keySends pressRule ofStep ofRun
+    advancing storePlan takesCell attributePlan rowEditPlan editPlan clearPlan settingPlan unlessWide sendPlan excludedPlan planRule applied model openCell shortReply each cellPlace textPlaces followsLeftOut textAt places bytesOf beyond standing sentFrom leftFrom landed done begun carried obeyed innerRule goesOn stepInside stepRule joined repeated behind runInside runRule keySends pressRule ofStep ofRun
     ofPress callRule after play firstColumn rowNumbers stepRowsRule runRowsRule nextRowsRule rowsAfter canRebuild rowCallRule rowAfter rowPlay rowsWith openRows
     rowHolds rowCasesHold fromPowerOn rowCases atEvent toEvent nextInside nextRule replyCommand nextHolds nextCasesHold inSend nextCases nextRefuses impossible
 cases = record {

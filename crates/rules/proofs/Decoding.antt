@@ -87,7 +87,7 @@ module _ (g : List ℕ) where
 
   feature-ok : (f : ℕ) → decodedOk g (featureRule f) ≡ true
   unfolding featureRule decodedOk commandOk settingOk
-  feature-ok f = pick-if (Ok g) (eqb f 0x3a) (λ e. refl) (λ e. judged-ok (ltb (featurePlace f) 5) _ (λ z. z))
+  feature-ok f = pick-if (Ok g) (among 0x3a 2 f) (λ e. refl) (λ e. judged-ok (ltb (featurePlace f) 5) _ (λ z. z))
 
   field-ok : (n a : ℕ) → decodedOk g (fieldRule n a) ≡ true
   unfolding fieldRule commandOk settingOk

@@ -2,8 +2,8 @@
 -- And it keeps a possible state possible: `plan-kept`, which says also that the sequence stays as it was, that the set-up's change fits,
 -- and that no plan answers 6.
 -- Assumes nothing.
-use mathlib.Core.Path.{_≡_, refl, sym}
-use mathlib.Core.Bool.{Bool, true, false, false≢true}
+use mathlib.Core.Path.{_≡_, refl, sym, ap}
+use mathlib.Core.Bool.{Bool, true, false, false≢true, not}
 use mathlib.Core.List.{List}
 use Prim.Native.Nat.{ℕ, _+_, _-_, _%_, _≤_, _<_}
 use native.Mathlib.Omega.{arith}
@@ -46,7 +46,7 @@ use Rattle.rules.specs.Row.{columnOf, rowStart}
 use Rattle.rules.specs.State.{number, widthOf, pageLength, segmentTop, segmentBottom, segmentStart, segmentEnd, cursorOf, activated, withScreen, withModes, withAttribute, withProtect, withMode, Inside}
 use Rattle.rules.specs.Possible.{screenOk, rememberedOk}
 use Rattle.rules.specs.Arguments.{isAttribute, attributeOf, featurePlace}
-use Rattle.rules.specs.Plan.{refusing, plain, writingTwo, settling, replying, changing, unlessGuarded, scrolls, atTop, reversePlan, downPlan, tabCell, backTabCell, addressPlan, movePlan, unsplitScreen, splitScreen, activate, isSegment, windowPlan, storing, advancing, storePlan, takesCell, attributePlan, rowEditPlan, editPlan, clearPlan, settingPlan, sendPlan, clearAll, excludedPlan, planRule}
+use Rattle.rules.specs.Plan.{refusing, unlessWide, plain, writingTwo, settling, replying, changing, unlessGuarded, scrolls, atTop, reversePlan, downPlan, tabCell, backTabCell, addressPlan, movePlan, unsplitScreen, splitScreen, activate, isSegment, windowPlan, storing, advancing, storePlan, takesCell, attributePlan, rowEditPlan, editPlan, clearPlan, settingPlan, sendPlan, clearAll, excludedPlan, planRule}
 use Rattle.rules.specs.Good.{GoodWrite, GoodSend, GoodLand, GoodPlan}
 use Rattle.rules.proofs.Tests.{pick-if, both-parts, both-true, among-parts}
 use Rattle.rules.proofs.Rows.{columns-width, column-below, rows-le, cell-inside}
@@ -61,6 +61,7 @@ changeOk w SetupChange.ClearTabs = true
 changeOk w (SetupChange.Attribute n a) = both (ltb n 4) (isAttribute a)
 changeOk w (SetupChange.Feature n f) = both (ltb n 5) (eqb (featurePlace f) n)
 changeOk w SetupChange.HideLine = true
+changeOk w (SetupChange.Wish b) = true
 
 -- a setting that makes such a change; contents whose code is below 80h; and a command of such
 unfoldable pub settingOk : Setting → Bool
@@ -69,6 +70,7 @@ settingOk Setting.ClearTabs = true
 settingOk (Setting.Attribute n a) = both (ltb n 4) (isAttribute a)
 settingOk (Setting.Feature f) = ltb (featurePlace f) 5
 settingOk Setting.HideLine = true
+settingOk (Setting.Wish b) = true
 
 unfoldable pub contentsOk : Contents → Bool
 contentsOk (Contents.Text c) = ltb c 128
@@ -343,14 +345,18 @@ module _ (c : Core) (ok : screenOk (c .screen) ≡ true) (i : Inside (c .screen)
     kept-clear (Clear.Segment k) = kept-writing here (omega arith) tt (omega arith)
     kept-clear Clear.Column = kept-writing here (omega arith) tt (omega arith)
 
+    kept-narrow : {x : Plan} → (c .screen .wide ≡ false → PlanKept t c x) → PlanKept t c (unlessWide c x)
+    unfolding unlessWide
+    kept-narrow h = kept-pick (c .screen .wide) (λ e. kept-refusing here Answer.BadArgument refl) h
+
     kept-send : (g : List Bool) (x : Send) → PlanKept t c (sendPlan g c x)
     unfolding sendPlan
-    kept-send g Send.Acknowledge = kept-replying here (omega arith)
-    kept-send g Send.Identity = kept-replying here (omega arith)
-    kept-send g Send.Cursor = kept-replying here (omega arith)
-    kept-send g Send.SegmentCursor = kept-replying here (omega arith)
-    kept-send g Send.DecimalCursor = kept-replying here (omega arith)
-    kept-send g Send.Cell = kept-unless g (kept-replying here (omega arith))
+    kept-send g Send.Acknowledge = kept-replying here (refl, omega arith)
+    kept-send g Send.Identity = kept-replying here (refl, omega arith)
+    kept-send g Send.Cursor = kept-narrow (λ e. kept-replying here (ap not e, omega arith))
+    kept-send g Send.SegmentCursor = kept-narrow (λ e. kept-replying here (ap not e, omega arith))
+    kept-send g Send.DecimalCursor = kept-replying here (refl, omega arith)
+    kept-send g Send.Cell = kept-unless g (kept-replying here (refl, omega arith))
     kept-send g Send.OpenRow = kept-replying here (omega arith)
     kept-send g Send.OpenSegment = kept-replying here (omega arith)
 
@@ -385,6 +391,7 @@ module _ (c : Core) (ok : screenOk (c .screen) ≡ true) (i : Inside (c .screen)
   kept-setting Setting.ClearTabs = kept-changing here (λ e. refl)
   kept-setting (Setting.Attribute n a) = kept-changing here (λ e. e)
   kept-setting Setting.HideLine = kept-changing here (λ e. refl)
+  kept-setting (Setting.Wish b) = kept-changing here (λ e. refl)
   kept-setting (Setting.Feature f) = kept-changing here (λ e. both-true e (eq-eqb (featurePlace f) (featurePlace f) refl))
 
   kept-command : (g : List Bool) → length g ≡ pageLength (c .screen) → (tabs : List Bool) (d : Command) → PlanKept (commandOk d) c (planRule g tabs c d)

@@ -38,7 +38,7 @@ use Rattle.rules.specs.declared.Land.the-variants as Land
 use Rattle.rules.specs.Row.{columns}
 use Rattle.rules.specs.Search.{guardedAt}
 use Rattle.rules.specs.State.{widthOf, pageLength, withCursor, keyPlace, labelPlace, shortText, idle, isIdle, sends, changed, stored, sendingAfter, gatheredAfter, setupAfter}
-use Rattle.rules.specs.Possible.{powerOn, blank, unsplitOk, screenOk, attributesOk, featuresOk, pendingOk, rememberedOk, sendingOk, noStops, tabsOk, narrow, coreOk, setupOk, possible, good}
+use Rattle.rules.specs.Possible.{powerOn, blank, unsplitOk, screenOk, attributesOk, featuresOk, pendingOk, rememberedOk, sendingOk, noStops, tabsOk, coreOk, setupOk, possible, good}
 use Rattle.rules.specs.Arguments.{isAttribute, featurePlace}
 use Rattle.rules.specs.Slot.{slotOk, slotLow, slotMost, allText, textOk, textsOk}
 use Rattle.rules.specs.Decode.{decodeRule}
@@ -77,14 +77,9 @@ pub record PossibleSetup (w : ℕ) (u : Setup) : Type 0 where
   pub tabs : tabsOk w (u .tabs) ≡ true
 
 pub record PossibleState (s : State) : Type 0 where
-  pub narrow : s .core .screen .wide ≡ false
   pub core : PossibleCore (s .core) (s .gathered)
   pub sending : sendingOk (s .core .screen) (s .core .pending) (s .sending) ≡ true
   pub setup : PossibleSetup (widthOf (s .core .screen)) (s .setup)
-
-not-wide : (b : Bool) → not b ≡ true → b ≡ false
-not-wide true h = sym h
-not-wide false h = refl
 
 pub setup-parts : (w : ℕ) (u : Setup) → setupOk w u ≡ true → PossibleSetup w u
 unfolding setupOk
@@ -106,12 +101,10 @@ unfolding possible coreOk
 possible-parts s h =
     let r = both-parts (coreOk (s .core) (s .gathered)) _ h in
     let r0 = both-parts (sendingOk (s .core .screen) (s .core .pending) (s .sending)) _ (r .1) in
-    let r1 = both-parts (narrow (s .core .screen)) _ (r .0) in
-    let r2 = both-parts (screenOk (s .core .screen)) _ (r1 .1) in
+    let r2 = both-parts (screenOk (s .core .screen)) _ (r .0) in
     let r3 = both-parts (ltb (s .core .bells) 256) _ (r2 .1) in
     let r4 = both-parts (rememberedOk (s .core .personality) (s .core .attribute)) _ (r3 .1) in
     record {
-      narrow = not-wide (s .core .screen .wide) (r1 .0);
       core = record { screen = r2 .0; bells = ltb-true (s .core .bells) 256 (r3 .0); remembered = r4 .0; pending = r4 .1 };
       sending = r0 .0;
       setup = setup-parts (widthOf (s .core .screen)) (s .setup) (r0 .1);
@@ -122,7 +115,7 @@ unfolding possible coreOk
 possible-whole s h =
     let c = h .core in
     both-true
-    (both-true (ap not (h .narrow)) (both-true (c .screen) (both-true (lt-ltb (s .core .bells) 256 (c .bells)) (both-true (c .remembered) (c .pending)))))
+    (both-true (c .screen) (both-true (lt-ltb (s .core .bells) 256 (c .bells)) (both-true (c .remembered) (c .pending))))
     (both-true (h .sending) (setup-whole (widthOf (s .core .screen)) (s .setup) (h .setup)))
 
 -- ---- the set-up after a change that fits it
@@ -182,6 +175,8 @@ changed-kept w (SetupChange.Feature n f) u e h = record {
   tabs = h .tabs;
 }
 changed-kept w SetupChange.HideLine u e h =
+    record { keys = h .keys; labels = h .labels; message = h .message; attributes = h .attributes; features = h .features; tabs = h .tabs }
+changed-kept w (SetupChange.Wish b) u e h =
     record { keys = h .keys; labels = h .labels; message = h .message; attributes = h .attributes; features = h .features; tabs = h .tabs }
 
 -- a slot takes a text that it may hold
@@ -372,7 +367,6 @@ goes-keeps p s room g u h =
       wide = refl;
       personality = refl;
       state = λ e. possible-whole _ record {
-        narrow = w .narrow;
         core = w .core;
         sending = idle-ok x (s .core .pending) _ (sending-idle x (s .core .pending) (s .sending) (w .sending) u)
             (left-ok p (s .core) (r .0) (screen-inside x (w .core .screen)) (s .sending) (ok-good x (s .core .pending) (s .sending) (w .sending)) room h);
@@ -400,7 +394,6 @@ outside-keeps p s b room g u =
       wide = k .wide;
       personality = k .personality;
       state = λ h. possible-whole _ record {
-        narrow = k .wide ∙ w .narrow;
         core = k .core;
         sending = subst (λ (y : Sending). sendingOk (e .core .screen) (e .core .pending) (sendingAfter (e .change) y) ≡ true) (sym u) (k .sending);
         setup = inner-setup p (s .core) (r .0) (s .gathered) (w .core) (s .setup) b room (w .setup);

@@ -38,7 +38,7 @@ use Rattle.rules.specs.declared.Write.{Write}
 use Rattle.rules.specs.Cell.{pick, both, either, among, kind, attribute, normal, written, isDim, isUnderscore, isReverse, isBlink, isBlank}
 use Rattle.rules.specs.Possible.{rememberedOk}
 use Rattle.rules.specs.Arguments.{isAttribute, attributeContents}
-use Rattle.rules.specs.Plan.{unlessGuarded, reversePlan, downPlan, addressPlan, movePlan, activate, windowPlan, storing, advancing, storePlan, takesCell, attributePlan, rowEditPlan, editPlan, clearPlan, settingPlan, sendPlan, excludedPlan, planRule}
+use Rattle.rules.specs.Plan.{unlessGuarded, unlessWide, reversePlan, downPlan, addressPlan, movePlan, activate, windowPlan, storing, advancing, storePlan, takesCell, attributePlan, rowEditPlan, editPlan, clearPlan, settingPlan, sendPlan, excludedPlan, planRule}
 use Rattle.rules.specs.Numbers.{numberOk, writeOk, PlanNumbers}
 use Rattle.rules.specs.Personalities.{ReadsAsBefore, NoFlags}
 use Rattle.rules.proofs.Tests.{pick-if, both-parts, both-true, among-parts}
@@ -247,13 +247,18 @@ module _ (g tabs : List Bool) (c : Core) (ok : rememberedOk (c .personality) (c 
   setting (Setting.Attribute n a) = search forms
   setting (Setting.Feature f) = search forms
   setting Setting.HideLine = search forms
+  setting (Setting.Wish b) = search forms
+
+  unless-wide : {x : Plan} → PlanNumbers (c .personality) x → PlanNumbers (c .personality) (unlessWide c x)
+  unfolding unlessWide writeOk
+  unless-wide f = search forms
 
   send : (x : Send) → PlanNumbers (c .personality) (sendPlan g c x)
   unfolding sendPlan writeOk
   send Send.Acknowledge = search forms
   send Send.Identity = search forms
-  send Send.Cursor = search forms
-  send Send.SegmentCursor = search forms
+  send Send.Cursor = unless-wide (search forms)
+  send Send.SegmentCursor = unless-wide (search forms)
   send Send.DecimalCursor = search forms
   send Send.Cell = unless-guarded (search forms)
   send Send.OpenRow = search forms

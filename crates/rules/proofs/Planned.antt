@@ -33,7 +33,7 @@ use Rattle.rules.specs.declared.Command.the-variants as Command
 use Rattle.rules.specs.Cell.{pick, among}
 use Rattle.rules.specs.State.{number, sends}
 use Rattle.rules.specs.Send.{commandOf}
-use Rattle.rules.specs.Plan.{refusing, replying, unlessGuarded, reversePlan, downPlan, addressPlan, movePlan, activate, windowPlan, advancing, storePlan, attributePlan, rowEditPlan, editPlan, clearPlan, settingPlan, sendPlan, excludedPlan, planRule}
+use Rattle.rules.specs.Plan.{refusing, replying, unlessGuarded, reversePlan, downPlan, addressPlan, movePlan, activate, windowPlan, advancing, storePlan, attributePlan, rowEditPlan, editPlan, clearPlan, settingPlan, unlessWide, sendPlan, excludedPlan, planRule}
 
 -- n is the command that a reply answers
 pub data Planned (n : ℕ) (c : Core) : Plan → Type 0 where
@@ -155,14 +155,19 @@ module _ {n : ℕ} (c : Core) where
   settings (Setting.Attribute n a) = obeys refl refl
   settings (Setting.Feature f) = obeys refl refl
   settings Setting.HideLine = obeys refl refl
+  settings (Setting.Wish b) = obeys refl refl
 
 module _ (c : Core) where
+  narrow : {n : ℕ} {x : Plan} → Planned n c x → Planned n c (unlessWide c x)
+  unfolding unlessWide
+  narrow h = search planning
+
   sent : (g : List Bool) (x : Send) → Planned (sendAsked x) c (sendPlan g c x)
   unfolding sendPlan
   sent g Send.Acknowledge = replies _ refl refl
   sent g Send.Identity = replies _ refl refl
-  sent g Send.Cursor = replies _ refl refl
-  sent g Send.SegmentCursor = replies _ refl refl
+  sent g Send.Cursor = narrow (replies _ refl refl)
+  sent g Send.SegmentCursor = narrow (replies _ refl refl)
   sent g Send.DecimalCursor = replies _ refl refl
   sent g Send.Cell = unless c g (replies _ refl refl)
   sent g Send.OpenRow = replies _ refl refl

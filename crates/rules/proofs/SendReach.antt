@@ -10,7 +10,7 @@ use native.Mathlib.Omega.{arith}
 use lib.Dec.{eqb, ltb, leb}
 use lib.ListN.{length, getD, drop, replicate, length-replicate, getD-replicate}
 use lib.Seq.{drop-cons}
-use borrow.Author.Tests.{eqb-true, ltb-true, leb-true, eq-eqb, ne-eqb}
+use borrow.Author.Tests.{eqb-true, ltb-true, leb-true, eq-eqb, ne-eqb, not-true}
 use Rattle.rules.specs.declared.Core.{Core}
 use Rattle.rules.specs.declared.State.{State}
 use Rattle.rules.specs.declared.Command.{Command}
@@ -29,9 +29,9 @@ use Rattle.rules.specs.declared.Sending.the-variants as Sending
 use Rattle.rules.specs.Row.{columnOf}
 use Rattle.rules.specs.Search.{guardedAt}
 use Rattle.rules.specs.State.{widthOf, pageLength, cursorOf, textStart, awaiting, idle, isIdle, sends, Inside, changed, sendingAfter, gatheredAfter, setupAfter}
-use Rattle.rules.specs.Possible.{shortLength, placeOk, sendingOk, possible, good}
+use Rattle.rules.specs.Possible.{shortLength, placeOk, sendingOk, possible, good, repliesOn}
 use Rattle.rules.specs.Decode.{lookup, idleRule, escapeRule, decodeRule}
-use Rattle.rules.specs.Plan.{replying, sendPlan, excludedPlan, planRule}
+use Rattle.rules.specs.Plan.{replying, sendPlan, excludedPlan, planRule, unlessWide}
 use Rattle.rules.specs.Send.{Spot, spot, shortReply, each, leavesOut, cellPlace, followsLeftOut, places, beyond, standing, leftFrom}
 use Rattle.rules.specs.Carry.{begun, carried}
 use Rattle.rules.specs.Step.{Outcome, obeyed, innerRule, stepRule}
@@ -249,7 +249,7 @@ unsent-possible : (s : State) → possible s ≡ true → possible (unsent s) �
 unfolding sendingOk
 unsent-possible s h =
     let w = possible-parts s h in
-    possible-whole (unsent s) record { narrow = w .narrow; core = w .core; sending = refl; setup = w .setup }
+    possible-whole (unsent s) record { core = w .core; sending = refl; setup = w .setup }
 
 module _ (s : State) (h : possible s ≡ true) (u : sends (s .sending) ≡ true) where
   w : PossibleState s
@@ -268,19 +268,19 @@ module _ (s : State) (h : possible s ≡ true) (u : sends (s .sending) ≡ true)
   leaves : (y : Sending) → s .sending ≡ y → (room : ℕ) → runRule (blankFor s) (unsent s) (asked y) room .state ≡ s → LeftBy s
   leaves y e room x = record { room = room; leaves = ap (λ (z : Sending). runRule (blankFor s) (unsent s) (asked z) room .state) e ∙ x }
 
-  by-short : (r : Short) (n : ℕ) → s .sending ≡ Sending.Short r n → 1 ≤ n → n < shortLength r
+  by-short : (r : Short) (n : ℕ) → s .sending ≡ Sending.Short r n → repliesOn (s .core .screen) r ≡ true → 1 ≤ n → n < shortLength r
       → leftFrom (blankFor s) (s .core) (Sending.Short r 0) n ≡ s .sending → LeftBy s
-  unfolding asked decodeRule escapeRule lookup planRule sendPlan
-  by-short Short.Acknowledge n e a b l = absurd (omega arith)
-  by-short Short.Cell n e a b l = absurd (omega arith)
-  by-short Short.Identity n e a b l =
+  unfolding asked decodeRule escapeRule lookup planRule unlessWide sendPlan
+  by-short Short.Acknowledge n e k a b l = absurd (omega arith)
+  by-short Short.Cell n e k a b l = absurd (omega arith)
+  by-short Short.Identity n e k a b l =
       leaves _ e n (asked-leaves (blankFor s) s fine no-sequence n 0x20 (Command.Send Send.Identity) (Sending.Short Short.Identity 0) refl refl refl refl (omega arith) l)
-  by-short Short.Cursor n e a b l =
-      leaves _ e n (asked-leaves (blankFor s) s fine no-sequence n 0x3f (Command.Send Send.Cursor) (Sending.Short Short.Cursor 0) refl refl refl refl (omega arith) l)
-  by-short Short.SegmentCursor n e a b l =
+  by-short Short.Cursor n e k a b l =
+      leaves _ e n (asked-leaves (blankFor s) s fine no-sequence n 0x3f (Command.Send Send.Cursor) (Sending.Short Short.Cursor 0) refl refl (rw (not-true (s .core .screen .wide) k)) refl (omega arith) l)
+  by-short Short.SegmentCursor n e k a b l =
       leaves _ e n
-      (asked-leaves (blankFor s) s fine no-sequence n 0x2f (Command.Send Send.SegmentCursor) (Sending.Short Short.SegmentCursor 0) refl refl refl refl (omega arith) l)
-  by-short Short.DecimalCursor n e a b l =
+      (asked-leaves (blankFor s) s fine no-sequence n 0x2f (Command.Send Send.SegmentCursor) (Sending.Short Short.SegmentCursor 0) refl refl (rw (not-true (s .core .screen .wide) k)) refl (omega arith) l)
+  by-short Short.DecimalCursor n e k a b l =
       leaves _ e n
       (asked-leaves (blankFor s) s fine no-sequence n 0x62 (Command.Send Send.DecimalCursor) (Sending.Short Short.DecimalCursor 0) refl refl refl refl (omega arith) l)
 
@@ -301,10 +301,11 @@ module _ (s : State) (h : possible s ≡ true) (u : sends (s .sending) ≡ true)
   left-by Sending.Nothing e = absurd (false≢true (ap sends (sym e) ∙ u))
   left-by (Sending.Short r n) e =
       let o : sendingOk (s .core .screen) (s .core .pending) (Sending.Short r n) ≡ true = ap (sendingOk (s .core .screen) (s .core .pending)) (sym e) ∙ w .sending in
-      let a = both-parts (leb 1 n) _ (both-parts (isIdle (s .core .pending)) _ o .1) in
+      let k = both-parts (repliesOn (s .core .screen) r) _ (both-parts (isIdle (s .core .pending)) _ o .1) in
+      let a = both-parts (leb 1 n) _ (k .1) in
       let m = leb-true 1 n (a .0) in
       let l = ltb-true n (shortLength r) (a .1) in
-      by-short r n e m l
+      by-short r n e (k .0) m l
       (ap standing (short-comes (blankFor s) (s .core) r n)
       ∙ (standing-short (blankFor s) (s .core) r n (short-long (blankFor s) (s .core) r n m l) ∙ sym e))
   left-by (Sending.Text all segment k) e =

@@ -31,7 +31,7 @@ use Rattle.rules.specs.declared.Sending.the-variants as Sending
 use Rattle.rules.specs.Cell.{pick, both, guarded}
 use Rattle.rules.specs.Row.{Width, columnOf}
 use Rattle.rules.specs.State.{widthOf, pageLength, cursorOf, textStart, isIdle, sends, Inside}
-use Rattle.rules.specs.Possible.{shortLength, placeOk, sendingOk}
+use Rattle.rules.specs.Possible.{shortLength, placeOk, sendingOk, repliesOn}
 use Rattle.rules.specs.Good.{GoodPlace, GoodSend}
 use Rattle.rules.specs.Send.{Spot, spot, openCell, shortReply, each, leavesOut, leftOut, cellPlace, textPlaces, textFrom, followsLeftOut, textAt, places, bytesOf, beyond, standing, sentFrom, leftFrom}
 use Rattle.rules.proofs.Tests.{pick-if, both-parts, both-true}
@@ -226,34 +226,34 @@ module _ (p : List ℕ) (c : Core) where
   unfolding places
   each-own r n h = each-next r n h
 
-  each-ok : (r : Short) (n : ℕ) → 0 < n → n < length (shortReply p c r) → sendingOk (c .screen) Pending.Idle (Sending.Short r n) ≡ true
+  each-ok : (r : Short) → repliesOn (c .screen) r ≡ true → (n : ℕ) → 0 < n → n < length (shortReply p c r) → sendingOk (c .screen) Pending.Idle (Sending.Short r n) ≡ true
   unfolding sendingOk
-  each-ok r n a b = both-true (le-leb 1 n (omega arith)) (lt-ltb n (shortLength r) (omega (arith, short-few r)))
+  each-ok r k n a b = both-true k (both-true (le-leb 1 n (omega arith)) (lt-ltb n (shortLength r) (omega (arith, short-few r))))
 
   each-none : (r : Short) (n : ℕ) → Row p c (each r n [])
   unfolding each
   each-none r n = none
 
-  each-row : (r : Short) (d n : ℕ) → length (shortReply p c r) - n ≡ d → 0 < n → Row p c (each r n (drop n (shortReply p c r)))
-  each-row r zero n e h =
+  each-row : (r : Short) → repliesOn (c .screen) r ≡ true → (d n : ℕ) → length (shortReply p c r) - n ≡ d → 0 < n → Row p c (each r n (drop n (shortReply p c r)))
+  each-row r k zero n e h =
       let z : drop n (shortReply p c r) ≡ [] = drop-of-length-le (shortReply p c r) {i = n} (omega arith) in
       rw z (each-none r n)
-  each-row r (suc d) n e h =
+  each-row r k (suc d) n e h =
       subst (Row p c) (sym (each-next r n (omega arith)))
-      (more (each-own r n (omega arith)) (each-ok r n h (omega arith)) (each-row r d (suc n) (omega arith) (omega arith)))
+      (more (each-own r n (omega arith)) (each-ok r k n h (omega arith)) (each-row r k d (suc n) (omega arith) (omega arith)))
 
   short-over : (r : Short) (n : ℕ) → length (shortReply p c r) ≤ n → Ahead p c (Sending.Short r n) (places p c (Sending.Short r n))
   unfolding places each
   short-over r n h = rw (drop-of-length-le (shortReply p c r) h) over
 
-  short-ahead : (r : Short) (n : ℕ) → Ahead p c (Sending.Short r n) (places p c (Sending.Short r n))
-  short-ahead r n = by (length (shortReply p c r) - n) refl
+  short-ahead : (r : Short) → repliesOn (c .screen) r ≡ true → (n : ℕ) → Ahead p c (Sending.Short r n) (places p c (Sending.Short r n))
+  short-ahead r k n = by (length (shortReply p c r) - n) refl
     where
       by : (d : ℕ) → length (shortReply p c r) - n ≡ d → Ahead p c (Sending.Short r n) (places p c (Sending.Short r n))
       by zero e = short-over r n (omega arith)
       by (suc d) e =
           subst (Ahead p c (Sending.Short r n)) (sym (each-own r n (omega arith)))
-          (stands (getD (shortReply p c r) n 0 ∷ []) (each-row r d (suc n) (omega arith) (omega arith)))
+          (stands (getD (shortReply p c r) n 0 ∷ []) (each-row r k d (suc n) (omega arith) (omega arith)))
 
   -- the texts
   module _ (n : length p ≡ pageLength (c .screen)) (i : Inside (c .screen)) (all segment : Bool) where
@@ -329,7 +329,7 @@ module _ (p : List ℕ) (c : Core) where
   module _ (n : length p ≡ pageLength (c .screen)) (i : Inside (c .screen)) where
     pub ahead : (y : Sending) → GoodSend (c .screen) y → Ahead p c y (places p c y)
     ahead Sending.Nothing h = unfold places in over
-    ahead (Sending.Short r m) h = short-ahead r m
+    ahead (Sending.Short r m) h = short-ahead r (h .0) m
     ahead (Sending.Text all segment z) h = text-ahead n i all segment z h
 
 -- a possible send stands at a place of its reply
@@ -338,7 +338,8 @@ unfolding sendingOk placeOk
 ok-good x q Sending.Nothing h = tt
 ok-good x q (Sending.Short r n) h =
     let a = both-parts (isIdle q) _ h in
-    ltb-true n (shortLength r) (both-parts (leb 1 n) _ (a .1) .1)
+    let b = both-parts (repliesOn x r) _ (a .1) in
+    (b .0, ltb-true n (shortLength r) (both-parts (leb 1 n) _ (b .1) .1))
 ok-good x q (Sending.Text all segment (Place.Cell j)) h =
     let a = both-parts (isIdle q) _ h in
     let b = both-parts (ltb (textStart x segment) j) _ (a .1) in
@@ -464,7 +465,7 @@ unfolding places sendingOk
 some-left p c q Sending.Nothing h s = absurd (false≢true s)
 some-left p c q (Sending.Short r n) h s =
     let a = both-parts (isIdle q) _ h in
-    let b = both-parts (leb 1 n) _ (a .1) in
+    let b = both-parts (leb 1 n) _ (both-parts (repliesOn (c .screen) r) _ (a .1) .1) in
     each-some r n (drop n (shortReply p c r))
     (omega (arith, length-drop n (shortReply p c r), short-long p c r n (leb-true 1 n (b .0)) (ltb-true n (shortLength r) (b .1))))
 some-left p c q (Sending.Text all segment z) h s = at-some _ p _ all segment z

@@ -48,7 +48,7 @@ use Rattle.rules.specs.Arguments.{isKey, isLabel}
 use Rattle.rules.specs.Slot.{slotEnd, slotMost, slotLow, isText}
 use Rattle.rules.specs.Possible.{powerOn, good}
 use Rattle.rules.specs.Decode.{lookup, controls, escapes, idleRule, escapeRule, judged, featureRule, fieldRule, splitRule, digitRule, decimalRowRule, decimalColumnRule, slotRule, textRule, spoiltRule, argumentRule, decodeRule}
-use Rattle.rules.specs.Plan.{unlessGuarded, reversePlan, downPlan, addressPlan, movePlan, activate, windowPlan, advancing, storePlan, takesCell, attributePlan, rowEditPlan, editPlan, clearPlan, settingPlan, sendPlan, excludedPlan, planRule}
+use Rattle.rules.specs.Plan.{unlessGuarded, reversePlan, downPlan, addressPlan, movePlan, activate, windowPlan, advancing, storePlan, takesCell, attributePlan, rowEditPlan, editPlan, clearPlan, settingPlan, sendPlan, excludedPlan, planRule, unlessWide}
 use Rattle.rules.specs.Carry.{Effect, done, begun, carried}
 use Rattle.rules.specs.Step.{obeyed, innerRule, Outcome, goesOn, stepInside, stepRule}
 use Rattle.rules.specs.Calls.{ofPress, callRule}
@@ -106,11 +106,11 @@ module _ (c : Core) where
   still-clear Clear.Column = refl
 
   still-send : (g : List Bool) (x : Send) → Still (sendPlan g c x)
-  unfolding sendPlan unlessGuarded
+  unfolding sendPlan unlessGuarded unlessWide
   still-send g Send.Acknowledge = refl
   still-send g Send.Identity = refl
-  still-send g Send.Cursor = refl
-  still-send g Send.SegmentCursor = refl
+  still-send g Send.Cursor = search still-pick
+  still-send g Send.SegmentCursor = search still-pick
   still-send g Send.DecimalCursor = refl
   still-send g Send.Cell = search still-pick
   still-send g Send.OpenRow = refl
@@ -133,6 +133,7 @@ settingLine Setting.ClearTabs t = t
 settingLine (Setting.Attribute n a) t = t
 settingLine (Setting.Feature f) t = t
 settingLine Setting.HideLine t = false
+settingLine (Setting.Wish b) t = t
 
 abbrev commandLine : Command → Bool → Bool
 commandLine Command.Nothing t = t
@@ -172,6 +173,7 @@ module _ (p : List ℕ) (c : Core) (g : List ℕ) (u : Setup) (room : ℕ) where
   setting-line (Setting.Attribute n a) = refl
   setting-line (Setting.Feature f) = refl
   setting-line Setting.HideLine = refl
+  setting-line (Setting.Wish b) = refl
 
   still-store : (g : List Bool) (k : Contents) (a : ℕ) → Still (storePlan g (idle c) k a)
   unfolding storePlan unlessGuarded advancing
@@ -244,6 +246,7 @@ setting-stays t (Setting.Attribute n a) e = refl
 setting-stays t (Setting.Feature f) e = refl
 setting-stays true Setting.HideLine e = e
 setting-stays false Setting.HideLine e = refl
+setting-stays t (Setting.Wish b) e = refl
 
 command-stays : (t : Bool) (d : Command) → commandStays d ≡ true → commandLine d t ≡ t
 command-stays t Command.Nothing e = refl

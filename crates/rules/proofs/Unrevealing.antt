@@ -33,7 +33,7 @@ use Rattle.rules.specs.declared.Command.the-variants as Command
 use Rattle.rules.specs.declared.Write.{Write}
 use Rattle.rules.specs.Cell.{pick, both}
 use Rattle.rules.specs.State.{number, withMode}
-use Rattle.rules.specs.Plan.{unlessGuarded, scrolls, reversePlan, downPlan, addressPlan, movePlan, activate, windowPlan, storing, advancing, storePlan, attributePlan, rowEditPlan, editPlan, clearPlan, settingPlan, sendPlan, excludedPlan, planRule}
+use Rattle.rules.specs.Plan.{unlessGuarded, unlessWide, scrolls, reversePlan, downPlan, addressPlan, movePlan, activate, windowPlan, storing, advancing, storePlan, attributePlan, rowEditPlan, editPlan, clearPlan, settingPlan, sendPlan, excludedPlan, planRule}
 use Rattle.rules.specs.Noninterference.{revealing}
 use Rattle.rules.proofs.Related.{spares}
 
@@ -170,13 +170,18 @@ module _ (g tabs : List Bool) (c : Core) (on : c .modes .protect ≡ true) where
   setting (Setting.Attribute n a) = search forms
   setting (Setting.Feature f) = search forms
   setting Setting.HideLine = search forms
+  setting (Setting.Wish b) = search forms
+
+  unless-wide : {x : Plan} → Unrevealing x → Unrevealing (unlessWide c x)
+  unfolding unlessWide
+  unless-wide f = search forms
 
   send : (x : Send) → Unrevealing (sendPlan g c x)
   unfolding sendPlan
   send Send.Acknowledge = search forms
   send Send.Identity = search forms
-  send Send.Cursor = search forms
-  send Send.SegmentCursor = search forms
+  send Send.Cursor = unless-wide (search forms)
+  send Send.SegmentCursor = unless-wide (search forms)
   send Send.DecimalCursor = search forms
   send Send.Cell = unless-guarded (search forms)
   send Send.OpenRow = search forms

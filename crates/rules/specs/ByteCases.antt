@@ -73,8 +73,8 @@ argumentBytes =
     ∷ takes (esc 0x48) low [] 3 (span 0x30 16)
     ∷ takes (esc 0x21) low [] 3 attributeBytes
     ∷ takes (esc 0x2e) low [] 3 (0 ∷ span 0x20 95)
-    -- ESC ` f: all of 30h to 41h but 3Bh
-    ∷ takes (esc 0x60) low [] 3 (span 0x30 11 ++ span 0x3c 6)
+    -- ESC ` f: all of 30h to 41h
+    ∷ takes (esc 0x60) low [] 3 (span 0x30 18)
     -- ESC A n attr
     ∷ takes (esc 0x41) low (0x30 ∷ []) 3 (span 0x30 4)
     ∷ takes (esc 0x41 ++ 0x33 ∷ []) low [] 3 attributeBytes

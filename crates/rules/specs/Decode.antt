@@ -127,9 +127,10 @@ escapeRule b = lookup escapes (Decoded.Reject Answer.Unknown) b
 unfoldable pub judged : Bool → Command → Decoded
 judged t d = pick t (Decoded.Do d) (Decoded.Reject Answer.BadArgument)
 
--- ESC ` f: 3Ah changes nothing
+-- ESC ` f: 3Ah and 3Bh wish for a narrow and a wide page (document 02, A11)
 unfoldable pub featureRule : ℕ → Decoded
-featureRule f = pick (eqb f 0x3a) (Decoded.Do Command.Nothing) (judged (ltb (featurePlace f) 5) (Command.Set (Setting.Feature f)))
+featureRule f =
+    pick (among 0x3a 2 f) (Decoded.Do (Command.Set (Setting.Wish (eqb f 0x3b)))) (judged (ltb (featurePlace f) 5) (Command.Set (Setting.Feature f)))
 
 -- ESC A n attr
 unfoldable pub fieldRule : ℕ → ℕ → Decoded

@@ -14,7 +14,7 @@ use Rattle.rules.specs.declared.Sending.{Sending}
 use Rattle.rules.specs.declared.Sending.the-variants as Sending
 use Rattle.rules.specs.Row.{height, columnOf}
 use Rattle.rules.specs.State.{widthOf, segmentStart, segmentEnd, cursorOf, textStart}
-use Rattle.rules.specs.Possible.{screenOk, shortLength}
+use Rattle.rules.specs.Possible.{screenOk, shortLength, repliesOn}
 use Rattle.rules.specs.Carry.{planWidth}
 
 -- its cells and rows lie in the page, w being its width
@@ -34,7 +34,7 @@ GoodPlace x segment Place.Return = Unit {0}
 
 abbrev pub GoodSend : Screen → Sending → Type 0
 GoodSend x Sending.Nothing = Unit {0}
-GoodSend x (Sending.Short r n) = n < shortLength r
+GoodSend x (Sending.Short r n) = (repliesOn x r ≡ true) × (n < shortLength r)
 GoodSend x (Sending.Text all segment k) = GoodPlace x segment k
 
 -- the cursor settles from a place of the active segment

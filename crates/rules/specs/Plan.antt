@@ -229,6 +229,7 @@ settingPlan c Setting.ClearTabs = changing c SetupChange.ClearTabs
 settingPlan c (Setting.Attribute n a) = changing c (SetupChange.Attribute n a)
 settingPlan c (Setting.Feature f) = changing c (SetupChange.Feature (featurePlace f) f)
 settingPlan c Setting.HideLine = changing c SetupChange.HideLine
+settingPlan c (Setting.Wish b) = changing c (SetupChange.Wish b)
 
 -- a short reply, and a text, from their first place
 abbrev pub short : Core → Short → Plan
@@ -237,11 +238,15 @@ short c r = replying c (Sending.Short r 0)
 abbrev pub text : Core → Bool → Bool → Plan
 text c all segment = replying c (Sending.Text all segment (Place.Cell (textStart (c .screen) segment)))
 
+-- ESC ? and ESC / answer 3 on a wide page, wherever the cursor is (document 02, A11)
+unfoldable pub unlessWide : Core → Plan → Plan
+unlessWide c x = pick (c .screen .wide) (refusing c Answer.BadArgument) x
+
 unfoldable pub sendPlan : List Bool → Core → Send → Plan
 sendPlan g c Send.Acknowledge = short c Short.Acknowledge
 sendPlan g c Send.Identity = short c Short.Identity
-sendPlan g c Send.Cursor = short c Short.Cursor
-sendPlan g c Send.SegmentCursor = short c Short.SegmentCursor
+sendPlan g c Send.Cursor = unlessWide c (short c Short.Cursor)
+sendPlan g c Send.SegmentCursor = unlessWide c (short c Short.SegmentCursor)
 sendPlan g c Send.DecimalCursor = short c Short.DecimalCursor
 sendPlan g c Send.Cell = unlessGuarded g c (short c Short.Cell)
 sendPlan g c Send.OpenRow = text c false false

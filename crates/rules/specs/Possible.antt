@@ -45,6 +45,7 @@ powerOn m = record {
     labels = replicate 16 noText;
     message = noLong;
     shifted = false;
+    wish = false;
   };
 }
 
@@ -121,21 +122,29 @@ placeOk x segment (Place.Cell i) = inText x segment i
 placeOk x segment (Place.Break i) = both (eqb (columnOf (widthOf x) i) 0) (inText x segment i)
 placeOk x segment Place.Return = true
 
+-- ESC ? and ESC / tell a place by two bytes, and reply nothing on a wide page (document 02, A11)
+abbrev pub narrowOnly : Short → Bool
+narrowOnly Short.Acknowledge = false
+narrowOnly Short.Cell = false
+narrowOnly Short.Identity = false
+narrowOnly Short.Cursor = true
+narrowOnly Short.SegmentCursor = true
+narrowOnly Short.DecimalCursor = false
+
+abbrev pub repliesOn : Screen → Short → Bool
+repliesOn x r = not (both (narrowOnly r) (x .wide))
+
 -- a send that some page, bytes and rooms leave under way (document 02, A9): no sequence is, and it stands at any place of its reply but the first
 unfoldable pub sendingOk : Screen → Pending → Sending → Bool
 sendingOk x q Sending.Nothing = true
-sendingOk x q (Sending.Short r n) = both (isIdle q) (both (leb 1 n) (ltb n (shortLength r)))
+sendingOk x q (Sending.Short r n) = both (isIdle q) (both (repliesOn x r) (both (leb 1 n) (ltb n (shortLength r))))
 sendingOk x q (Sending.Text all segment k) = both (isIdle q) (placeOk x segment k)
-
--- document 01 has narrow pages only; the rules are said over both widths, and no wide screen is possible until request A11 lands
-abbrev pub narrow : Screen → Bool
-narrow x = not (x .wide)
 
 -- the term "possible": of the core with the bytes gathered, and of the set-up, w being the width of the page
 unfoldable pub coreOk : Core → List ℕ → Bool
 coreOk c g =
-    both (narrow (c .screen)) (both (screenOk (c .screen)) (both (ltb (c .bells) 256)
-    (both (rememberedOk (c .personality) (c .attribute)) (pendingOk (c .pending) g))))
+    both (screenOk (c .screen)) (both (ltb (c .bells) 256)
+    (both (rememberedOk (c .personality) (c .attribute)) (pendingOk (c .pending) g)))
 
 -- keys of any bytes below 7Fh; labels and message of 20h to 7Eh (document 02, A1)
 unfoldable pub setupOk : ℕ → Setup → Bool

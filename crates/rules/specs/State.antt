@@ -179,25 +179,28 @@ withMode m Mode.Lock b = record { protect = m .protect; mark = m .mark; insert =
 withMode m Mode.LocalEdit b = record { protect = m .protect; mark = m .mark; insert = m .insert; autoscroll = m .autoscroll; locked = m .locked; local = b }
 
 abbrev pub withTabs : Setup → List Bool → Setup
-withTabs u x = record { tabs = x; attributes = u .attributes; features = u .features; keys = u .keys; labels = u .labels; message = u .message; shifted = u .shifted }
+withTabs u x = record { tabs = x; attributes = u .attributes; features = u .features; keys = u .keys; labels = u .labels; message = u .message; shifted = u .shifted; wish = u .wish }
 
 abbrev pub withAttributes : Setup → List ℕ → Setup
-withAttributes u x = record { tabs = u .tabs; attributes = x; features = u .features; keys = u .keys; labels = u .labels; message = u .message; shifted = u .shifted }
+withAttributes u x = record { tabs = u .tabs; attributes = x; features = u .features; keys = u .keys; labels = u .labels; message = u .message; shifted = u .shifted; wish = u .wish }
 
 abbrev pub withFeatures : Setup → List ℕ → Setup
-withFeatures u x = record { tabs = u .tabs; attributes = u .attributes; features = x; keys = u .keys; labels = u .labels; message = u .message; shifted = u .shifted }
+withFeatures u x = record { tabs = u .tabs; attributes = u .attributes; features = x; keys = u .keys; labels = u .labels; message = u .message; shifted = u .shifted; wish = u .wish }
 
 abbrev pub withKeys : Setup → List ShortText → Setup
-withKeys u x = record { tabs = u .tabs; attributes = u .attributes; features = u .features; keys = x; labels = u .labels; message = u .message; shifted = u .shifted }
+withKeys u x = record { tabs = u .tabs; attributes = u .attributes; features = u .features; keys = x; labels = u .labels; message = u .message; shifted = u .shifted; wish = u .wish }
 
 abbrev pub withLabels : Setup → List ShortText → Bool → Setup
-withLabels u l s = record { tabs = u .tabs; attributes = u .attributes; features = u .features; keys = u .keys; labels = l; message = u .message; shifted = s }
+withLabels u l s = record { tabs = u .tabs; attributes = u .attributes; features = u .features; keys = u .keys; labels = l; message = u .message; shifted = s; wish = u .wish }
 
 abbrev pub withMessage : Setup → LongText → Setup
-withMessage u x = record { tabs = u .tabs; attributes = u .attributes; features = u .features; keys = u .keys; labels = u .labels; message = x; shifted = u .shifted }
+withMessage u x = record { tabs = u .tabs; attributes = u .attributes; features = u .features; keys = u .keys; labels = u .labels; message = x; shifted = u .shifted; wish = u .wish }
 
 abbrev pub withShifted : Setup → Bool → Setup
-withShifted u x = record { tabs = u .tabs; attributes = u .attributes; features = u .features; keys = u .keys; labels = u .labels; message = u .message; shifted = x }
+withShifted u x = record { tabs = u .tabs; attributes = u .attributes; features = u .features; keys = u .keys; labels = u .labels; message = u .message; shifted = x; wish = u .wish }
+
+abbrev pub withWish : Setup → Bool → Setup
+withWish u x = record { tabs = u .tabs; attributes = u .attributes; features = u .features; keys = u .keys; labels = u .labels; message = u .message; shifted = u .shifted; wish = x }
 
 -- the set-up after a command's change
 unfoldable pub changed : SetupChange → Setup → Setup
@@ -207,6 +210,7 @@ changed SetupChange.ClearTabs u = withTabs u (replicate 132 false)
 changed (SetupChange.Attribute n a) u = withAttributes u (set (u .attributes) n a)
 changed (SetupChange.Feature n f) u = withFeatures u (set (u .features) n f)
 changed SetupChange.HideLine u = withShifted u false
+changed (SetupChange.Wish b) u = withWish u b
 
 -- a slot takes a text. A label of 50h to 57h that is set, not cleared, turns the shifted line on
 unfoldable pub stored : Slot → List ℕ → Setup → Setup

@@ -41,6 +41,8 @@ pub struct Setup {
     pub labels: [ShortText; 16],
     pub message: LongText,
     pub shifted: bool,
+    // a wide page is wished for
+    pub wish: bool,
 }
 
 // Where a text goes when it is complete: the key or the label of a value of ESC z, or the host message of ESC F.
@@ -222,6 +224,8 @@ pub enum Setting {
     Feature(u8),
     // the shifted line off
     HideLine,
+    // the wish for a wide page
+    Wish(bool),
 }
 
 pub enum Send {
@@ -315,6 +319,7 @@ pub enum SetupChange {
     Attribute(u8, u8),
     Feature(u8, u8),
     HideLine,
+    Wish(bool),
 }
 
 // What a byte changes beside the core: a byte of a text is gathered at a place, a slot takes the first so many bytes gathered, a command's change
