@@ -226,7 +226,7 @@ setup-kept w (Change.Send x) g u e h = h
 
 -- ---- the inner step
 
-landed-kept : (g : List Bool) (l : Land) (c : Core) (t : List ℕ) → length g ≡ pageLength (c .screen) → PossibleCore c t → GoodLand (c .screen) l
+pub landed-kept : (g : List Bool) (l : Land) (c : Core) (t : List ℕ) → length g ≡ pageLength (c .screen) → PossibleCore c t → GoodLand (c .screen) l
     → PossibleCore (landed g l c) t
 unfolding landed
 landed-kept g Land.Stay c t n h k = h

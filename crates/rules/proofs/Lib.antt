@@ -1,6 +1,7 @@
 pub mod Bench
 pub mod Cases
 pub mod Wide
+pub mod Convert
 pub mod Tests
 pub mod Rows
 pub mod Marks

@@ -45,6 +45,7 @@ pub mod PersonalityCases
 pub mod FieldCases
 pub mod Cases
 pub mod Wide
+pub mod Convert
 pub mod ShiftedLine
 pub mod Numbers
 pub mod Personalities
