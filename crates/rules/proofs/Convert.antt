@@ -1,7 +1,8 @@
 -- The conversion to the other width.
 --     conversion     what holds of it
 --     listed-length, listed-at, listed-is     numbers listed by a function
---     converts, unconverts     the rule where it is done, and where it is refused
+--     converts, is-seven, is-six, is-four     the rule where it is done, and where it is refused
+--     home-lands, converted-length     home is a place to settle from; how long the page is
 -- Assumes nothing.
 use mathlib.Core.Path.{_≡_, refl, sym, ap, ap₂, subst, _∙_}
 use mathlib.Core.Bool.{Bool, true, false, false≢true, not}
@@ -12,7 +13,7 @@ use native.Mathlib.Omega.{arith}
 use lib.Dec.{eqb, ltb, leb}
 use lib.ListN.{length, getD, take, drop, replicate, length-drop, take-append-drop}
 use lib.Seq.{take-all}
-use borrow.Author.Tests.{leb-true, eqb-true, eq-eqb, lt-ltb, le-ltb, ltb-true}
+use borrow.Author.Tests.{leb-true, le-leb, eqb-true, eqb-false, eq-eqb, ne-eqb, lt-ltb, le-ltb, ltb-true}
 use Rattle.rules.specs.declared.Core.{Core}
 use Rattle.rules.specs.declared.State.{State}
 use Rattle.rules.specs.Cell.{pick, both, either, null}
@@ -24,7 +25,7 @@ use Rattle.rules.specs.Possible.{noStops, sendingOk, good}
 use Rattle.rules.specs.Plan.{unsplitScreen}
 use Rattle.rules.specs.Good.{GoodLand}
 use Rattle.rules.specs.Carry.{landed}
-use Rattle.rules.specs.Convert.{listed, cellFor, otherWidth, converted, loses, coreOn, stopsWithin, stateOn, homeOn, Turned, unturned, convertRule, Back, Conversion}
+use Rattle.rules.specs.Convert.{listed, cellFor, otherWidth, converted, loses, coreOn, stopsWithin, stateOn, homeOn, Turned, unturned, convertRule, Back, Lost, Conversion}
 use Rattle.rules.proofs.Tests.{both-parts}
 use Rattle.rules.proofs.Rows.{columns-width, by-width, cell-inside}
 use Rattle.rules.proofs.Marks.{length-guards}
@@ -118,6 +119,88 @@ module _ (p : List ℕ) (s : State) (t : List ℕ) where
       by (is-done d) = absurd (e (ap (λ (r : Turned). r .answer) (d .is)))
       by (is-refused n z i) = i ∙ ap (λ (n : ℕ). unturned n t s) (sym (ap (λ (r : Turned). r .answer) i))
 
+-- ---- what is lost
+
+-- a cell of l beyond w columns that is not 0, i being its first cell
+record LostFrom (v w i : ℕ) (l : List ℕ) : Type 0 where
+  at : ℕ
+  inside : at < length l
+  beyond : w ≤ columnOf v (i + at)
+  written : getD l at 0 ≡ 0 → ⊥
+
+either-true : (a : Bool) {b : Bool} → b ≡ true → either a b ≡ true
+either-true true h = refl
+either-true false h = h
+
+-- some cell from i on is
+loses-lost : (v w i : ℕ) (l : List ℕ) → loses v w i l ≡ true → LostFrom v w i l
+unfolding loses
+loses-lost v w i [] h = absurd (false≢true h)
+loses-lost v w i (x ∷ l) h = by (λ k. loses-lost v w (suc i) l k) (leb w (columnOf v i)) refl (eqb x 0) refl h
+  where
+    behind : LostFrom v w (suc i) l → LostFrom v w i (x ∷ l)
+    behind r = let e : suc i + r .at ≡ i + suc (r .at) = omega arith in record {
+      at = suc (r .at);
+      inside = omega (arith, r .inside);
+      beyond = rw e at (r .beyond);
+      written = r .written;
+    }
+
+    by : (loses v w (suc i) l ≡ true → LostFrom v w (suc i) l) → (a : Bool) → leb w (columnOf v i) ≡ a → (b : Bool) → eqb x 0 ≡ b
+        → either (both a (not b)) (loses v w (suc i) l) ≡ true → LostFrom v w i (x ∷ l)
+    by later false e b f k = behind (later k)
+    by later true e true f k = behind (later k)
+    by later true e false f k = let z : i + 0 ≡ i = omega arith in record {
+      at = 0;
+      inside = omega arith;
+      beyond = rw z (leb-true w (columnOf v i) e);
+      written = eqb-false x 0 f;
+    }
+
+lost-loses : (v w i : ℕ) (l : List ℕ) (k : ℕ) → k < length l → w ≤ columnOf v (i + k) → (getD l k 0 ≡ 0 → ⊥) → loses v w i l ≡ true
+unfolding loses
+lost-loses v w i [] k h b n = absurd (omega arith)
+lost-loses v w i (x ∷ l) zero h b n =
+    let z : i + 0 ≡ i = omega arith in
+    let c : w ≤ columnOf v i = rw z at b in
+    rw (le-leb w (columnOf v i) c, ne-eqb x 0 n)
+lost-loses v w i (x ∷ l) (suc k) h b n =
+    let e : i + suc k ≡ suc i + k = omega arith in
+    either-true (both (leb w (columnOf v i)) (not (eqb x 0))) (lost-loses v w (suc i) l k (omega arith) (rw e at b) n)
+
+module _ (p : List ℕ) (s : State) (t : List ℕ) where
+  lost : convertRule p s t .answer ≡ 4 → Lost (columns (s .core .screen .wide)) (otherWidth (s .core .screen .wide)) p
+  lost e = by (both (good p s) (eqb (length t) (height * otherWidth (s .core .screen .wide)))) refl (sends (s .sending)) refl
+      (loses (columns (s .core .screen .wide)) (otherWidth (s .core .screen .wide)) 0 p) refl
+    where
+      told : {o : Turned} {n : ℕ} → convertRule p s t ≡ o → o .answer ≡ n → n ≡ 4
+      told i z = sym z ∙ sym (ap (λ (r : Turned). r .answer) i) ∙ e
+
+      from : LostFrom (columns (s .core .screen .wide)) (otherWidth (s .core .screen .wide)) 0 p → Lost (columns (s .core .screen .wide)) (otherWidth (s .core .screen .wide)) p
+      from r = let z : 0 + r .at ≡ r .at = zero-add (r .at) in record {
+        cell = r .at;
+        inside = r .inside;
+        beyond = rw z at (r .beyond);
+        written = r .written;
+      }
+
+      by : (a : Bool) → both (good p s) (eqb (length t) (height * otherWidth (s .core .screen .wide))) ≡ a → (c : Bool) → sends (s .sending) ≡ c
+          → (d : Bool) → loses (columns (s .core .screen .wide)) (otherWidth (s .core .screen .wide)) 0 p ≡ d → Lost (columns (s .core .screen .wide)) (otherWidth (s .core .screen .wide)) p
+      by false a c u d k = absurd (omega (arith, told (is-seven p s t a) refl))
+      by true a true u d k = absurd (omega (arith, told (is-six p s t a u) refl))
+      by true a false u true k = from (loses-lost (columns (s .core .screen .wide)) (otherWidth (s .core .screen .wide)) 0 p k)
+      by true a false u false k =
+          let r = both-parts (good p s) _ a in
+          absurd (omega (arith, told (converts p s t (r .0) (eqb-true (length t) (height * otherWidth (s .core .screen .wide)) (r .1)) u k) refl))
+
+  barred : good p s ≡ true → length t ≡ height * otherWidth (s .core .screen .wide) → sends (s .sending) ≡ false
+      → Lost (columns (s .core .screen .wide)) (otherWidth (s .core .screen .wide)) p → convertRule p s t .answer ≡ 4
+  barred g n u r =
+      let z : 0 + r .cell ≡ r .cell = zero-add (r .cell) in
+      ap (λ (o : Turned). o .answer)
+      (is-four p s t (rw (g, eq-eqb (length t) _ n)) u
+      (lost-loses (columns (s .core .screen .wide)) (otherWidth (s .core .screen .wide)) 0 p (r .cell) (r .inside) (rw z (r .beyond)) (r .written)))
+
 -- ---- the cells
 
 -- the row and the column of a place in a row of w columns
@@ -162,12 +245,12 @@ stops-within zero n l = no-stops n
 stops-within (suc w) n [] = fewer-stops (suc w) n
 stops-within (suc w) n (b ∷ l) = stops-within w n l
 
-home-lands : (wide : Bool) → GoodLand (unsplitScreen wide) (Land.Settle 0)
+pub home-lands : (wide : Bool) → GoodLand (unsplitScreen wide) (Land.Settle 0)
 unfolding segmentTop segmentBottom columns
 home-lands true = (omega arith, omega arith)
 home-lands false = (omega arith, omega arith)
 
-converted-length : (wide : Bool) (p : List ℕ) → length (converted wide p) ≡ height * otherWidth wide
+pub converted-length : (wide : Bool) (p : List ℕ) → length (converted wide p) ≡ height * otherWidth wide
 unfolding converted
 converted-length wide p = listed-length _ 0 (height * otherWidth wide)
 
@@ -354,6 +437,8 @@ conversion = record {
       let d = done p s t z in
       rw (d .is) (turned-good p s (d .fine) (d .quiet), ap columns (state-wide (converted (s .core .screen .wide) p) s));
   refused = refused;
+  lost = lost;
+  barred = barred;
   cells = λ p s t row column z r a c. let d = done p s t z in rw (d .is) (same-cell (s .core .screen .wide) p row column r c a);
   nulls = λ p s t row column z r a c. let d = done p s t z in rw (d .is) (null-cell (s .core .screen .wide) p row column r c a);
   back = back;

@@ -2,6 +2,7 @@ pub mod Bench
 pub mod Cases
 pub mod Wide
 pub mod Convert
+pub mod ConvertCases
 pub mod Tests
 pub mod Rows
 pub mod Marks

@@ -12,19 +12,29 @@ use Rattle.rules.specs.Decode.{lookup, idleRule, escapeRule, judged, fea
 use Rattle.rules.specs.Plan.{unlessGuarded, scrolls, nextCell, atTop, upCell, reversePlan, downPlan, tabCell, backTabCell, addressPlan, movePlan, activate, isSegment, windowPlan, storing, advancing, storePlan, takesCell, attributePlan, rowEditPlan, editPlan, clearPlan, settingPlan, unlessWide, sendPlan, excludedPlan, planRule}
 use Rattle.rules.specs.Send.{model, openCell, shortReply, each, cellPlace, textPlaces, followsLeftOut, textAt, places, bytesOf, beyond, standing, sentFrom, leftFrom}
 use Rattle.rules.specs.Carry.{applied, landed, done, begun, carried}
-use Rattle.rules.specs.Step.{obeyed, innerRule}
-use Rattle.rules.specs.Calls.{ofStep, after}
-use Rattle.rules.specs.Bench.{replies, answers, holds, allHold}
-use Rattle.rules.specs.Inputs.{esc, goTo, labelled, typed}
-use Rattle.rules.specs.Wide.{wideHold, wideTable, WideList}
+use Rattle.rules.specs.Step.{obeyed, innerRule, goesOn, stepInside, stepRule}
+use Rattle.rules.specs.Calls.{powerOnRule, joined, repeated, behind, runInside, runRule, keySends, pressRule, ofStep, ofRun, ofPress, callRule, after, play}
+use Rattle.rules.specs.Bench.{replies, answers, countsOf, restsOf, segmentsOf, modesOf, stopsFrom, sendNumbers, holds, allHold, casesHold, host}
+use Rattle.rules.specs.Inputs.{esc, goTo, placedOn, obeys}
+use Rattle.rules.specs.Next.{atEvent, toEvent, nextInside, nextRule, replyCommand}
+use Rattle.rules.specs.NextCases.{nextHolds, nextRefuses}
+use Rattle.rules.specs.RowList.{firstColumn, rowNumbers}
+use Rattle.rules.specs.RowCalls.{stepRowsRule, runRowsRule, rowsAfter, canRebuild, rowCallRule, rowAfter, rowPlay}
+use Rattle.rules.specs.RowCases.{rowsWith, openRows, rowHolds, rowCasesHold}
+use Rattle.rules.specs.Wide.{widePage, wideAt, wideProtectAt, wideFrom, wideRefuses, wide, decimal, feature, wideCases, wideRows, WideList}
 
 pub wide-cases : WideList
-unfolding same replies answers holds allHold esc goTo labelled typed wideHold wideTable columns rowEnd marksBy others startsFrom firstIn lastIn around aroundBack
-    within filled shiftLeft shiftRight editShifted rowsShifted columnFilled segmentTop segmentBottom cursorOf withCursor withMode changed stored sendingAfter gatheredAfter setupAfter
-    powerOn blank unsplitOk splitOk screenOk isLabel slotOk slotEnd slotMost slotLow isText allText textOk textsOk isAttribute attributesOk featurePlace featuresOk isKey pendingOk rememberedOk placeOk sendingOk
-    noStops coreOk setupOk possible good lookup idleRule escapeRule judged attributeContents attributeOf featureRule fieldRule splitRule digitRule decimalRowRule
-    decimalColumnRule slotRule textRule spoiltRule argumentRule decodeRule unlessGuarded scrolls nextCell atTop upCell reversePlan downPlan
-    tabCell backTabCell addressPlan movePlan activate isSegment windowPlan storing advancing storePlan takesCell attributePlan rowEditPlan editPlan clearPlan
-    settingPlan unlessWide sendPlan excludedPlan planRule applied model openCell shortReply each cellPlace textPlaces followsLeftOut textAt places bytesOf beyond standing sentFrom leftFrom landed done begun carried obeyed
-    innerRule ofStep after
-wide-cases = refl
+unfolding same columns rowEnd marksBy others startsFrom firstIn lastIn around aroundBack within filled shiftLeft shiftRight editShifted
+    rowsShifted columnFilled segmentTop segmentBottom cursorOf withCursor withMode changed stored sendingAfter gatheredAfter setupAfter
+    powerOn blank unsplitOk splitOk screenOk attributesOk featuresOk pendingOk rememberedOk placeOk sendingOk noStops coreOk setupOk
+    possible good isAttribute attributeContents attributeOf featurePlace isKey isLabel slotOk slotEnd slotMost slotLow isText allText textOk
+    textsOk lookup idleRule escapeRule judged featureRule fieldRule splitRule digitRule decimalRowRule decimalColumnRule slotRule textRule
+    spoiltRule argumentRule decodeRule unlessGuarded scrolls nextCell atTop upCell reversePlan downPlan tabCell backTabCell addressPlan
+    movePlan activate isSegment windowPlan storing advancing storePlan takesCell attributePlan rowEditPlan editPlan clearPlan settingPlan
+    unlessWide sendPlan excludedPlan planRule model openCell shortReply each cellPlace textPlaces followsLeftOut textAt places bytesOf
+    beyond standing sentFrom leftFrom applied landed done begun carried obeyed innerRule goesOn stepInside stepRule powerOnRule joined repeated behind
+    runInside runRule keySends pressRule ofStep ofRun ofPress callRule after play replies answers countsOf restsOf segmentsOf modesOf
+    stopsFrom sendNumbers holds allHold casesHold host esc goTo placedOn obeys atEvent toEvent nextInside nextRule replyCommand nextHolds
+    nextRefuses firstColumn rowNumbers stepRowsRule runRowsRule rowsAfter canRebuild rowCallRule rowAfter rowPlay rowsWith openRows rowHolds
+    rowCasesHold widePage wideAt wideProtectAt wideFrom wideRefuses wide decimal feature wideCases wideRows
+wide-cases = record { cases = refl; power-on = refl; rows = refl; next-narrow = refl; next-wide = refl }

@@ -16,7 +16,7 @@ use Rattle.rules.specs.declared.Place.the-variants as Place
 use Rattle.rules.specs.declared.Sending.{Sending}
 use Rattle.rules.specs.declared.Sending.the-variants as Sending
 use Rattle.rules.specs.Cell.{pick, both, same}
-use Rattle.rules.specs.State.{cursorOf, shortBytes, labelPlace}
+use Rattle.rules.specs.State.{widthOf, cursorOf, shortBytes, labelPlace}
 use Rattle.rules.specs.Possible.{powerOn, blank}
 use Rattle.rules.specs.Calls.{Call, Step, Run, Press, Given, Played, play}
 
@@ -53,6 +53,9 @@ pub data Claim : Type 0 where
   Shifted : Bool → Claim
   -- the send under way
   Stands : Sending → Claim
+  -- the columns of the page; whether a wide one is wished for
+  Columns : ℕ → Claim
+  Wishes : Bool → Claim
 
 unfoldable pub replies : List Given → List ℕ
 replies [] = []
@@ -121,6 +124,8 @@ holds r (Message l) = same (take (r .state .setup .message .len) (r .state .setu
 holds r (Label v l) = same (shortBytes (getD (r .state .setup .labels) (labelPlace v) record { len = 0; bytes = [] })) l
 holds r (Shifted b) = pick b (r .state .setup .shifted) (not (r .state .setup .shifted))
 holds r (Stands x) = same (sendNumbers (r .state .sending)) (sendNumbers x)
+holds r (Columns n) = eqb (widthOf (r .state .core .screen)) n
+holds r (Wishes b) = pick b (r .state .setup .wish) (not (r .state .setup .wish))
 
 unfoldable pub allHold : Played → List Claim → Bool
 allHold r [] = true

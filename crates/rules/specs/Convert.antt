@@ -85,12 +85,23 @@ pub record Back (p : List ℕ) (s : State) (r : Turned) : Type 0 where
   pub gathered : r .state .gathered ≡ s .gathered
   pub setup : r .state .setup ≡ s .setup
 
+-- a cell of a page of v columns beyond w columns that is not 0
+pub record Lost (v w : ℕ) (p : List ℕ) : Type 0 where
+  pub cell : ℕ
+  pub inside : cell < length p
+  pub beyond : w ≤ columnOf v cell
+  pub written : getD p cell 0 ≡ 0 → ⊥
+
 pub record Conversion : Type 0 where
   -- a good page and state stay good, at the other width
   pub stays-good : (p : List ℕ) (s : State) (t : List ℕ) → convertRule p s t .answer ≡ 0
       → (good (convertRule p s t .target) (convertRule p s t .state) ≡ true) × (widthOf (convertRule p s t .state .core .screen) ≡ otherWidth (s .core .screen .wide))
   -- refused: nothing has changed
   pub refused : (p : List ℕ) (s : State) (t : List ℕ) → (convertRule p s t .answer ≡ 0 → ⊥) → convertRule p s t ≡ unturned (convertRule p s t .answer) t s
+  -- outside a send, 4 exactly if a cell is lost
+  pub lost : (p : List ℕ) (s : State) (t : List ℕ) → convertRule p s t .answer ≡ 4 → Lost (widthOf (s .core .screen)) (otherWidth (s .core .screen .wide)) p
+  pub barred : (p : List ℕ) (s : State) (t : List ℕ) → good p s ≡ true → length t ≡ height * otherWidth (s .core .screen .wide) → sends (s .sending) ≡ false
+      → Lost (widthOf (s .core .screen)) (otherWidth (s .core .screen .wide)) p → convertRule p s t .answer ≡ 4
   -- each cell of the old page that the other width has is where it was
   pub cells : (p : List ℕ) (s : State) (t : List ℕ) (row column : ℕ) → convertRule p s t .answer ≡ 0 → row < height → column < widthOf (s .core .screen)
       → column < otherWidth (s .core .screen .wide)

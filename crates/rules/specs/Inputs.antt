@@ -1,5 +1,5 @@
 -- Inputs of worked cases by short names, and the forms of cases.
-use mathlib.Core.Bool.{true, false}
+use mathlib.Core.Bool.{Bool, true, false}
 use mathlib.Core.List.{List, [], _∷_, _++_}
 use Prim.Native.Nat.{ℕ, _+_, _-_}
 use lib.ListN.{length, take, replicate}
@@ -53,22 +53,21 @@ protectAt n = record {
   setup = wy50 .setup;
 }
 
--- and, of a page split at row 13, in segment 0 or in segment 1, the other cursor home
-unfoldable pub upperAt : ℕ → State
-upperAt n = record {
-  core = withScreen (wy50 .core) record { wide = false; active = 0; split = 13; cursor0 = n; cursor1 = 960 };
+-- with another screen: of a width, with an active segment, a split row and both cursors
+unfoldable pub placedOn : Bool → ℕ → ℕ → ℕ → ℕ → State
+placedOn wide a s c d = record {
+  core = withScreen (wy50 .core) record { wide = wide; active = a; split = s; cursor0 = c; cursor1 = d };
   sending = wy50 .sending;
   gathered = wy50 .gathered;
   setup = wy50 .setup;
 }
 
+-- of a page split at row 13, in segment 0 or in segment 1, the other cursor home
+unfoldable pub upperAt : ℕ → State
+upperAt n = placedOn false 0 13 n 960
+
 unfoldable pub lowerAt : ℕ → State
-lowerAt n = record {
-  core = withScreen (wy50 .core) record { wide = false; active = 1; split = 13; cursor0 = 0; cursor1 = n };
-  sending = wy50 .sending;
-  gathered = wy50 .gathered;
-  setup = wy50 .setup;
-}
+lowerAt n = placedOn false 1 13 0 n
 
 -- the power-on state with some bells counted
 unfoldable pub belled : ℕ → State

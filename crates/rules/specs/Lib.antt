@@ -46,6 +46,7 @@ pub mod FieldCases
 pub mod Cases
 pub mod Wide
 pub mod Convert
+pub mod ConvertCases
 pub mod ShiftedLine
 pub mod Numbers
 pub mod Personalities

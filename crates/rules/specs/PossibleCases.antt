@@ -13,25 +13,24 @@ use Rattle.rules.specs.declared.Place.the-variants as Place
 use Rattle.rules.specs.declared.Sending.{Sending}
 use Rattle.rules.specs.declared.Sending.the-variants as Sending
 use Rattle.rules.specs.Cell.{both}
-use Rattle.rules.specs.State.{withScreen, withAttribute, awaiting, withSending, withTabs, withAttributes, withFeatures, withKeys, withLabels, withMessage, withShifted}
+use Rattle.rules.specs.State.{withAttribute, awaiting, withSending, withTabs, withAttributes, withFeatures, withKeys, withLabels, withMessage, withShifted}
 use Rattle.rules.specs.Possible.{possible}
 use Rattle.rules.specs.Bench.{wy50, wy60}
-use Rattle.rules.specs.Inputs.{lowerAt, belled}
+use Rattle.rules.specs.Inputs.{placedOn, lowerAt, belled}
 
--- the power-on state, but with another active segment, split row and cursors
+-- the power-on state, but with another active segment, split row and cursors, of a narrow page and of a wide one
 unfoldable pub placed : ℕ → ℕ → ℕ → ℕ → State
-placed a s c d = record {
-  core = withScreen (wy50 .core) record { wide = false; active = a; split = s; cursor0 = c; cursor1 = d };
-  sending = wy50 .sending;
-  gathered = wy50 .gathered;
-  setup = wy50 .setup;
-}
+placed a s c d = placedOn false a s c d
+
+unfoldable pub placedWide : ℕ → ℕ → ℕ → ℕ → State
+placedWide a s c d = placedOn true a s c d
 
 -- with another set-up
 abbrev pub settled : Setup → State
 settled u = record { core = wy50 .core; sending = wy50 .sending; gathered = wy50 .gathered; setup = u }
 
--- with a key of n bytes, which are given, at a place; a label; a message; field attributes; features; a tab stop; the shifted line on
+-- with a key of n bytes, which are given, at a place; a label; a message; field attributes; features; a tab stop, the page wide or not; the shifted
+-- line on
 unfoldable pub keyed : ℕ → ℕ → List ℕ → State
 keyed place n bytes = settled (withKeys (wy50 .setup) (set (wy50 .setup .keys) place record { len = n; bytes = bytes }))
 
@@ -47,8 +46,13 @@ attributed l = settled (withAttributes (wy50 .setup) l)
 unfoldable pub featured : List ℕ → State
 featured l = settled (withFeatures (wy50 .setup) l)
 
-unfoldable pub stopped : ℕ → State
-stopped column = settled (withTabs (wy50 .setup) (set (wy50 .setup .tabs) column true))
+unfoldable pub stopped : Bool → ℕ → State
+stopped wide column = record {
+  core = placedOn wide 0 0 0 0 .core;
+  sending = wy50 .sending;
+  gathered = wy50 .gathered;
+  setup = withTabs (wy50 .setup) (set (wy50 .setup .tabs) column true);
+}
 
 unfoldable pub shiftedOn : State
 shiftedOn = settled (withShifted (wy50 .setup) true)
@@ -65,6 +69,10 @@ gathering q g = record { core = awaiting (wy50 .core) q; sending = wy50 .sending
 abbrev pub sending : Sending → State
 sending x = withSending (lowerAt 1122) x
 
+-- the same of a wide page
+abbrev pub sendingWide : Sending → State
+sendingWide x = withSending (placedWide 1 13 0 1850) x
+
 unfoldable pub possibleStates : List State
 possibleStates =
     wy50
@@ -74,6 +82,11 @@ possibleStates =
     ∷ placed 1 2 0 1919
     ∷ placed 1 24 1839 1840
     ∷ placed 0 24 0 1919
+    -- a wide page (document 02, A11)
+    ∷ placedWide 0 0 3167 3167
+    ∷ placedWide 0 2 131 132
+    ∷ placedWide 1 2 0 3167
+    ∷ placedWide 1 24 3035 3036
     -- a key: at most 8 bytes below 7Fh; what lies behind them is not looked at
     ∷ keyed 0 8 (replicate 8 0x7e)
     ∷ keyed 31 8 (replicate 8 0)
@@ -97,7 +110,10 @@ possibleStates =
     ∷ attributed (0x20 ∷ 0x3f ∷ 0x70 ∷ 0x7e ∷ [])
     ∷ featured (0x30 ∷ 0x32 ∷ 0x36 ∷ 0x38 ∷ 0x3c ∷ [])
     ∷ featured (0x31 ∷ 0x35 ∷ 0x41 ∷ 0x39 ∷ 0x40 ∷ [])
-    ∷ stopped 79
+    ∷ stopped false 79
+    ∷ stopped true 79
+    ∷ stopped true 80
+    ∷ stopped true 131
     ∷ belled 255
     -- the attribute remembered: in WY-50 normal, in WY-60 any but dim with all four others
     ∷ remembering wy50 0
@@ -120,6 +136,13 @@ possibleStates =
     ∷ sending (Sending.Text true true (Place.Break 1040))
     ∷ sending (Sending.Text false true (Place.Break 1120))
     ∷ sending (Sending.Text true true Place.Return)
+    -- on a wide page ESC ? and ESC / send nothing; its rows begin at other cells
+    ∷ sendingWide (Sending.Short Short.Identity 2)
+    ∷ sendingWide (Sending.Short Short.DecimalCursor 1)
+    ∷ sendingWide (Sending.Short Short.DecimalCursor 6)
+    ∷ sendingWide (Sending.Text false false (Place.Cell 1849))
+    ∷ sendingWide (Sending.Text true true (Place.Break 1716))
+    ∷ sendingWide (Sending.Text false true Place.Return)
     ∷ []
 
 unfoldable pub impossibleStates : List State
@@ -134,6 +157,12 @@ impossibleStates =
     ∷ placed 2 13 0 960
     ∷ placed 0 25 0 1919
     ∷ placed 0 25 0 1920
+    ∷ placedWide 1 0 0 0
+    ∷ placedWide 0 0 3168 0
+    ∷ placedWide 0 0 0 3168
+    ∷ placedWide 0 2 132 132
+    ∷ placedWide 0 2 0 131
+    ∷ placedWide 1 24 0 3168
     ∷ keyed 0 9 (replicate 8 0x61)
     ∷ keyed 0 1 (0x7f ∷ replicate 7 0)
     ∷ keyed 31 8 (replicate 7 0 ++ 0x80 ∷ [])
@@ -161,8 +190,9 @@ impossibleStates =
     ∷ featured (0x31 ∷ 0x35 ∷ 0x42 ∷ 0x39 ∷ 0x40 ∷ [])
     ∷ featured (0x31 ∷ 0x35 ∷ 0x37 ∷ 0x3a ∷ 0x40 ∷ [])
     ∷ featured (0x31 ∷ 0x35 ∷ 0x37 ∷ 0x39 ∷ 0x3b ∷ [])
-    ∷ stopped 80
-    ∷ stopped 131
+    -- a stop beyond the width
+    ∷ stopped false 80
+    ∷ stopped false 131
     ∷ belled 256
     ∷ remembering wy50 1
     ∷ remembering wy50 16
@@ -187,6 +217,17 @@ impossibleStates =
     ∷ sending (Sending.Text true true (Place.Break 1041))
     ∷ sending (Sending.Text true true (Place.Break 1200))
     ∷ sending (Sending.Text true true (Place.Break 0))
+    ∷ sendingWide (Sending.Short Short.Cursor 1)
+    ∷ sendingWide (Sending.Short Short.Cursor 2)
+    ∷ sendingWide (Sending.Short Short.SegmentCursor 1)
+    ∷ sendingWide (Sending.Short Short.SegmentCursor 2)
+    ∷ sendingWide (Sending.Short Short.SegmentCursor 3)
+    ∷ withSending (placedWide 0 0 0 0) (Sending.Short Short.Cursor 1)
+    ∷ withSending (placedWide 0 0 0 0) (Sending.Short Short.SegmentCursor 1)
+    ∷ sendingWide (Sending.Short Short.DecimalCursor 7)
+    ∷ sendingWide (Sending.Text false false (Place.Cell 1848))
+    ∷ sendingWide (Sending.Text true true (Place.Break 1760))
+    ∷ sendingWide (Sending.Text true true (Place.Break 1584))
     ∷ withSending (gathering Pending.Escape (replicate 46 0)) (Sending.Short Short.Identity 1)
     ∷ withSending (gathering (Pending.AddressRow 0x20) (replicate 46 0)) (Sending.Text false false Place.Return)
     ∷ []
