@@ -1,5 +1,6 @@
 pub mod Loop
 pub mod Changes
+mod Converting
 pub mod Moved
 pub mod Room
 pub mod Sends
