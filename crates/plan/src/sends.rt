@@ -5,7 +5,7 @@ ghost use lib.ListN.{length};
 ghost use Rattle.rules.specs.Search.{guardedAt};
 ghost use Rattle.rules.specs.State.{pageLength};
 ghost use Rattle.rules.specs.Possible.{screenOk};
-ghost use Rattle.rules.specs.Plan.{settingPlan, short as shortOf, text as textOf, sendPlan, clearAll as clearAllOf, protectOff as protectOffOf, excludedPlan};
+ghost use Rattle.rules.specs.Plan.{settingPlan, short as shortOf, text as textOf, unlessWide, sendPlan, clearAll as clearAllOf, protectOff as protectOffOf, excludedPlan};
 use super::forms::changing;
 use super::forms::plain;
 use super::forms::refusing;
@@ -45,6 +45,7 @@ pub fn plan_setting(core: Core, s: Setting) -> Plan
         Setting::Attribute(n, a) => changing(core, SetupChange::Attribute(n, a)),
         Setting::Feature(f) => changing(core, SetupChange::Feature(feature_place(f), f)),
         Setting::HideLine => changing(core, SetupChange::HideLine),
+        Setting::Wish(b) => changing(core, SetupChange::Wish(b)),
     }
 }
 
@@ -53,6 +54,16 @@ fn short(core: Core, x: Short) -> Plan
     ensures { λ r. ⌜ r ≡ shortOf core x ⌝ }
 {
     replying(core, Sending::Short(x, 0))
+}
+
+// ESC ? and ESC / answer 3 on a wide page.
+fn narrowly(core: Core, x: Short) -> Plan
+    ensures { λ r. ⌜ r ≡ unlessWide core (shortOf core x) ⌝ }
+{
+    if core.screen.wide {
+        return refusing(core, Answer::BadArgument);
+    }
+    short(core, x)
 }
 
 fn text(core: Core, all: bool, segment: bool) -> Plan
@@ -73,8 +84,8 @@ pub fn plan_send(page: &[u16], core: Core, s: Send) -> Plan
     match s {
         Send::Acknowledge => short(core, Short::Acknowledge),
         Send::Identity => short(core, Short::Identity),
-        Send::Cursor => short(core, Short::Cursor),
-        Send::SegmentCursor => short(core, Short::SegmentCursor),
+        Send::Cursor => narrowly(core, Short::Cursor),
+        Send::SegmentCursor => narrowly(core, Short::SegmentCursor),
         Send::DecimalCursor => short(core, Short::DecimalCursor),
         Send::Cell => {
             if guarded_at(page, core.modes.protect, cursor_of(core.screen)) {

@@ -159,12 +159,12 @@ pub fn attribute_contents(a: u8) -> Contents
     }
 }
 
-// ESC ` f: 3Ah changes nothing.
+// ESC ` f: 3Ah and 3Bh wish for a narrow and a wide page.
 fn feature(f: u8) -> Decoded
     ensures { λ r. ⌜ r ≡ featureRule f ⌝ }
 {
-    if f == 0x3a {
-        return Decoded::Do(Command::Nothing);
+    if among(0x3a, 2, f) {
+        return Decoded::Do(Command::Set(Setting::Wish(f == 0x3b)));
     }
     judged(feature_place(f) < 5, Command::Set(Setting::Feature(f)))
 }

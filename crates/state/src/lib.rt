@@ -76,6 +76,7 @@ pub fn power_on_state(m: Personality) -> State
             labels: [none; 16],
             message: message,
             shifted: false,
+            wish: false,
         },
     }
 }

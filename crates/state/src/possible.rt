@@ -258,8 +258,7 @@ pub fn core_ok(core: Core, gathered: [u8; 46]) -> bool
     let remembered = remembered_ok(personality, core.attribute);
     let sequence = and(remembered, pending_ok(pending, gathered));
     let rest = and(bells_ok(core.bells), sequence);
-    let narrow = !screen.wide;
-    and(narrow, and(screen_ok(screen), rest))
+    and(screen_ok(screen), rest)
 }
 
 pub fn setup_ok(setup: Setup, width: u16) -> bool

@@ -2,7 +2,7 @@
 ghost use mathlib.Core.Path.{_≡_};
 ghost use Rattle.rules.specs.State.{sends, sendingAfter};
 ghost use Rattle.rules.specs.Send.{shortCommand, textCommand, commandOf};
-ghost use Rattle.rules.specs.Possible.{shortLength, inText, placeOk, sendingOk};
+ghost use Rattle.rules.specs.Possible.{shortLength, narrowOnly, repliesOn, inText, placeOk, sendingOk};
 use crate::core::is_idle;
 use crate::logic::and;
 use crate::screen::cursor_of;
@@ -92,6 +92,26 @@ pub fn command_of(sending: Sending) -> u8
     }
 }
 
+// ESC ? and ESC / reply nothing on a wide page.
+fn narrow_only(r: Short) -> bool
+    ensures { λ t. ⌜ t ≡ narrowOnly r ⌝ }
+{
+    match r {
+        Short::Acknowledge => false,
+        Short::Cell => false,
+        Short::Identity => false,
+        Short::Cursor => true,
+        Short::SegmentCursor => true,
+        Short::DecimalCursor => false,
+    }
+}
+
+fn replies_on(x: Screen, r: Short) -> bool
+    ensures { λ t. ⌜ t ≡ repliesOn x r ⌝ }
+{
+    !and(narrow_only(r), x.wide)
+}
+
 // Cell i is in the text that is sent, and not its first.
 fn in_text(x: Screen, segment: bool, i: u16) -> bool
     ensures { λ r. ⌜ r ≡ inText x segment i ⌝ }
@@ -116,7 +136,10 @@ pub fn sending_ok(x: Screen, q: Pending, sending: Sending) -> bool
 {
     match sending {
         Sending::Nothing => true,
-        Sending::Short(r, n) => and(is_idle(q), and(1 <= n, n < short_length(r))),
+        Sending::Short(r, n) => and(
+            is_idle(q),
+            and(replies_on(x, r), and(1 <= n, n < short_length(r))),
+        ),
         Sending::Text {
             all: _,
             segment,

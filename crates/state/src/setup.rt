@@ -82,6 +82,10 @@ pub fn changed(x: SetupChange, u: Setup) -> Setup
             t.shifted = false;
             t
         }
+        SetupChange::Wish(b) => {
+            t.wish = b;
+            t
+        }
     }
 }
 

@@ -145,7 +145,7 @@ module _ (p : List ℕ) (s : State) (g : good p s ≡ true) where
       let r = good-parts p s g in
       let k = possible-parts s (r .1) in
       good-whole p (stateOf (s .core) (s .gathered) (s .setup)) (r .0)
-      (possible-whole (stateOf (s .core) (s .gathered) (s .setup)) record { narrow = k .narrow; core = k .core; sending = refl; setup = k .setup })
+      (possible-whole (stateOf (s .core) (s .gathered) (s .setup)) record { core = k .core; sending = refl; setup = k .setup })
 
   -- with room, or outside a send: what is left of it is sent, and then the bytes come
   behind-room : (l : List ℕ) (room : ℕ) → sends (s .sending) ≡ true → 0 < room

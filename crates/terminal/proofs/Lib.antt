@@ -4,6 +4,7 @@ pub mod Loop
 pub mod TextSteps
 pub mod TextRuns
 pub mod Calls
+pub mod Converting
 pub mod Noninterference
 pub mod RowRuns
 pub mod RowCalls

@@ -88,6 +88,7 @@ nothing-made (Change.Set SetupChange.ClearTabs) g u e = absurd (false≢true e)
 nothing-made (Change.Set (SetupChange.Attribute i a)) g u e = absurd (false≢true e)
 nothing-made (Change.Set (SetupChange.Feature i f)) g u e = absurd (false≢true e)
 nothing-made (Change.Set SetupChange.HideLine) g u e = absurd (false≢true e)
+nothing-made (Change.Set (SetupChange.Wish b)) g u e = absurd (false≢true e)
 
 -- the test for an event to stop at
 pub event-ends : (stop e : Bool) → both stop e ≡ true → either (both stop e) false ≡ true

@@ -27,6 +27,7 @@ keepsSetup SetupChange.ClearTabs = false
 keepsSetup (SetupChange.Attribute n a) = false
 keepsSetup (SetupChange.Feature n f) = false
 keepsSetup SetupChange.HideLine = false
+keepsSetup (SetupChange.Wish b) = false
 
 abbrev pub isNothing : Change → Bool
 isNothing (Change.Gather n b) = false

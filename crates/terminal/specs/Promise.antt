@@ -13,6 +13,8 @@ use Rattle.rules.specs.State.{number}
 use Rattle.rules.specs.Step.{Outcome}
 use Rattle.rules.specs.Calls.{Ran, Pressed, pressed}
 use Rattle.rules.specs.Room.{over}
+use Rattle.rules.specs.Convert.{Turned}
+use Rattle.terminal.specs.declared.width.ConvertResult.{ConvertResult}
 
 -- p is the page after the call
 pub record PoweredOn (o : Outcome) (r : PowerOn) (p : List ℕ) : Type 0 where
@@ -53,3 +55,9 @@ pub record KeySent (o : Pressed) (r : PressResult) (w w′ : List ℕ) : Type 0 
   pub replied : r .replied ≡ length (o .reply)
   pub room : w′ ≡ over (o .reply) w
   pub fits : r .replied ≤ length w
+
+-- t is the target after the call
+pub record Turns (o : Turned) (r : ConvertResult) (t : List ℕ) : Type 0 where
+  pub answer : number (r .answer) ≡ o .answer
+  pub state : r .state ≡ o .state
+  pub target : t ≡ o .target

@@ -115,6 +115,7 @@ fn keeps_setup(x: SetupChange) -> bool
         SetupChange::Attribute(_, _) => false,
         SetupChange::Feature(_, _) => false,
         SetupChange::HideLine => false,
+        SetupChange::Wish(_) => false,
     }
 }
 

@@ -1,9 +1,11 @@
 // The terminal: power-on, the single step, the run over many bytes, both with a row list too, the run up to the first event, the bytes that a run
-// did not take, and the key press. No call asks anything of its caller, and each promises all that it gives: the answer, every count, and every cell and byte that it was lent.
+// did not take, the key press and the conversion to the other width. No call asks anything of its caller, and each promises all that it gives: the
+// answer, every count, and every cell and byte that it was lent.
 mod bytes; // the loop over host bytes
 mod inner; // one byte
 mod key; // what a key sends
 mod text; // runs of text
+pub mod width; // the state at the other width
 
 ghost use mathlib.Core.Path.{_≡_};
 ghost use mathlib.Core.Bool.{true};
@@ -17,10 +19,11 @@ ghost use Rattle.rules.specs.Possible.{good};
 ghost use Rattle.rules.specs.Step.{stepRule};
 ghost use Rattle.rules.specs.Calls.{powerOnRule, runRule, pressRule};
 ghost use Rattle.rules.specs.RowList.{Beside, agrees};
+ghost use Rattle.rules.specs.Convert.{convertRule};
 ghost use Rattle.rules.specs.Next.{replyCommand};
 ghost use Rattle.rules.specs.RowCalls.{stepRowsRule, runRowsRule, suits, nextRowsRule, rowsAfter, rebuildAnswer, rebuilt};
 ghost use Rattle.terminal.specs.Loop.{callTo};
-ghost use Rattle.terminal.specs.Promise.{PoweredOn, Stepped, Completed, KeySent};
+ghost use Rattle.terminal.specs.Promise.{PoweredOn, Stepped, Completed, KeySent, Turns};
 ghost use Rattle.carry.specs.Went.{Went};
 use bytes::repeat;
 use carry::replies::send;
@@ -32,6 +35,8 @@ pub use page::cell::is_protected;
 pub use page::cell::kind_of;
 pub use page::cell::sent_code;
 use page::change::fill_cells;
+use page::convert::convert_page;
+use page::convert::loses_cells;
 use page::rows::is_row_list;
 use page::rows::rebuild;
 use page::text::Sent;
@@ -57,6 +62,8 @@ pub use state::sending::text_command;
 use state::texts::is_key;
 use state::width::NARROW_CELLS;
 use state::width::cells;
+use width::ConvertResult;
+use width::state_on;
 
 // A page of the state's own length, and a possible state.
 fn is_good(page: &[u16], state: State) -> bool
@@ -393,4 +400,38 @@ pub fn press(page: &[u16], state: State, key: u8, reply: &mut [u8]) -> PressResu
     let setup = state.setup;
     let keys = setup.keys;
     press_key(key_at(keys, key), key, reply)
+}
+
+// The conversion to the other width: the page's cells in the target, and the state there. Ruled out: one that drops a written cell, looks at the
+// wish, keeps the split, or writes to the target and then refuses.
+pub fn convert(page: &[u16], state: State, target: &mut [u16]) -> ConvertResult
+    ensures { λ r. ⌜ Turns (convertRule (now (page .entry)) state (now (target .entry))) r (now (target .exit)) ⌝ }
+{
+    let wide = state.core.screen.wide;
+    let n = cells(!wide, 24);
+    if !and(is_good(page, state), target.len() == n as usize) {
+        return ConvertResult {
+            answer: Answer::BadCall,
+            state: state,
+        };
+    }
+    let sending = state.sending;
+    if is_sending(sending) {
+        return ConvertResult {
+            answer: Answer::NoRoom,
+            state: state,
+        };
+    }
+    if loses_cells(page, wide) {
+        return ConvertResult {
+            answer: Answer::Barred,
+            state: state,
+        };
+    }
+    convert_page(page, wide, target);
+    let there = state_on(target, state);
+    ConvertResult {
+        answer: Answer::Done,
+        state: there,
+    }
 }

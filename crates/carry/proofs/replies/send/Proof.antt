@@ -17,7 +17,8 @@ send-spec =
     -- send-short-requires
     (λ c κs.
     let s = c .before .before .before .before .before .before in
-    (s .pre .0, (s .pre .1 .0, (rw (c .before .before .sending .given .1) at (s .pre .1 .1 .0), s .pre .1 .1 .1))))
+    let e = rw (c .before .before .sending .given .1) at (s .pre .1 .1 .0) in
+    (s .pre .0, (s .pre .1 .0, (e .1, s .pre .1 .1 .1))))
     -- enum-known-sending-2
     (λ c. search needs)
     -- width-of-requires

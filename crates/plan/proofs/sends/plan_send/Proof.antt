@@ -22,15 +22,15 @@ plan-send-spec =
     (λ c κs. search needs)
     -- enum-told-3
     (λ c. search needs)
-    -- short-requires-3
+    -- narrowly-requires
     (λ c κs. search needs)
     -- enum-told-4
     (λ c. search needs)
-    -- short-requires-4
+    -- narrowly-requires-2
     (λ c κs. search needs)
     -- enum-told-5
     (λ c. search needs)
-    -- short-requires-5
+    -- short-requires-3
     (λ c κs. search needs)
     -- enum-told-6
     (λ c. search needs)
@@ -42,7 +42,7 @@ plan-send-spec =
     (λ c κs. search needs)
     -- returns
     (λ c. c .refusing .ensures ∙ rw (c .before .before .before .before .enum-told6 .given .1, ← c .before .before .before .cursor-of .ensures, ← c .before .before .guarded-at .ensures, c .before .if1 .taken))
-    -- short-requires-6
+    -- short-requires-4
     (λ c κs. search needs)
     -- enum-told-7
     (λ c. search needs)
@@ -57,13 +57,13 @@ plan-send-spec =
     -- returns-3
     (λ c. c .short2 .ensures ∙ rw (c .before .enum-told2 .given .1))
     -- returns-4
-    (λ c. c .short3 .ensures ∙ rw (c .before .enum-told3 .given .1))
+    (λ c. c .narrowly .ensures ∙ rw (c .before .enum-told3 .given .1))
     -- returns-5
-    (λ c. c .short4 .ensures ∙ rw (c .before .enum-told4 .given .1))
+    (λ c. c .narrowly2 .ensures ∙ rw (c .before .enum-told4 .given .1))
     -- returns-6
-    (λ c. c .short5 .ensures ∙ rw (c .before .enum-told5 .given .1))
+    (λ c. c .short3 .ensures ∙ rw (c .before .enum-told5 .given .1))
     -- returns-7
-    (λ c. c .short6 .ensures ∙ rw (c .before .before .before .before .enum-told6 .given .1, ← c .before .before .before .cursor-of .ensures, ← c .before .before .guarded-at .ensures, c .before .if1 .left))
+    (λ c. c .short4 .ensures ∙ rw (c .before .before .before .before .enum-told6 .given .1, ← c .before .before .before .cursor-of .ensures, ← c .before .before .guarded-at .ensures, c .before .if1 .left))
     -- returns-8
     (λ c. c .text .ensures ∙ rw (c .before .enum-told7 .given .1))
     -- returns-9

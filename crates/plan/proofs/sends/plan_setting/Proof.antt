@@ -34,6 +34,10 @@ plan-setting-spec =
     (λ c. search needs)
     -- changing-requires-5
     (λ c κs. search needs)
+    -- enum-known-s-4
+    (λ c. search needs)
+    -- changing-requires-6
+    (λ c κs. search needs)
     -- returns
     (λ c. c .changing .ensures ∙ rw (c .before .cursor-column .ensures, c .before .before .before .s .given .1))
     -- returns-2
@@ -43,4 +47,6 @@ plan-setting-spec =
     -- returns-4
     (λ c. c .changing4 .ensures ∙ rw (c .before .feature-place .ensures, c .before .before .before .s3 .given .1))
     -- returns-5
-    (λ c. c .changing5 .ensures ∙ rw (c .before .enum-told2 .given .1)))
+    (λ c. c .changing5 .ensures ∙ rw (c .before .enum-told2 .given .1))
+    -- returns-6
+    (λ c. c .changing6 .ensures ∙ rw (c .before .before .s4 .given .1)))

@@ -1,7 +1,6 @@
 -- `state::decode::feature` meets its contract.
-use mathlib.Core.Path.{_∙_}
-use borrow.Author.Tests.{ne-eqb}
-use Rattle.state.proofs.Tests.{tests}
+use mathlib.Core.Path.{sym, _∙_}
+use native.Mathlib.Omega.{arith}
 use Rattle.rules.specs.Decode.{featureRule}
 use borrow.Author.Needs.{needs}
 use Rattle.state.proofs.decode.feature.Statement.{statement}
@@ -12,8 +11,10 @@ unfolding featureRule
 feature-spec =
     tie.close
     (tie.spec
+    -- among-requires
+    (λ c κs. omega arith)
     -- returns
-    (λ c. search tests)
+    (λ c. rw (sym (c .before .among .ensures) ∙ c .if1 .taken))
     -- feature-place-requires
     (λ c κs. search needs)
     -- judged-requires
@@ -21,5 +22,5 @@ feature-spec =
     -- returns-2
     (λ c. c .judged .ensures ∙ rw (
       c .before .feature-place .ensures,
-      ne-eqb (c .before .before .before .args .f) 0x3a (c .before .before .if1 .left),
+      sym (c .before .before .before .among .ensures) ∙ c .before .before .if1 .left,
     )))

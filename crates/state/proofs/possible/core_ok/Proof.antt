@@ -24,16 +24,13 @@ core-ok-spec =
     (λ c κs. search needs)
     -- and-requires-3
     (λ c κs. search needs)
-    -- and-requires-4
-    (λ c κs. search needs)
     -- returns
     (λ c.
-    let rest = c .before .before .before .before in
+    let rest = c .before .before in
     let sequence = rest .before .before in
-    c .and4 .ensures
+    c .and3 .ensures
     ∙ rw (
-      c .before .and3 .ensures,
-      c .before .before .screen-ok .ensures,
+      c .before .screen-ok .ensures,
       rest .and2 .ensures,
       rest .before .bells-ok .ensures,
       sequence .and .ensures,

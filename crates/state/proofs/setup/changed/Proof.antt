@@ -27,6 +27,8 @@ changed-spec =
     (λ c κs. search needs)
     -- enum-told-3
     (λ c. search needs)
+    -- enum-known-x-4
+    (λ c. search needs)
     -- returns
     (λ c. rw (c .enum-told .given .1))
     -- returns-2
@@ -38,4 +40,6 @@ changed-spec =
     -- returns-5
     (λ c. rw (c .set-feature .ensures, c .before .before .before .x3 .given .1))
     -- returns-6
-    (λ c. rw (c .enum-told3 .given .1)))
+    (λ c. rw (c .enum-told3 .given .1))
+    -- returns-7
+    (λ c. rw (c .before .x4 .given .1)))
