@@ -6,16 +6,17 @@ use mathlib.Core.Bool.{Bool, true, false}
 use mathlib.Core.List.{List, [], _++_}
 use Prim.Native.Nat.{ℕ, suc, _+_, _%_, _<_, _≤_}
 use native.Mathlib.Omega.{arith}
-use lib.Seq.{take-at, drop-at, getD-set-same, getD-set-other}
+use lib.Seq.{take-at, drop-at, drop-drop, drop-append-add, getD-set-same, getD-set-other}
 use lib.ListN.{length, getD, take, drop, set, length-take}
 use borrow.Author.Tests.{le-leb, lt-ltb, le-ltb}
 use Rattle.rules.specs.declared.State.{State}
 use Rattle.rules.specs.declared.Setup.{Setup}
 use Rattle.rules.specs.declared.Personality.{Personality}
-use Rattle.rules.specs.Row.{columns, addressed}
+use Rattle.rules.specs.Row.{Width, columns, addressed}
 use Rattle.rules.specs.Possible.{blank, noStops, possible}
 use Rattle.rules.specs.Calls.{Ran}
 use Rattle.rules.proofs.Tests.{pick-if, both-true}
+use Rattle.rules.proofs.Rows.{columns-width, by-width}
 use Rattle.rules.proofs.Kept.{PossibleSetup, possible-parts, possible-whole}
 use Rattle.saved.specs.declared.SaveAnswer.the-variants as SaveAnswer
 use Rattle.saved.specs.declared.RestoreAnswer.the-variants as RestoreAnswer
@@ -116,23 +117,25 @@ module _ (v u : Setup) (stops : length (v .tabs) ≡ 132) where
     labels = h .labels;
   }
 
-  settings-possible : Fine v → (wide : Bool) → wide ≡ false → PossibleSetup (columns wide) u → PossibleSetup (columns wide) (withSettings v u)
+  -- beyond a width of 80 or more the stops are those of u
+  stops-beyond : {w : ℕ} → Width w → drop w (take 80 (v .tabs) ++ drop 80 (u .tabs)) ≡ drop w (u .tabs)
+  stops-beyond k = by-width (λ (w : ℕ). drop w (take 80 (v .tabs) ++ drop 80 (u .tabs)) ≡ drop w (u .tabs)) (past 0) (past 52) k
+    where
+      past : (n : ℕ) → drop (80 + n) (take 80 (v .tabs) ++ drop 80 (u .tabs)) ≡ drop (80 + n) (u .tabs)
+      past n =
+          subst (λ (m : ℕ). drop (m + n) (take 80 (v .tabs) ++ drop 80 (u .tabs)) ≡ drop (80 + n) (u .tabs)) first-stops
+          (drop-append-add (take 80 (v .tabs)) (drop 80 (u .tabs)) n ∙ drop-drop n 80 (u .tabs))
+
+  settings-possible : Fine v → (wide : Bool) → PossibleSetup (columns wide) u → PossibleSetup (columns wide) (withSettings v u)
   unfolding withSettings
-  settings-possible f wide e h = record {
+  settings-possible f wide h = record {
     keys = f .keys;
     labels = f .labels;
     message = h .message;
     attributes = f .attributes;
     features = f .features;
-    tabs = narrow e (h .tabs);
+    tabs = ap noStops (stops-beyond (columns-width wide)) ∙ h .tabs;
   }
-    where
-      narrow : wide ≡ false → noStops (drop (columns wide) (u .tabs)) ≡ true
-          → noStops (drop (columns wide) (take addressed (v .tabs) ++ drop addressed (u .tabs))) ≡ true
-      narrow e h =
-          let w : columns wide ≡ 80 = ap columns e ∙ unfold columns in refl in
-          let k : noStops (drop 80 (u .tabs)) ≡ true = rw w at h in
-          rw w (rw (drop-at (take 80 (v .tabs)) (drop 80 (u .tabs)) 80 first-stops) k)
 
 fed-stops : (m : Personality) (bytes : List ℕ) → length (fed m bytes .tabs) ≡ 132
 fed-stops m bytes = fed-fine m bytes .shaped .tabs
@@ -145,11 +148,12 @@ restored-leaves bytes s = record {
   gathered = refl;
   message = refl;
   shifted = refl;
+  wish = refl;
   beyond = settings-beyond (fed (s .core .personality) bytes) (s .setup) (fed-stops (s .core .personality) bytes);
 }
 
 alone : (s : State) → LeavesAlone s s
-alone s = record { core = refl; sending = refl; gathered = refl; message = refl; shifted = refl; beyond = refl }
+alone s = record { core = refl; sending = refl; gathered = refl; message = refl; shifted = refl; wish = refl; beyond = refl }
 
 restored-possible : (bytes : List ℕ) (s : State) → possible s ≡ true → possible (restored bytes s) ≡ true
 unfolding restored
@@ -157,10 +161,9 @@ restored-possible bytes s h =
     let r = possible-parts s h in
     let m = s .core .personality in
     possible-whole _ record {
-      narrow = r .narrow;
       core = r .core;
       sending = r .sending;
-      setup = settings-possible (fed m bytes) (s .setup) (fed-stops m bytes) (fed-fine m bytes) (s .core .screen .wide) (r .narrow) (r .setup);
+      setup = settings-possible (fed m bytes) (s .setup) (fed-stops m bytes) (fed-fine m bytes) (s .core .screen .wide) (r .setup);
     }
 
 module _ (s : State) (store : List ℕ) (n : ℕ) where

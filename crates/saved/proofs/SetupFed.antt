@@ -77,13 +77,29 @@ module _ (m : Personality) (g : List ℕ) (u : Setup) (p : List ℕ) (size : len
 among-beyond : (first n v : ℕ) → first + n ≤ v → among first n v ≡ false
 among-beyond first n v h = rw (le-leb first v (omega arith), le-ltb v (first + n) h)
 
--- the code of a feature is below 80h, and is not 3Ah
-feature-code : (f : ℕ) → featurePlace f < 5 → (f < 128) × (eqb f 0x3a ≡ false)
+among-below : (first n v : ℕ) → v < first → among first n v ≡ false
+among-below first n v h = rw (lt-leb first v h)
+
+-- the code of a feature is below 80h, and neither 3Ah nor 3Bh
+feature-code : (f : ℕ) → featurePlace f < 5 → (f < 128) × (among 0x3a 2 f ≡ false)
 unfolding featurePlace
-feature-code f h = (low, ne-eqb f 0x3a (λ e. other e))
+feature-code f h = (low, wish (either-way (ltb f 0x3a)) (either-way (ltb f 0x3c)))
   where
-    other : f ≡ 0x3a → ⊥
-    other e = let k : featurePlace 0x3a < 5 = rw e at h in omega (arith, k)
+    other : (k : ℕ) → featurePlace k ≡ 5 → f ≡ k → ⊥
+    other k z e = let j : featurePlace k < 5 = rw e at h in omega (arith, j, z)
+
+    is-last : 0x3a ≤ f → f < 0x3c → (f ≡ 0x3a → ⊥) → f ≡ 0x3b
+    is-last a b n = omega (arith, n)
+
+    wish : (ltb f 0x3a ≡ true) ⊎ (ltb f 0x3a ≡ false) → (ltb f 0x3c ≡ true) ⊎ (ltb f 0x3c ≡ false) → among 0x3a 2 f ≡ false
+    wish (inl e) u = among-below 0x3a 2 f (ltb-true f 0x3a e)
+    wish (inr e) (inr u) = among-beyond 0x3a 2 f (ltb-false f 0x3c u)
+    wish (inr e) (inl u) =
+        let a = ltb-false f 0x3a e in
+        let b = ltb-true f 0x3c u in
+        let n : f ≡ 0x3a → ⊥ = other 0x3a refl in
+        let m : f ≡ 0x3b → ⊥ = other 0x3b refl in
+        absurd (m (is-last a b n))
 
     by : (ltb f 128 ≡ true) ⊎ (ltb f 128 ≡ false) → f < 128
     by (inl e) = ltb-true f 128 e
@@ -256,9 +272,6 @@ key-at n h = pick-if (KeyAt n) (ltb n 16) (λ e. first (ltb-true n 16 e)) (λ e.
         record { low = omega arith; key = rw (among-beyond 0x40 16 (0x50 + n) (omega arith), t); place = rw (le-ltb (0x50 + n) 0x60 (omega arith), e) }
 
 -- a value below all of a range
-among-below : (first n v : ℕ) → v < first → among first n v ≡ false
-among-below first n v h = rw (lt-leb first v h)
-
 pub label-at : (n : ℕ) → n < 16 → LabelAt n (labelValue n)
 unfolding isKey isLabel labelValue
 label-at n h = pick-if (LabelAt n) (ltb n 8) (λ e. first (ltb-true n 8 e)) (λ e. second (ltb-false n 8 e))

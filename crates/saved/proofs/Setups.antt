@@ -176,6 +176,8 @@ changed-shaped (SetupChange.Feature n f) u h =
     record { tabs = h .tabs; attributes = h .attributes; features = length-set (u .features) n f ∙ h .features; keys = h .keys; labels = h .labels }
 changed-shaped SetupChange.HideLine u h =
     record { tabs = h .tabs; attributes = h .attributes; features = h .features; keys = h .keys; labels = h .labels }
+changed-shaped (SetupChange.Wish b) u h =
+    record { tabs = h .tabs; attributes = h .attributes; features = h .features; keys = h .keys; labels = h .labels }
 
 stored-shaped : (x : Slot) (l : List ℕ) (u : Setup) → Shaped u → Shaped (stored x l u)
 unfolding stored

@@ -36,13 +36,14 @@ pub record Gives (u : Setup) (bytes p : List ℕ) (r : Ran) : Type 0 where
   pub settings : SameSettings (r .state .setup) u
 
 -- what a restore leaves: the core whole, so cursors, segments, modes, bells, the sequence and the send under way, the personality and the
--- remembered attribute; of the set-up the host message, the shifted line and the stops beyond column 80
+-- remembered attribute; of the set-up the host message, the shifted line, the wish and the stops beyond column 80
 pub record LeavesAlone (s t : State) : Type 0 where
   pub core : t .core ≡ s .core
   pub sending : t .sending ≡ s .sending
   pub gathered : t .gathered ≡ s .gathered
   pub message : t .setup .message ≡ s .setup .message
   pub shifted : t .setup .shifted ≡ s .setup .shifted
+  pub wish : t .setup .wish ≡ s .setup .wish
   pub beyond : drop addressed (t .setup .tabs) ≡ drop addressed (s .setup .tabs)
 
 -- of the bytes of a possible state's set-up

@@ -1,4 +1,4 @@
--- The settings of a set-up: what is saved and restored. Host message and shifted line are none.
+-- The settings of a set-up: what is saved and restored. Host message, shifted line and wish are none.
 use mathlib.Core.Path.{_≡_}
 use mathlib.Core.List.{List, _++_, map}
 use mathlib.Core.Bool.{true}
