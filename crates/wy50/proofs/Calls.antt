@@ -40,7 +40,7 @@ use Rattle.wy50.specs.Promise.{rawGood, rawPowerOn, rawStep, rawRan, bad
 pub named-bells : (x : RawState) → named x ≡ true → x .bells < 256
 unfolding named
 named-bells x h =
-    let r = both (isSequence (x .sequence)) (both (isSending (x .sending)) (both (allBelow 2 (x .tabs)) (both (ltb (x .shifted) 2) (isPersonality (x .personality))))) in
+    let r = both (isSequence (x .sequence)) (both (isSending (x .sending)) (both (allBelow 2 (x .tabs)) (both (both (ltb (x .shifted) 2) (both (ltb (x .wish) 2) (ltb (x .screen .wide) 2))) (isPersonality (x .personality))))) in
     ltb-true (x .bells) 256 (both-left (ltb (x .bells) 256) r (both-right (areFlags (x .modes)) (both (ltb (x .bells) 256) r) h))
 
 -- ---- a good page and state answer no 7

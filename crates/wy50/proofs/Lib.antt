@@ -4,6 +4,7 @@ mod Calls
 mod RowCalls
 mod Next
 mod SavedCalls
+mod ConvertCalls
 pub mod RoundTrip
 pub mod Kept
 pub mod Noninterference

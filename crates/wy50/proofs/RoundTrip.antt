@@ -1,8 +1,7 @@
 -- There and back: a state's numbers name that state, and the state that numbers name has those numbers.
---     packed-named, unpacked-packed     a state's numbers name a state, and a narrow state with no stop beyond what C holds is that state,
---         but for what means nothing; both where a byte counts what of a short reply went
+--     packed-named, unpacked-packed     a state's numbers name a state, and it is that state, but for what means nothing; both where a byte
+--         counts what of a short reply went
 --     possible-fits     as it does in a possible state
---     retabbed-stops     a possible state's stops stay possible
 --     packed-unpacked     numbers that name a state are that state's, but for what means nothing
 -- Assumes nothing.
 use mathlib.Core.Path.{_≡_, refl, sym, ap, ap₂, _∙_}
@@ -30,8 +29,8 @@ use Rattle.rules.specs.declared.State.{State}
 use Rattle.rules.specs.declared.Personality.{Personality}
 use Rattle.rules.specs.declared.Personality.the-variants as Personality
 use Rattle.rules.specs.Cell.{pick, both, either}
-use Rattle.rules.specs.State.{isIdle, withTabs}
-use Rattle.rules.specs.Possible.{noStops, tabsOk, shortLength, sendingOk}
+use Rattle.rules.specs.State.{isIdle}
+use Rattle.rules.specs.Possible.{shortLength, repliesOn, sendingOk}
 use Rattle.rules.proofs.Sends.{short-most}
 use Rattle.state.proofs.Tests.{both-left, both-right}
 use Rattle.wy50.specs.declared.raw.RawModes.{RawModes}
@@ -40,7 +39,7 @@ use Rattle.wy50.specs.declared.raw.RawSending.{RawSending}
 use Rattle.wy50.specs.declared.raw.RawState.{RawState}
 use Rattle.wy50.specs.Raw.{allBelow, flag, isOn, personalityNumber, isPersonality, personalityAt, sequenceOf, find, pendingOf, sameSequence, isSequence, rawModes, modesOf, areFlags}
 use Rattle.wy50.specs.Raw.{small, rawSending, sendingOf, sameSending, isSending}
-use Rattle.wy50.specs.Raw.{rawKey, keyOf, shown, unshown, gatheredIn, zeroed, packed, unpacked, tidied, named}
+use Rattle.wy50.specs.Raw.{rawKey, keyOf, gatheredIn, zeroed, packed, unpacked, tidied, named}
 
 -- a flag
 isOn-flag : (b : Bool) → isOn (flag b) ≡ b
@@ -158,7 +157,8 @@ pub possible-fits : (x : Screen) (q : Pending) (y : Sending) → sendingOk x q y
 unfolding sendingOk
 possible-fits x q Sending.Nothing h = refl
 possible-fits x q (Sending.Short r n) h =
-    let b = both-right (isIdle q) (both (leb 1 n) (ltb n (shortLength r))) h in
+    let k = both (leb 1 n) (ltb n (shortLength r)) in
+    let b = both-right (repliesOn x r) k (both-right (isIdle q) (both (repliesOn x r) k) h) in
     let l = ltb-true n (shortLength r) (both-right (leb 1 n) (ltb n (shortLength r)) b) in
     lt-ltb n 256 (omega (arith, l, short-most r))
 possible-fits x q (Sending.Text all segment k) h = refl
@@ -251,48 +251,23 @@ raw-modes-back m h =
 pub packed-named : (s : State) → s .core .bells < 256 → sendingFits (s .sending) ≡ true → named (packed s) ≡ true
 unfolding packed named
 packed-named s h f =
-    rw (modes-named (s .core .modes), lt-ltb (s .core .bells) 256 h, sequence-named (s .core .pending), sending-named (s .sending) f, tabs-below (shown (s .setup .tabs)), flag-below (s .setup .shifted), personality-named (s .core .personality))
+    rw (modes-named (s .core .modes), lt-ltb (s .core .bells) 256 h, sequence-named (s .core .pending), sending-named (s .sending) f, tabs-below (s .setup .tabs), flag-below (s .setup .shifted), flag-below (s .setup .wish), flag-below (s .core .screen .wide), personality-named (s .core .personality))
 
--- and it is that state, with no tab stop but those that C holds, and zeros where nothing is gathered
-abbrev pub retabbed : State → State
-retabbed s = record {
+-- and it is that state, with zeros where nothing is gathered
+abbrev pub regathered : State → State
+regathered s = record {
   core = s .core;
   sending = s .sending;
   gathered = zeroed (gatheredIn (sequenceOf (s .core .pending))) (s .gathered);
-  setup = withTabs (s .setup) (unshown (shown (s .setup .tabs)));
+  setup = s .setup;
 }
 
-no-stops : (n : ℕ) → noStops (replicate n false) ≡ true
-unfolding noStops
-no-stops zero = refl
-no-stops (suc n) = no-stops n
-
-no-stops-drop : (k n : ℕ) → noStops (drop k (replicate n false)) ≡ true
-unfolding noStops
-no-stops-drop zero n = no-stops n
-no-stops-drop (suc k) zero = refl
-no-stops-drop (suc k) (suc n) = no-stops-drop k n
-
-stops-cut : (n : ℕ) (l : List Bool) → noStops l ≡ true → noStops (unshown (take n l)) ≡ true
-unfolding noStops
-stops-cut zero l h = no-stops 52
-stops-cut (suc n) [] h = no-stops 52
-stops-cut (suc n) (b ∷ l) h =
-    rw (both-left (not b) (noStops l) h, stops-cut n l (both-right (not b) (noStops l) h))
-
--- a possible state has no stop beyond the width, whatever of its stops C holds
-pub retabbed-stops : (w n : ℕ) (l : List Bool) → tabsOk w l ≡ true → tabsOk w (unshown (take n l)) ≡ true
-retabbed-stops zero n l h = stops-cut n l h
-retabbed-stops (suc w) zero l h = no-stops-drop (suc w) 52
-retabbed-stops (suc w) (suc n) [] h = no-stops-drop (suc w) 52
-retabbed-stops (suc w) (suc n) (b ∷ l) h = retabbed-stops w n l h
-
-pub unpacked-packed : (s : State) → s .core .screen .wide ≡ false → sendingFits (s .sending) ≡ true → unpacked (packed s) ≡ retabbed s
+pub unpacked-packed : (s : State) → sendingFits (s .sending) ≡ true → unpacked (packed s) ≡ regathered s
 unfolding packed unpacked
-unpacked-packed s n f = λ i. record {
+unpacked-packed s f = λ i. record {
   core = record {
     screen = record {
-      wide = sym n i;
+      wide = isOn-flag (s .core .screen .wide) i;
       active = s .core .screen .active;
       split = s .core .screen .split;
       cursor0 = s .core .screen .cursor0;
@@ -307,20 +282,16 @@ unpacked-packed s n f = λ i. record {
   sending = sending-back (s .sending) f i;
   gathered = zeroed (gatheredIn (sequenceOf (s .core .pending))) (s .gathered);
   setup = record {
-    tabs = unshown (map-back flag isOn isOn-flag (shown (s .setup .tabs)) i);
+    tabs = map-back flag isOn isOn-flag (s .setup .tabs) i;
     attributes = s .setup .attributes;
     features = s .setup .features;
     keys = map-back rawKey keyOf (λ k. refl) (s .setup .keys) i;
     labels = map-back rawKey keyOf (λ k. refl) (s .setup .labels) i;
     message = s .setup .message;
     shifted = isOn-flag (s .setup .shifted) i;
+    wish = isOn-flag (s .setup .wish) i;
   };
 }
-
-shown-unshown : (l : List Bool) → shown (unshown l) ≡ l
-shown-unshown l =
-    let n : length (l ++ replicate 52 false) - 52 ≡ length l = omega (arith, length-append l (replicate 52 false), length-replicate 52 false) in
-    rw n (take-append-seam l (replicate 52 false))
 
 -- numbers that name a state are that state's, but for what means nothing
 pub packed-unpacked : (x : RawState) → named x ≡ true → packed (unpacked x) ≡ tidied x
@@ -332,8 +303,11 @@ packed-unpacked x h =
     let u = isSending (x .sending) in
     let t = allBelow 2 (x .tabs) in
     let z = ltb (x .shifted) 2 in
+    let d = ltb (x .wish) 2 in
+    let e = ltb (x .screen .wide) 2 in
+    let f = both z (both d e) in
     let m = isPersonality (x .personality) in
-    let y = both z m in
+    let y = both f m in
     let v = both t y in
     let w = both u v in
     let r = both-right b (both q w) (both-right a (both b (both q w)) h) in
@@ -342,13 +316,23 @@ packed-unpacked x h =
     let under = both-right q w r in
     let sending = raw-sending-back (x .sending) (both-left u v under) in
     let bits = both-right u v under in
-    let tabs = ap (map flag) (shown-unshown (map isOn (x .tabs))) ∙ tabs-back (x .tabs) (both-left t y bits) in
-    let shifted = flag-isOn (x .shifted) (both-left z m (both-right t y bits)) in
-    let personality = number-back (x .personality) (both-right z m (both-right t y bits)) in
+    let tabs = tabs-back (x .tabs) (both-left t y bits) in
+    let flags = both-left f m (both-right t y bits) in
+    let shifted = flag-isOn (x .shifted) (both-left z (both d e) flags) in
+    let width = both-right z (both d e) flags in
+    let wish = flag-isOn (x .wish) (both-left d e width) in
+    let wide = flag-isOn (x .screen .wide) (both-right d e width) in
+    let personality = number-back (x .personality) (both-right f m (both-right t y bits)) in
     let keys = map-back keyOf rawKey (λ k. refl) (x .keys) in
     let labels = map-back keyOf rawKey (λ k. refl) (x .labels) in
     λ i. record {
-      screen = x .screen;
+      screen = record {
+        wide = wide i;
+        active = x .screen .active;
+        split = x .screen .split;
+        cursor0 = x .screen .cursor0;
+        cursor1 = x .screen .cursor1;
+      };
       modes = modes i;
       bells = x .bells;
       personality = personality i;
@@ -363,4 +347,5 @@ packed-unpacked x h =
       labels = labels i;
       message = x .message;
       shifted = shifted i;
+      wish = wish i;
     }

@@ -37,7 +37,7 @@ use Rattle.wy50.proofs.Calls.{good-step, bad-seven, good-run, bad-run-s
 pub numbers-rows : (p : List ℕ) (s : State) → good p s ≡ true → rowsOf p (unpacked (packed s)) ≡ rowsOf p s
 numbers-rows p s g =
     let w = possible-parts s (good-parts p s g .1) in
-    ap (rowsOf p) (unpacked-packed s (w .narrow) (possible-fits (s .core .screen) (s .core .pending) (s .sending) (w .sending)))
+    ap (rowsOf p) (unpacked-packed s (possible-fits (s .core .screen) (s .core .pending) (s .sending) (w .sending)))
 
 listed-true : (p l : List ℕ) (x : RawState) → rawGood p x ≡ true → agrees l p (unpacked x) ≡ true → rawListed p l x ≡ true
 unfolding rawListed

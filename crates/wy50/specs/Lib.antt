@@ -4,3 +4,4 @@ pub mod Noninterference
 pub mod Rows
 pub mod RowNoninterference
 pub mod Saved
+pub mod Converting

@@ -1,8 +1,7 @@
 -- A state as C holds it, in numbers: the numbers of a state, and the state that numbers name.
 use mathlib.Core.Bool.{Bool, true, false}
-use mathlib.Core.List.{List, [], _∷_, _++_, map}
-use Prim.Native.Nat.{ℕ, zero, suc, _-_}
-use lib.ListN.{length, take, replicate}
+use mathlib.Core.List.{List, [], _∷_, map}
+use Prim.Native.Nat.{ℕ, zero, suc}
 use lib.Dec.{ltb, eqb}
 use Rattle.rules.specs.declared.Argument.{Argument}
 use Rattle.rules.specs.declared.Argument.the-variants as Argument
@@ -35,7 +34,7 @@ unfoldable pub allBelow : ℕ → List ℕ → Bool
 allBelow n [] = true
 allBelow n (x ∷ l) = both (ltb x n) (allBelow n l)
 
--- a mode or a tab stop as a number, and back
+-- a mode, a tab stop or a width as a number, and back
 abbrev pub flag : Bool → ℕ
 flag b = pick b 1 0
 
@@ -238,18 +237,12 @@ rawMessage m = record { len = m .len; bytes = m .bytes }
 abbrev pub messageOf : RawMessage → LongText
 messageOf m = record { len = m .len; bytes = m .bytes }
 
--- the tab stops that C holds are those of 80 columns: the last 52 are none in every possible state, until request A11 shows them
-abbrev pub shown : List Bool → List Bool
-shown tabs = take (length tabs - 52) tabs
-
-abbrev pub unshown : List Bool → List Bool
-unshown tabs = tabs ++ replicate 52 false
-
--- the numbers of a state; a possible screen is narrow. Where nothing is gathered C gets zeros, so that two states that mean the same are the same
+-- the numbers of a state. Where nothing is gathered C gets zeros, so that two states that mean the same are the same
 -- numbers
 unfoldable pub packed : State → RawState
 packed s = record {
   screen = record {
+    wide = flag (s .core .screen .wide);
     active = s .core .screen .active;
     split = s .core .screen .split;
     cursor0 = s .core .screen .cursor0;
@@ -262,20 +255,21 @@ packed s = record {
   sequence = sequenceOf (s .core .pending);
   sending = rawSending (s .sending);
   gathered = zeroed (gatheredIn (sequenceOf (s .core .pending))) (s .gathered);
-  tabs = map flag (shown (s .setup .tabs));
+  tabs = map flag (s .setup .tabs);
   attributes = s .setup .attributes;
   features = s .setup .features;
   keys = map rawKey (s .setup .keys);
   labels = map rawKey (s .setup .labels);
   message = rawMessage (s .setup .message);
   shifted = flag (s .setup .shifted);
+  wish = flag (s .setup .wish);
 }
 
 -- the state that numbers name
 unfoldable pub unpacked : RawState → State
 unpacked x = record {
   core = record {
-    screen = record { wide = false; active = x .screen .active; split = x .screen .split; cursor0 = x .screen .cursor0; cursor1 = x .screen .cursor1 };
+    screen = record { wide = isOn (x .screen .wide); active = x .screen .active; split = x .screen .split; cursor0 = x .screen .cursor0; cursor1 = x .screen .cursor1 };
     modes = modesOf (x .modes);
     bells = x .bells;
     pending = pendingOf (x .sequence);
@@ -285,13 +279,14 @@ unpacked x = record {
   sending = sendingOf (x .sending);
   gathered = x .gathered;
   setup = record {
-    tabs = unshown (map isOn (x .tabs));
+    tabs = map isOn (x .tabs);
     attributes = x .attributes;
     features = x .features;
     keys = map keyOf (x .keys);
     labels = map keyOf (x .labels);
     message = messageOf (x .message);
     shifted = isOn (x .shifted);
+    wish = isOn (x .wish);
   };
 }
 
@@ -313,11 +308,12 @@ tidied x = record {
   labels = x .labels;
   message = x .message;
   shifted = x .shifted;
+  wish = x .wish;
 }
 
--- whether numbers name a state: modes, tab stops and the shifted line 0 or 1, bells below 256, a sequence's own numbers, a send's own numbers, a
+-- whether numbers name a state: modes, tab stops, the shifted line, the wish and the width 0 or 1, bells below 256, a sequence's own numbers, a send's own numbers, a
 -- personality's number
 unfoldable pub named : RawState → Bool
 named x =
     both (areFlags (x .modes)) (both (ltb (x .bells) 256) (both (isSequence (x .sequence)) (both (isSending (x .sending))
-    (both (allBelow 2 (x .tabs)) (both (ltb (x .shifted) 2) (isPersonality (x .personality)))))))
+    (both (allBelow 2 (x .tabs)) (both (both (ltb (x .shifted) 2) (both (ltb (x .wish) 2) (ltb (x .screen .wide) 2))) (isPersonality (x .personality)))))))

@@ -12,10 +12,12 @@ ghost use Prim.Native.Nat.{_+_, _*_};
 ghost use Rattle.rules.specs.Cell.{code, protected, kind, attribute, sent};
 ghost use Rattle.wy50.specs.Raw.{flag};
 ghost use Rattle.wy50.specs.Rows.{rawStepRows, rawRunRows, Heard, rawRowsAfter, rawRebuildAnswer, rawRebuilt};
+ghost use Rattle.wy50.specs.Converting.{rawConvert, Turns};
 ghost use Rattle.wy50.specs.Saved.{saveNumbers, restoreNumber, rawSave, rawRestore, stateAfter};
 ghost use Rattle.wy50.specs.Promise.{rawPowerOn, rawStep, rawRun, rawPress, PoweredOn, Stepped, Completed, Sent};
 use pack::flag;
 use pack::pack;
+use raw::RawConvert;
 use raw::RawNext;
 use raw::RawPowerOn;
 use raw::RawPress;
@@ -33,6 +35,7 @@ use state::power_on_state;
 use terminal::answer_number;
 use terminal::attribute_of;
 use terminal::code_of;
+use terminal::convert;
 use terminal::is_protected;
 use terminal::kind_of;
 use terminal::next;
@@ -360,6 +363,33 @@ pub extern "C" fn wy50_restore(state: RawState, store: &[u8], number: u16) -> Ra
         };
     }
     RawRestore {
+        answer: 0,
+        state: pack(s),
+    }
+}
+
+// The conversion to the other width. Ruled out: one that gives numbers of the other width back where it refuses, or puts the page where it was.
+#[no_mangle]
+pub extern "C" fn wy50_convert(page: &[u16], state: RawState, target: &mut [u16]) -> RawConvert
+    ensures { λ r. ⌜ Turns (rawConvert (now (page .entry)) state (now (target .entry))) r (now (target .exit)) ⌝ }
+{
+    if !is_named(state) {
+        return RawConvert {
+            answer: 7,
+            state: state,
+        };
+    }
+    let t = convert(page, unpack(state), target);
+    let s = t.state;
+    let a = t.answer;
+    let n = answer_number(a);
+    if n != 0 {
+        return RawConvert {
+            answer: n,
+            state: state,
+        };
+    }
+    RawConvert {
         answer: 0,
         state: pack(s),
     }

@@ -3,7 +3,7 @@ ghost use mathlib.Core.Path.{_≡_};
 ghost use mathlib.Core.List.{map};
 ghost use Prim.Native.Nat.{_<_};
 ghost use lib.ListN.{getD};
-ghost use Rattle.wy50.specs.Raw.{flag, personalityNumber, shown, gatheredIn, zeroed, kindOf, textSequence, spoiltSequence, sequenceOf, textSending, rawSending, rawModes, rawKey, rawMessage, packed};
+ghost use Rattle.wy50.specs.Raw.{flag, personalityNumber, gatheredIn, zeroed, kindOf, textSequence, spoiltSequence, sequenceOf, textSending, rawSending, rawModes, rawKey, rawMessage, packed};
 use crate::raw::RawKey;
 use crate::raw::RawMessage;
 use crate::raw::RawModes;
@@ -129,7 +129,7 @@ pub fn flag(b: bool) -> u8
 }
 
 // Two bytes, so that the state has no padding.
-fn raw_shifted(b: bool) -> u16
+fn raw_flag(b: bool) -> u16
     ensures { λ r. ⌜ r ≡ flag b ⌝ }
 {
     if b { 1 } else { 0 }
@@ -167,13 +167,12 @@ fn raw_key(k: ShortText) -> RawKey
     }
 }
 
-// C holds the tab stops of 80 columns.
-fn raw_tabs(tabs: [bool; 132]) -> [u8; 80]
-    ensures { λ r. ⌜ r ≡ map flag (shown tabs) ⌝ }
+fn raw_tabs(tabs: [bool; 132]) -> [u8; 132]
+    ensures { λ r. ⌜ r ≡ map flag tabs ⌝ }
 {
-    let mut t = [0u8; 80];
+    let mut t = [0u8; 132];
     let mut i = 0;
-    while i < 80 {
+    while i < 132 {
         t[i] = flag(tabs[i]);
         i += 1;
     }
@@ -277,6 +276,7 @@ pub fn pack(s: State) -> RawState
     let bytes = raw_gathered(gathered, gathered_in(q));
     RawState {
         screen: RawScreen {
+            wide: raw_flag(screen.wide),
             active: screen.active,
             split: screen.split,
             cursor0: screen.cursor0,
@@ -295,6 +295,7 @@ pub fn pack(s: State) -> RawState
         keys: raw_keys(keys),
         labels: raw_labels(labels),
         message: raw_message(message),
-        shifted: raw_shifted(setup.shifted),
+        shifted: raw_flag(setup.shifted),
+        wish: raw_flag(setup.wish),
     }
 }

@@ -14,8 +14,10 @@ pub struct RawMessage {
     pub bytes: [u8; 46],
 }
 
+// `wide` is 0 or 1, in two bytes, so that nothing is padded.
 #[repr(C)]
 pub struct RawScreen {
+    pub wide: u16,
     pub active: u8,
     pub split: u8,
     pub cursor0: u16,
@@ -50,7 +52,7 @@ pub struct RawSending {
     pub place: u16,
 }
 
-// A tab stop is 0 or 1, and so is `shifted`. The personality is 50 or 60, and `remembered` the attribute that ESC G sets in the 60. `gathered` are
+// A tab stop is 0 or 1, and so are `shifted` and `wish`. The personality is 50 or 60, and `remembered` the attribute that ESC G sets in the 60. `gathered` are
 // the bytes of a text under way; the sequence says how many.
 #[repr(C)]
 pub struct RawState {
@@ -62,13 +64,14 @@ pub struct RawState {
     pub sequence: RawSequence,
     pub sending: RawSending,
     pub gathered: [u8; 46],
-    pub tabs: [u8; 80],
+    pub tabs: [u8; 132],
     pub attributes: [u8; 4],
     pub features: [u8; 5],
     pub keys: [RawKey; 32],
     pub labels: [RawKey; 16],
     pub message: RawMessage,
     pub shifted: u16,
+    pub wish: u16,
 }
 
 #[repr(C)]
@@ -119,6 +122,12 @@ pub struct RawSave {
 
 #[repr(C)]
 pub struct RawRestore {
+    pub answer: u8,
+    pub state: RawState,
+}
+
+#[repr(C)]
+pub struct RawConvert {
     pub answer: u8,
     pub state: RawState,
 }

@@ -3,8 +3,7 @@ ghost use mathlib.Core.Path.{_≡_};
 ghost use mathlib.Core.Bool.{not};
 ghost use lib.Dec.{eqb};
 ghost use lib.ListN.{length};
-ghost use Rattle.rules.specs.Row.{narrowCells};
-ghost use Rattle.rules.specs.State.{cursorOf};
+ghost use Rattle.rules.specs.State.{pageLength, cursorOf};
 ghost use Rattle.rules.specs.Fields.{nextFieldRule, fieldTextRule, rowTextRule, Read, positionRule, cellRule};
 ghost use Rattle.wy50.specs.Raw.{unpacked};
 use crate::raw::RawState;
@@ -16,6 +15,7 @@ use fields::row_text;
 use rules::Field;
 use rules::Position;
 use rules::TextResult;
+use state::width::cells;
 
 // The first field that starts at or behind a cell.
 #[no_mangle]
@@ -70,11 +70,12 @@ pub extern "C" fn wy50_cell_at(cells: usize, row: usize, column: usize) -> usize
 // The row and column of the active cursor. Ruled out: one that gives the other segment's.
 #[no_mangle]
 pub extern "C" fn wy50_cursor(state: RawState) -> Position
-    ensures { λ r. ⌜ r ≡ positionRule narrowCells (cursorOf (unpacked state .core .screen)) ⌝ }
+    ensures { λ r. ⌜ r ≡ positionRule (pageLength (unpacked state .core .screen)) (cursorOf (unpacked state .core .screen)) ⌝ }
 {
     let screen = state.screen;
+    let page = cells(screen.wide == 1, 24) as usize;
     if screen.active == 0 {
-        return position(1920, screen.cursor0 as usize);
+        return position(page, screen.cursor0 as usize);
     }
-    position(1920, screen.cursor1 as usize)
+    position(page, screen.cursor1 as usize)
 }

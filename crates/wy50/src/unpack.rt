@@ -2,7 +2,7 @@
 ghost use mathlib.Core.Path.{_≡_};
 ghost use mathlib.Core.Bool.{true};
 ghost use mathlib.Core.List.{map};
-ghost use Rattle.wy50.specs.Raw.{allBelow, isOn, isPersonality, personalityAt, unshown, pendingOf, sameSequence, isSequence, small, placeAt, sendingOf, sameSending, isSending, areFlags, modesOf, keyOf, messageOf, named, unpacked};
+ghost use Rattle.wy50.specs.Raw.{allBelow, isOn, isPersonality, personalityAt, pendingOf, sameSequence, isSequence, small, placeAt, sendingOf, sameSending, isSending, areFlags, modesOf, keyOf, messageOf, named, unpacked};
 use crate::pack::raw_sending;
 use crate::pack::sequence_of;
 use crate::raw::RawKey;
@@ -160,11 +160,11 @@ fn are_flags(m: RawModes) -> bool
     and(first, second)
 }
 
-fn are_tabs(tabs: [u8; 80]) -> bool
+fn are_tabs(tabs: [u8; 132]) -> bool
     ensures { λ r. ⌜ r ≡ allBelow 2 tabs ⌝ }
 {
     let mut i = 0;
-    while i < 80 {
+    while i < 132 {
         if 2 <= tabs[i] {
             return false;
         }
@@ -181,7 +181,8 @@ pub fn is_named(x: RawState) -> bool
     let sequence = x.sequence;
     let sending = x.sending;
     let tabs = x.tabs;
-    let choices = and(x.shifted < 2, is_personality(x.personality));
+    let width = and(x.wish < 2, x.screen.wide < 2);
+    let choices = and(and(x.shifted < 2, width), is_personality(x.personality));
     let settings = and(are_tabs(tabs), choices);
     let rest = and(is_sequence(sequence), and(is_sending(sending), settings));
     and(are_flags(modes), and(x.bells < 256, rest))
@@ -225,13 +226,12 @@ fn key_of(k: RawKey) -> ShortText
     }
 }
 
-// Beyond the 80 columns that C holds there is no tab stop.
-fn tabs_of(tabs: [u8; 80]) -> [bool; 132]
-    ensures { λ r. ⌜ r ≡ unshown (map isOn tabs) ⌝ }
+fn tabs_of(tabs: [u8; 132]) -> [bool; 132]
+    ensures { λ r. ⌜ r ≡ map isOn tabs ⌝ }
 {
     let mut t = [false; 132];
     let mut i = 0;
-    while i < 80 {
+    while i < 132 {
         t[i] = tabs[i] == 1;
         i += 1;
     }
@@ -294,7 +294,7 @@ pub fn unpack(x: RawState) -> State
     State {
         core: Core {
             screen: Screen {
-                wide: false,
+                wide: screen.wide == 1,
                 active: screen.active,
                 split: screen.split,
                 cursor0: screen.cursor0,
@@ -316,6 +316,7 @@ pub fn unpack(x: RawState) -> State
             labels: labels_of(labels),
             message: message_of(message),
             shifted: x.shifted == 1,
+            wish: x.wish == 1,
         },
     }
 }

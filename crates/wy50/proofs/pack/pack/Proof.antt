@@ -15,6 +15,8 @@ pack-spec =
     (λ c κs. search needs)
     -- raw-gathered-requires
     (λ c κs. search needs)
+    -- raw-flag-requires
+    (λ c κs. search needs)
     -- raw-modes-requires
     (λ c κs. search needs)
     -- cast-t19
@@ -31,23 +33,31 @@ pack-spec =
     (λ c κs. search needs)
     -- raw-message-requires
     (λ c κs. search needs)
-    -- raw-shifted-requires
+    -- raw-flag-requires-2
+    (λ c κs. search needs)
+    -- raw-flag-requires-3
     (λ c κs. search needs)
     -- returns
     (λ c.
-    let k = c .before .before .before in
+    let l = c .before .before .before in
+    let k = l .before in
     let m = k .before .before .before .before .before in
-    let g = m .before in
+    let w = m .before in
+    let g = w .before in
     rw (
-      c .raw-shifted .ensures,
-      c .before .raw-message .ensures,
-      c .before .before .raw-labels .ensures,
+      c .raw-flag3 .ensures,
+      c .before .raw-flag2 .ensures,
+      c .before .before .raw-message .ensures,
+      l .raw-labels .ensures,
       k .raw-keys .ensures,
       k .before .raw-tabs .ensures,
+    )
+    (rw (
       k .before .before .raw-sending .ensures,
       k .before .before .before .personality-number .ensures,
       m .raw-modes .ensures,
+      w .raw-flag .ensures,
       g .raw-gathered .ensures,
       g .before .gathered-in .ensures,
       g .before .before .sequence-of .ensures,
-    )))
+    ))))

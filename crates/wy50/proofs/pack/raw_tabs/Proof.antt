@@ -1,20 +1,20 @@
 -- `wy50::pack::raw_tabs` meets its contract. The loop: the first i tab stops are translated.
 use mathlib.Core.Bool.{false}
-use mathlib.Core.Path.{_≡_, ap, _∙_}
+use mathlib.Core.Path.{_≡_}
 use Prim.Native.Nat.{_-_, _<_}
 use native.Mathlib.Omega.{arith}
 use lib.ListN.{length}
 use borrow.Author.Needs.{needs}
-use Rattle.wy50.specs.Raw.{flag, shown}
-use Rattle.wy50.proofs.Loops.{Translated, begin, go, finish, shown-length, shown-at}
+use Rattle.wy50.specs.Raw.{flag}
+use Rattle.wy50.proofs.Loops.{Translated, begin, go, finish}
 use Rattle.wy50.proofs.pack.raw_tabs.Statement.{statement}
 use Rattle.wy50.proofs.pack.raw_tabs.Tie as tie
 
 abbrev Inv-loop : tie.InvT-loop
-Inv-loop tabs t₀ i₀ t i = Translated flag (shown tabs) t i
+Inv-loop tabs t₀ i₀ t i = Translated flag tabs t i
 
 abbrev μ-loop : tie.MeasureT-loop
-μ-loop tabs t₀ i₀ t i = 80 - i
+μ-loop tabs t₀ i₀ t i = 132 - i
 
 pub raw-tabs-spec : {M : Type 1} → statement M
 raw-tabs-spec =
@@ -25,7 +25,7 @@ raw-tabs-spec =
     -- loop-holds
     (λ c.
     let n : length (c .args .t1) ≡ 132 = search needs in
-    begin flag _ _ (omega (arith, shown-length (c .args .t1) n)))
+    begin flag _ _ (omega (arith, n)))
     -- array-read-flag
     (λ c. search needs)
     -- flag-requires
@@ -41,10 +41,10 @@ raw-tabs-spec =
     let x = c .before .before .loop in
     let tabs = c .before .before .before .args .t1 in
     let n : length tabs ≡ 132 = search needs in
-    let h : x .i < length (shown tabs) = omega (arith, shown-length tabs n) in
-    go flag _ (x .t) (x .i) false (x .inv) h (c .flag .ensures ∙ ap flag (shown-at tabs (x .i) n (search needs))))
+    let h : x .i < length tabs = omega (arith, n, c .before .loop-test .taken) in
+    go flag _ (x .t) (x .i) false (x .inv) h (c .flag .ensures))
     -- returns
     (λ c.
     let tabs = c .before .before .args .t1 in
     let n : length tabs ≡ 132 = search needs in
-    finish flag _ _ (c .before .loop .i) (c .before .loop .inv) (omega (arith, shown-length tabs n))))
+    finish flag _ _ (c .before .loop .i) (c .before .loop .inv) (omega (arith, n, c .loop-test .left))))

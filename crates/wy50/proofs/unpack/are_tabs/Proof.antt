@@ -12,10 +12,10 @@ use Rattle.wy50.proofs.unpack.are_tabs.Statement.{statement}
 use Rattle.wy50.proofs.unpack.are_tabs.Tie as tie
 
 abbrev Inv-loop : tie.InvT-loop
-Inv-loop tabs i₀ i = (i ≤ 80) × (allBelow 2 tabs ≡ allBelow 2 (drop i tabs))
+Inv-loop tabs i₀ i = (i ≤ 132) × (allBelow 2 tabs ≡ allBelow 2 (drop i tabs))
 
 abbrev μ-loop : tie.MeasureT-loop
-μ-loop tabs i₀ i = 80 - i
+μ-loop tabs i₀ i = 132 - i
 
 pub are-tabs-spec : {M : Type 1} → statement M
 unfolding allBelow

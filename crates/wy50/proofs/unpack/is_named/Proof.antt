@@ -10,27 +10,31 @@ unfolding named
 is-named-spec =
     tie.close
     (tie.spec
+    -- and-requires
+    (λ c κs. search needs)
+    -- and-requires-2
+    (λ c κs. search needs)
     -- is-personality-requires
     (λ c κs. search needs)
-    -- and-requires
+    -- and-requires-3
     (λ c κs. search needs)
     -- are-tabs-requires
     (λ c κs. search needs)
-    -- and-requires-2
+    -- and-requires-4
     (λ c κs. search needs)
     -- is-sequence-requires
     (λ c κs. search needs)
     -- is-sending-requires
     (λ c κs. search needs)
-    -- and-requires-3
-    (λ c κs. search needs)
-    -- and-requires-4
-    (λ c κs. search needs)
-    -- are-flags-requires
-    (λ c κs. search needs)
     -- and-requires-5
     (λ c κs. search needs)
     -- and-requires-6
+    (λ c κs. search needs)
+    -- are-flags-requires
+    (λ c κs. search needs)
+    -- and-requires-7
+    (λ c κs. search needs)
+    -- and-requires-8
     (λ c κs. search needs)
     -- returns
     (λ c.
@@ -38,13 +42,16 @@ is-named-spec =
     let rest = flags .before in
     let settings = rest .before .before .before .before in
     let choices = settings .before .before in
-    c .and6 .ensures
+    let shifted = choices .before .before in
+    c .and8 .ensures
     ∙ rw (
-      c .before .and5 .ensures,
-      rest .and4 .ensures,
-      rest .before .and3 .ensures,
-      settings .and2 .ensures,
-      choices .and .ensures,
+      c .before .and7 .ensures,
+      rest .and6 .ensures,
+      rest .before .and5 .ensures,
+      settings .and4 .ensures,
+      choices .and3 .ensures,
+      shifted .and2 .ensures,
+      shifted .before .before .and .ensures,
       choices .before .is-personality .ensures,
       flags .are-flags .ensures,
     )

@@ -12,9 +12,9 @@ unpack-spec =
     (tie.spec
     -- modes-of-requires
     (λ c κs. search needs)
-    -- cast-t14
+    -- cast-t16
     (λ c.
-    let start = c .before .before .before .before .before .before .before .before .before .before .before .before .before in
+    let start = c .before .before .before .before .before .before .before .before .before .before .before .before .before .before in
     record { fits = named-bells (start .args .x) (start .pre) })
     -- pending-of-requires
     (λ c κs. search needs)
@@ -32,11 +32,12 @@ unpack-spec =
     (λ c κs. search needs)
     -- returns
     (λ c.
-    let k = c .before .before .before in
+    let l = c .before .before .before in
+    let k = l .before in
     let q = k .before .before .before .before in
     rw (
-      c .before .message-of .ensures,
-      c .before .before .labels-of .ensures,
+      c .before .before .message-of .ensures,
+      l .labels-of .ensures,
       k .keys-of .ensures,
       k .before .tabs-of .ensures,
       k .before .before .sending-of .ensures,
