@@ -15,6 +15,8 @@ mod sends;
 mod setups;
 mod tables;
 mod texts;
+mod wide;
+mod widths;
 mod writing;
 
 use book::Book;
@@ -43,5 +45,7 @@ pub fn script() -> Vec<u8> {
     book.personalities();
     book.narrow_sends();
     book.setups();
+    book.widths();
+    book.wide_pages();
     book.text
 }

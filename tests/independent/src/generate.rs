@@ -10,9 +10,10 @@ mod scenes;
 mod sends;
 mod setups;
 mod texts;
+mod widths;
 
 use crate::random::Random;
-use crate::state::Sequence;
+use crate::state::{Sequence, ROWS};
 use crate::terminal::{Refusal, Terminal};
 use crate::transcript::{Bench, Line};
 pub use counts::count_line;
@@ -20,7 +21,6 @@ use std::collections::VecDeque;
 
 const MOST_BYTES: usize = 60;
 const DRY_ROOM: usize = 4000;
-const LONGEST_REPLY: usize = 1944;
 /// After ESC: protect off, clear all, and sending protected text.
 const EXCLUDED: &[u8] = b"'*+,67";
 
@@ -119,6 +119,9 @@ impl Generator {
         if self.random.once_in(30) {
             return self.setup_call();
         }
+        if self.random.once_in(60) && !self.avoids_excluded {
+            return self.convert();
+        }
         if self.tend_rows() {
             return self.rebuild();
         }
@@ -207,9 +210,13 @@ impl Generator {
                 room.saturating_sub(1).min(DRY_ROOM)
             }
             7 => self.random.within(0..=replied),
-            8 => self.random.within(LONGEST_REPLY - 4..=LONGEST_REPLY + 4),
-            9 | 10 => self.random.within(0..=2000),
-            _ => 2000,
+            8 => {
+                let longest = self.cells() + ROWS;
+                self.random.within(longest - 4..=longest + 4)
+            }
+            9 | 10 => self.random.within(0..=self.cells() + ROWS),
+            11 => DRY_ROOM,
+            _ => self.cells() + 80,
         }
     }
 

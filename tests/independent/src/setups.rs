@@ -4,7 +4,7 @@
 //! (n - 1) mod 8. A place has a length, a set-up of so many bytes, and zeros.
 //! Numbers and lengths take two bytes, the low one first.
 
-use crate::state::{State, CR, DEL, ESC};
+use crate::state::{State, COLUMNS, CR, DEL, ESC};
 use crate::terminal::Terminal;
 use std::ops::Range;
 
@@ -46,7 +46,9 @@ pub fn restore(state: &mut State, store: &[u8], number: u16) -> Result<(), Unkep
     }
     let setup = setup_in(&store[place_of(number)]).ok_or(Unkept::Store)?;
     let saved = state_left_by(setup);
-    state.tab_stops = saved.tab_stops;
+    for column in 0..COLUMNS {
+        state.tab_stops.set(column, saved.tab_stops.has(column));
+    }
     state.features = saved.features;
     state.attributes = saved.attributes;
     state.keys = saved.keys;
@@ -67,7 +69,7 @@ fn check(state: &State, store: &[u8]) -> Result<(), Unkept> {
 /// The commands that give these settings from power-on, each group by value.
 pub fn setup_of(state: &State) -> Vec<u8> {
     let mut setup = Vec::new();
-    for column in state.tab_stops.columns() {
+    for column in state.tab_stops.columns().filter(|&column| column < COLUMNS) {
         setup.extend([ESC, b'=', 0x20, 0x20 + column as u8, ESC, b'1']);
     }
     let mut features = state.features;

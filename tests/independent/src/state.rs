@@ -25,8 +25,11 @@ pub use tabs::TabStops;
 pub use text::{is_character, is_key_byte, Key, Label, Message, Text};
 
 pub const ROWS: usize = 24;
+/// Of a narrow page.
 pub const COLUMNS: usize = 80;
 pub const CELLS: usize = ROWS * COLUMNS;
+/// The columns of a wide page.
+pub const WIDEST: usize = 132;
 pub const KEYS: usize = 32;
 pub const KEY_BYTES: usize = 8;
 pub const LABELS: usize = 16;
@@ -68,6 +71,10 @@ pub struct State {
     /// What is kept with every character and graphic stored.
     pub remembered: Flags,
     pub sending: Option<Sending>,
+    /// Whether the page has 132 columns.
+    pub wide: bool,
+    /// Whether a wide page is wished for.
+    pub wish: bool,
 }
 
 impl State {
@@ -84,7 +91,7 @@ impl State {
                 locked: false,
                 local_edit: false,
             },
-            tab_stops: TabStops(0),
+            tab_stops: TabStops::NONE,
             attributes: [b'0'; 4],
             features: *b"1579@",
             keys: [Text::EMPTY; KEYS],
@@ -96,6 +103,8 @@ impl State {
             personality,
             remembered: Flags::NORMAL,
             sending: None,
+            wide: false,
+            wish: false,
         }
     }
 
@@ -111,6 +120,10 @@ impl State {
             && (0..5).all(|number| feature_number(self.features[number]) == Some(number))
             && self.remembered.can_be_remembered(self.personality)
             && self.has_possible_send()
+            && self
+                .tab_stops
+                .columns()
+                .all(|column| column < self.columns())
     }
 
     fn has_possible_cursors(&self) -> bool {
@@ -126,6 +139,29 @@ impl State {
             })
     }
 
+    pub fn columns(&self) -> usize {
+        if self.wide {
+            WIDEST
+        } else {
+            COLUMNS
+        }
+    }
+
+    /// The columns after a conversion.
+    pub fn other_columns(&self) -> usize {
+        COLUMNS + WIDEST - self.columns()
+    }
+
+    /// How many cells the page has.
+    pub fn cells(&self) -> usize {
+        ROWS * self.columns()
+    }
+
+    /// The first cell of a cell's row.
+    pub fn row_start(&self, cell: usize) -> usize {
+        cell - cell % self.columns()
+    }
+
     /// The active cursor.
     pub fn cursor(&self) -> usize {
         self.cursors[self.active as usize] as usize
@@ -138,13 +174,13 @@ impl State {
     /// The cells of a segment; unsplit, the whole page for both.
     pub fn segment(&self, number: usize) -> Range<usize> {
         if self.split == 0 {
-            return 0..CELLS;
+            return 0..self.cells();
         }
-        let border = (self.split as usize - 1) * COLUMNS;
+        let border = (self.split as usize - 1) * self.columns();
         if number == 0 {
             0..border
         } else {
-            border..CELLS
+            border..self.cells()
         }
     }
 }

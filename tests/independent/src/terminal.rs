@@ -2,6 +2,8 @@
 
 #[path = "terminal/arguments.rs"]
 mod arguments;
+#[path = "terminal/convert.rs"]
+mod convert;
 #[path = "terminal/cursor.rs"]
 mod cursor;
 #[path = "terminal/replies.rs"]
@@ -181,6 +183,6 @@ impl Terminal {
     }
 
     pub fn is_possible(&self) -> bool {
-        self.page.len() == CELLS && self.state.is_possible()
+        self.page.len() == self.state.cells() && self.state.is_possible()
     }
 }

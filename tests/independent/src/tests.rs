@@ -7,6 +7,7 @@ mod rows;
 mod sends;
 mod setups;
 mod texts;
+mod widths;
 
 use crate::state::{Cell, Personality, ESC};
 use crate::terminal::{answer_number, Refusal, Terminal};
@@ -166,7 +167,10 @@ fn run_is_the_step_repeated() {
                 bytes.extend(more);
             }
         }
-        let (mut stepped, mut ran) = (Terminal::new(), Terminal::new());
+        let (mut stepped, mut ran) = match seed % 2 {
+            0 => (Terminal::new(), Terminal::new()),
+            _ => (widths::wide(), widths::wide()),
+        };
         let (mut stepped_room, mut room) = (vec![0; 100_000], vec![0; 100_000]);
         let report = ran.run(&bytes, &mut room);
         let (mut replied, mut refused) = (0, 0);
@@ -185,11 +189,12 @@ fn run_is_the_step_repeated() {
 #[test]
 fn possible_states_stay_possible() {
     for seed in 0..20 {
-        let mut terminal = Terminal::new();
-        for line in generate::script(seed, 500) {
-            if let transcript::Line::Run { bytes, .. } = line {
-                terminal.run(&bytes, &mut [0; 2000]);
-                assert!(terminal.is_possible());
+        for mut terminal in [Terminal::new(), widths::wide()] {
+            for line in generate::script(seed, 500) {
+                if let transcript::Line::Run { bytes, .. } = line {
+                    terminal.run(&bytes, &mut [0; 2000]);
+                    assert!(terminal.is_possible());
+                }
             }
         }
     }
@@ -211,7 +216,9 @@ fn transcript_example() {
     let lines: Vec<&str> = trace.lines().collect();
     assert!(lines[0].starts_with("1 on answer=0 active=0 cursors=0,0 split=0 modes=000100 "));
     assert!(lines[0].contains(" keys=- bells=0 pending=- message=- labels=- shifted=0 "));
-    assert!(lines[0].ends_with(" personality=50 remembered=0 sending=- page=ad1806b01441cf25"));
+    assert!(lines[0].contains(" modes=000100 tabs=000000000000000000000000000000000 "));
+    assert!(lines[0].contains(" shifted=0 personality=50 remembered=0 sending=- wide=0 "));
+    assert!(lines[0].ends_with(" wish=0 page=ad1806b01441cf25"));
     assert!(lines[1].starts_with(
         "2 run answer=0 taken=3 replied=0 refused=0 rest=- reply=- beyond=1 active=0 cursors=1,0 "
     ));
@@ -219,7 +226,7 @@ fn transcript_example() {
     assert!(lines[1].ends_with(" page=2247f1d9654793e4"));
     assert!(lines[2].starts_with("3 step answer=0 reply=- beyond=1 own=1 active=0 "));
     assert!(lines[2].contains(" pending=1b message=- labels=- shifted=0 personality=50 "));
-    assert!(lines[2].ends_with(" remembered=0 sending=- page=2247f1d9654793e4"));
+    assert!(lines[2].ends_with(" sending=- wide=0 wish=0 page=2247f1d9654793e4"));
 }
 
 #[test]
@@ -248,6 +255,9 @@ fn bad_lines_are_named() {
         ("sending 1b4d:0\n", 1),
         ("byte 8713 255\nbyte 8714 0\n", 2),
         ("save\nrestore 65535\nrestore 65536\n", 3),
+        ("tab 131 1\ntab 132 1\n", 2),
+        ("wide 1\nsending 1b37:u132\nsending 1b37:u80\n", 3),
+        ("length 9\nnoise 1 127 64\nconvert 4000\nconvert 4001\n", 4),
         ("sending 1b3F:1\n", 1),
         ("rebuild\nliststep 1b\n", 2),
         ("pending 1b4600\n", 1),

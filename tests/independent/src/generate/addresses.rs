@@ -7,7 +7,7 @@ impl Generator {
     /// The rows of a segment, as near as an impossible split row allows.
     fn rows_of(&self, segment: u8) -> usize {
         let cells = self.bench.terminal.state.segment(segment as usize & 1);
-        (cells.len() / COLUMNS).clamp(1, ROWS)
+        (cells.len() / self.columns()).clamp(1, ROWS)
     }
 
     pub(super) fn active_rows(&self) -> usize {
@@ -55,11 +55,11 @@ impl Generator {
     pub(super) fn compose_decimal_address(&mut self, phrase: &mut Vec<u8>) {
         phrase.extend([ESC, b'a']);
         let row = self.random.within(0..=self.active_rows() + 1);
-        let column = self.random.pick(&[0, 1, 2, 40, 79, 80, 81, 99, 100, 999]);
-        let column = if self.random.coin() {
-            self.random.within(1..=80)
-        } else {
-            column
+        let edges = [0, 1, 2, 79, 80, 81, 99, 100, 131, 132, 133, 999];
+        let column = match self.random.below(3) {
+            0 => self.random.pick(&edges),
+            1 => self.random.within(1..=self.columns()),
+            _ => self.random.within(1..=COLUMNS),
         };
         let text = match self.random.below(10) {
             0..=3 => format!("{row}R{column}C"),
@@ -70,6 +70,15 @@ impl Generator {
             _ => self.scrambled(b"0123456789RC", 7),
         };
         phrase.extend(text.bytes());
+    }
+
+    /// A column of the active segment's first row, more often one that codes do
+    /// not reach if there are such.
+    pub(super) fn compose_column(&mut self, phrase: &mut Vec<u8>) {
+        let first = if self.random.coin() { COLUMNS } else { 1 };
+        let column = self.random.within(first..=self.columns());
+        phrase.extend([ESC, b'a']);
+        phrase.extend(format!("1R{column}C").bytes());
     }
 
     fn scrambled(&mut self, letters: &[u8], most: usize) -> String {

@@ -1,7 +1,7 @@
 //! Excursions to wrong page lengths and impossible states.
 
 use super::Generator;
-use crate::state::{CELLS, DEL, KEYS, ROWS};
+use crate::state::{COLUMNS, DEL, KEYS, ROWS, WIDEST};
 use crate::transcript::Line;
 
 impl Generator {
@@ -27,7 +27,7 @@ impl Generator {
             0 => self.random.within(0..=4000),
             _ => self
                 .random
-                .pick(&[0, 1, 79, 80, 1840, 1919, 1921, 2000, 3168, 3840, 4000]),
+                .pick(&[0, 1, 79, 80, 1919, 1920, 1921, 3167, 3168, 3169, 4000]),
         };
         self.add(Line::Length(length));
         if length > 0 && self.random.coin() {
@@ -44,12 +44,13 @@ impl Generator {
 
     pub fn impossible(&mut self) {
         let high_byte = self.random.byte_within(0x80..=0xFF);
-        let line = match self.random.below(14) {
+        let cells = self.cells() as u16;
+        let line = match self.random.below(15) {
             0 => Line::Active(self.random.pick(&[1, 2, 3, 128, 255])),
             1 => Line::Split(self.random.pick(&[1, 25, 26, 128, 255])),
             2 => Line::Cursor {
                 segment: self.random.below(2),
-                cell: self.random.pick(&[1920, 1921, 2000, 4095, 32768, 65535]),
+                cell: self.random.pick(&[cells, cells + 1, 4095, 32768, 65535]),
             },
             3 => return self.cursor_in_wrong_segment(),
             4 => {
@@ -72,6 +73,10 @@ impl Generator {
             }
             7 | 8 => self.impossible_text(),
             11 => self.impossible_memory(),
+            14 if !self.bench.terminal.state.wide => Line::Tab {
+                column: self.random.within(COLUMNS..=WIDEST - 1),
+                on: true,
+            },
             12 | 13 if self.bench.terminal.is_possible() => self.impossible_sending(),
             9 => {
                 let value = self
@@ -117,8 +122,9 @@ impl Generator {
     }
 
     fn return_to_possible(&mut self) {
-        if self.bench.terminal.page.len() != CELLS {
-            self.add(Line::Length(CELLS));
+        if self.bench.terminal.page.len() != self.cells() {
+            let length = self.cells();
+            self.add(Line::Length(length));
         }
         if !self.bench.terminal.is_possible() && self.random.once_in(3) {
             self.forget_send();

@@ -6,6 +6,9 @@ use crate::transcript::Line;
 
 impl Generator {
     pub(super) fn power_on_either(&mut self) {
+        if self.random.below(3) > 0 {
+            self.narrow_page();
+        }
         let personality = self.random.pick(&[
             None,
             Some(Personality::Wy50),
@@ -13,6 +16,7 @@ impl Generator {
             Some(Personality::Wy60),
         ]);
         self.add(Line::On(personality));
+        self.narrow_page();
     }
 
     /// A personality with something that it can remember.

@@ -186,8 +186,12 @@ impl Generator {
             1 => self.random.within(0..=last_row),
             _ => last_row,
         };
-        let column = self.random.pick(&[0, 0, 1, 77, 78, 79, 79, 79]);
-        phrase.extend([ESC, b'=', 0x20 + row as u8, 0x20 + column]);
+        let last = self.columns() - 1;
+        let column = self
+            .random
+            .pick(&[0, 0, 1, 78, 79, 80, last - 1, last, last, last]);
+        phrase.extend([ESC, b'a']);
+        phrase.extend(format!("{}R{}C", row + 1, column + 1).bytes());
         match self.random.below(5) {
             0 => self.compose_text(phrase),
             1 => self.compose_edit(phrase),
@@ -211,7 +215,8 @@ impl Generator {
     fn compose_tab_stops(&mut self, phrase: &mut Vec<u8>) {
         for _ in 0..self.random.within(1..=3) {
             match self.random.below(5) {
-                0 => self.compose_address(phrase),
+                0 if self.random.coin() => self.compose_address(phrase),
+                0 => self.compose_column(phrase),
                 1 => phrase.push(0x09),
                 2 => phrase.extend([ESC, self.random.pick(b"iI")]),
                 _ => phrase.extend([ESC, self.random.pick(b"11111112220")]),

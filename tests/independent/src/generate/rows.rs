@@ -1,7 +1,6 @@
 //! Row lists: right ones, wrong ones and rebuilt ones.
 
 use super::Generator;
-use crate::state::COLUMNS;
 use crate::terminal::ROW_NUMBERS;
 use crate::transcript::Line;
 
@@ -73,9 +72,7 @@ impl Generator {
             0 => old.wrapping_add(1),
             1 => old.wrapping_sub(1),
             2 => old ^ 0x8000,
-            3 => self
-                .random
-                .pick(&[0, 1, COLUMNS as u16, COLUMNS as u16 + 1]),
+            3 => self.random.pick(&[0, 1, 80, 81, 132, 133]),
             4 => self.random.number() as u16,
             _ => old + 128 * (old < 128) as u16,
         };

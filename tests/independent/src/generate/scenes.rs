@@ -1,13 +1,16 @@
 //! Scenes: a page and a state set by lines.
 
 use super::Generator;
-use crate::state::{CELLS, COLUMNS, ESC, KEYS, LABEL_BYTES, MESSAGE_BYTES, ROWS};
+use crate::state::{ESC, KEYS, LABEL_BYTES, MESSAGE_BYTES, ROWS};
 use crate::transcript::Line;
 
 const PROTECTED: u16 = 128;
 
 impl Generator {
     pub(super) fn scene(&mut self) {
+        if self.random.once_in(6) {
+            self.choose_width();
+        }
         if self.random.coin() {
             self.page_scene();
         }
@@ -67,10 +70,11 @@ impl Generator {
     }
 
     fn labels(&mut self) {
+        let cells = self.cells();
         for _ in 0..self.random.within(1..=12) {
-            let index = self.random.below(CELLS);
+            let index = self.random.below(cells);
             let longest = self.random.pick(&[5, 20, 80, 400]);
-            let count = self.random.within(0..=longest).min(CELLS - index);
+            let count = self.random.within(0..=longest).min(self.cells() - index);
             let value = self.written_cell() | PROTECTED;
             self.add(Line::Fill {
                 index,
@@ -81,16 +85,19 @@ impl Generator {
     }
 
     fn few_open_cells(&mut self) {
+        let (cells, columns) = (self.cells(), self.columns());
         let value = self.written_cell() | PROTECTED;
         self.add(Line::Fill {
             index: 0,
-            count: CELLS,
+            count: cells,
             value,
         });
         for _ in 0..self.random.below(4) {
             let index = match self.random.below(3) {
-                0 => self.random.pick(&[0, 79, 80, CELLS - COLUMNS, CELLS - 1]),
-                _ => self.random.below(CELLS),
+                0 => self
+                    .random
+                    .pick(&[0, columns - 1, columns, cells - columns, cells - 1]),
+                _ => self.random.below(cells),
             };
             let value = self.written_cell() & !PROTECTED;
             self.add(Line::Cell { index, value });
@@ -103,7 +110,7 @@ impl Generator {
         for _ in 0..self.random.within(1..=6) {
             let index = (cursor + self.random.below(12))
                 .saturating_sub(4)
-                .min(CELLS - 1);
+                .min(self.cells() - 1);
             let value = match self.random.below(4) {
                 0 => self.random.number() as u16,
                 _ => self.written_cell() ^ PROTECTED,
@@ -129,7 +136,7 @@ impl Generator {
             let cell = match self.random.below(6) {
                 0 => cells.start,
                 1 => cells.end - 1,
-                2 => cells.end - COLUMNS,
+                2 => cells.end - self.columns(),
                 _ => self.random.within(cells.start..=cells.end - 1),
             };
             self.add(Line::Cursor {
@@ -140,9 +147,9 @@ impl Generator {
     }
 
     pub fn set_something(&mut self) {
-        let line = match self.random.below(10) {
+        let line = match self.random.below(11) {
             0 => Line::Tab {
-                column: self.random.below(COLUMNS),
+                column: self.random.below(self.columns()),
                 on: self.random.coin(),
             },
             1 => {
@@ -171,6 +178,7 @@ impl Generator {
             }
             4 => Line::Bells(self.random.pick(&[0, 1, 128, 254, 255])),
             5 | 6 => self.set_text(),
+            7 => Line::Wish(self.random.coin()),
             _ => Line::Mode {
                 mode: self.random.within(1..=5),
                 on: self.random.coin(),

@@ -1,7 +1,7 @@
 //! Sends in parts: small rooms, and pages changed in the middle.
 
 use super::Generator;
-use crate::state::{Place, Sending, CELLS, COLUMNS};
+use crate::state::{Place, Sending};
 use crate::transcript::Line;
 
 const COMMANDS: &[u8] = b" /4567?b";
@@ -20,7 +20,9 @@ impl Generator {
             3 => 2,
             4 => self.random.within(0..=8),
             5 => 64,
-            6 => self.random.within(70..=90),
+            6 => self
+                .random
+                .within(self.columns() - 10..=self.columns() + 10),
             _ => self.random.within(0..=1000),
         }
     }
@@ -64,7 +66,7 @@ impl Generator {
             1 => cell.saturating_sub(1),
             _ => (cell + self.random.below(8)).saturating_sub(2),
         };
-        let index = index.min(CELLS - 1);
+        let index = index.min(self.cells() - 1);
         let value = self.bench.terminal.page[index].0 ^ PROTECTED;
         self.add(Line::Cell { index, value });
     }
@@ -74,10 +76,12 @@ impl Generator {
     }
 
     /// A command that sends, not one that sends protected text if that is excluded.
+    /// For ESC ? and ESC / on a wide page another is taken.
     fn send_command(&mut self) -> u8 {
         let command = self.random.pick(COMMANDS);
         match command {
             b'6' | b'7' if self.avoids_excluded => command - 2,
+            b'?' | b'/' if self.bench.terminal.state.wide => b'b',
             _ => command,
         }
     }
@@ -106,19 +110,26 @@ impl Generator {
         self.random.pick(&marks)
     }
 
-    /// A send at a first place, past the end, or at a US that is not there.
+    /// A send at a first place, past the end, at a US that is not there, or of
+    /// ESC ? and ESC / on a wide page.
     pub(super) fn impossible_sending(&mut self) -> Line {
+        if self.bench.terminal.state.wide && self.random.once_in(3) {
+            let command = self.random.pick(b"?/");
+            let place = Place::Byte(self.random.byte_within(1..=3));
+            return Line::Sending(Some(Sending { command, place }));
+        }
         let command = self.send_command();
+        let (columns, cells) = (self.columns(), self.cells());
         let state = &self.bench.terminal.state;
         let (cursor, first) = (self.active_cursor(), state.places(command)[0]);
         let place = if let Some(length) = Sending::short_length(command) {
             let past = self.random.pick(&[0, length, length + 1, 255]);
             Place::Byte(past as u8)
         } else {
-            let row = cursor / COLUMNS * COLUMNS;
-            let below = (row + COLUMNS) as u16;
-            let off_page = self.random.pick(&[1920, 3168, 65535]);
-            let row_off_page = self.random.pick(&[1920, 2000, 65520]);
+            let below = (state.row_start(cursor) + columns) as u16;
+            let off_page = self.random.pick(&[cells as u16, 3168, 65535]);
+            let far = 65535 / columns * columns;
+            let row_off_page = self.random.pick(&[cells, cells + columns, far]) as u16;
             self.random.pick(&[
                 first,
                 Place::Cell(cursor as u16 + 1),

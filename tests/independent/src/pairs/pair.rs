@@ -115,6 +115,9 @@ fn obeys_without_excluded(bench: &mut Bench, call: &Line) -> bool {
 }
 
 fn set_scene(generator: &mut Generator) {
+    if generator.random.coin() {
+        generator.choose_width();
+    }
     for _ in 0..generator.random.within(1..=2) {
         generator.page_scene();
     }

@@ -1,6 +1,6 @@
 //! The send under way, and the places of a reply.
 
-use super::{State, COLUMNS};
+use super::State;
 
 /// A place of a reply.
 #[derive(Clone, Copy, PartialEq, Eq, Debug)]
@@ -38,12 +38,14 @@ impl Sending {
 }
 
 impl State {
-    /// The places of a command's reply, in the order in which they are sent.
+    /// The places of a command's reply, in the order in which they are sent; none
+    /// for ESC ? and ESC / on a wide page.
     pub fn places(&self, command: u8) -> Vec<Place> {
         let cursor = self.cursor();
         match command {
-            b'4' | b'6' => places_of_cells(cursor - cursor % COLUMNS, cursor),
-            b'5' | b'7' => places_of_cells(self.active_segment().start, cursor),
+            b'4' | b'6' => self.places_of_cells(self.row_start(cursor), cursor),
+            b'5' | b'7' => self.places_of_cells(self.active_segment().start, cursor),
+            b'?' | b'/' if self.wide => vec![],
             _ => {
                 let length = Sending::short_length(command).unwrap_or(0);
                 (0..length as u8).map(Place::Byte).collect()
@@ -55,19 +57,23 @@ impl State {
     pub(super) fn has_possible_send(&self) -> bool {
         self.sending.is_none_or(|sending| {
             self.sequence == super::Sequence::None
-                && self.places(sending.command)[1..].contains(&sending.place)
+                && self
+                    .places(sending.command)
+                    .iter()
+                    .skip(1)
+                    .any(|&place| place == sending.place)
         })
     }
-}
 
-fn places_of_cells(first: usize, last: usize) -> Vec<Place> {
-    let mut places = Vec::new();
-    for cell in first..=last {
-        if cell > first && cell % COLUMNS == 0 {
-            places.push(Place::RowMark(cell as u16));
+    fn places_of_cells(&self, first: usize, last: usize) -> Vec<Place> {
+        let mut places = Vec::new();
+        for cell in first..=last {
+            if cell > first && cell == self.row_start(cell) {
+                places.push(Place::RowMark(cell as u16));
+            }
+            places.push(Place::Cell(cell as u16));
         }
-        places.push(Place::Cell(cell as u16));
+        places.push(Place::Cr);
+        places
     }
-    places.push(Place::Cr);
-    places
 }

@@ -1,36 +1,37 @@
 //! Tab stops.
 
-use super::COLUMNS;
+use super::WIDEST;
 
-/// Tab stops as bits of one number, column 1 the highest of 80.
+/// Tab stops by column, as many as the widest page has.
 #[derive(Clone, Copy, PartialEq, Eq, Debug)]
-pub struct TabStops(pub u128);
+pub struct TabStops([bool; WIDEST]);
 
 impl TabStops {
-    fn bit(column: usize) -> u128 {
-        1 << (COLUMNS - 1 - column)
-    }
+    pub const NONE: TabStops = TabStops([false; WIDEST]);
 
     pub fn set(&mut self, column: usize, on: bool) {
-        if on {
-            self.0 |= TabStops::bit(column);
-        } else {
-            self.0 &= !TabStops::bit(column);
-        }
+        self.0[column] = on;
+    }
+
+    pub fn has(&self, column: usize) -> bool {
+        self.0[column]
     }
 
     /// The columns with a stop, from the left.
     pub fn columns(self) -> impl Iterator<Item = usize> {
-        (0..COLUMNS).filter(move |&column| self.0 & TabStops::bit(column) != 0)
+        (0..WIDEST).filter(move |&column| self.has(column))
     }
 
     pub fn next_after(self, column: usize) -> Option<usize> {
-        let right = self.0 & (TabStops::bit(column) - 1);
-        (right != 0).then(|| COLUMNS - 1 - right.ilog2() as usize)
+        self.columns().find(|&stop| stop > column)
     }
 
     pub fn last_before(self, column: usize) -> Option<usize> {
-        let left = self.0 & !(TabStops::bit(column) * 2 - 1);
-        (left != 0).then(|| COLUMNS - 1 - left.trailing_zeros() as usize)
+        self.columns().take_while(|&stop| stop < column).last()
+    }
+
+    /// Forgets the stops from a column on.
+    pub fn clear_from(&mut self, column: usize) {
+        self.0[column..].fill(false);
     }
 }

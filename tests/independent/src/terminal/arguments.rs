@@ -27,12 +27,14 @@ impl Terminal {
         self.await_next(Sequence::Arguments(gathered))
     }
 
+    /// By codes, which reach column 80 on a wide page too.
     fn address(&mut self, segment: usize, row_code: u8, column_code: u8) -> Outcome {
         let row = (row_code as usize)
             .checked_sub(0x20)
             .ok_or(Refusal::BadArgument)?;
         let column = (column_code as usize)
             .checked_sub(0x20)
+            .filter(|&column| column < COLUMNS)
             .ok_or(Refusal::BadArgument)?;
         self.move_to(segment, row, column)
     }
@@ -47,12 +49,12 @@ impl Terminal {
 
     /// Makes the segment active and moves to a place in it, counted from 0.
     fn move_to(&mut self, segment: usize, row: usize, column: usize) -> Outcome {
-        let cells = self.state.segment(segment);
-        if row >= cells.len() / COLUMNS || column >= COLUMNS {
+        let (cells, columns) = (self.state.segment(segment), self.columns());
+        if row >= cells.len() / columns || column >= columns {
             return Err(Refusal::BadArgument);
         }
         self.state.active = segment as u8;
-        self.settle(cells.start + row * COLUMNS + column)
+        self.settle(cells.start + row * columns + column)
     }
 
     /// One or two digits, R, one to three digits, C.
@@ -107,7 +109,8 @@ impl Terminal {
     }
 
     fn set_feature(&mut self, code: u8) -> Outcome {
-        if code == b':' {
+        if let b':' | b';' = code {
+            self.state.wish = code == b';';
             return DONE;
         }
         let number = feature_number(code).ok_or(Refusal::BadArgument)?;
@@ -130,7 +133,7 @@ impl Terminal {
         }
     }
 
-    fn split_screen(&mut self, row: u8) -> Outcome {
+    pub(super) fn split_screen(&mut self, row: u8) -> Outcome {
         self.state.split = row;
         self.state.active = 0;
         let lower_home = if row == 0 {

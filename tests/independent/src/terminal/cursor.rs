@@ -8,6 +8,14 @@ impl Terminal {
         self.state.cursor()
     }
 
+    pub(super) fn columns(&self) -> usize {
+        self.state.columns()
+    }
+
+    pub(super) fn row_start(&self, place: usize) -> usize {
+        self.state.row_start(place)
+    }
+
     pub(super) fn segment(&self) -> Range<usize> {
         self.state.active_segment()
     }
@@ -56,23 +64,23 @@ impl Terminal {
     }
 
     pub(super) fn carriage_return(&mut self) -> Outcome {
-        self.settle(row_start(self.cursor()))
+        self.settle(self.row_start(self.cursor()))
     }
 
     pub(super) fn up(&mut self) -> Outcome {
         let (cursor, segment) = (self.cursor(), self.segment());
-        let above = if cursor < segment.start + COLUMNS {
-            cursor + segment.len() - COLUMNS
+        let above = if cursor < segment.start + self.columns() {
+            cursor + segment.len() - self.columns()
         } else {
-            cursor - COLUMNS
+            cursor - self.columns()
         };
         self.settle(above)
     }
 
     pub(super) fn up_or_scroll(&mut self) -> Outcome {
         let (cursor, segment) = (self.cursor(), self.segment());
-        if cursor >= segment.start + COLUMNS {
-            return self.settle(cursor - COLUMNS);
+        if cursor >= segment.start + self.columns() {
+            return self.settle(cursor - self.columns());
         }
         if !self.state.modes.protect {
             self.push_rows_down(segment);
@@ -87,19 +95,19 @@ impl Terminal {
 
     pub(super) fn new_line(&mut self) -> Outcome {
         let below = self.make_row_below();
-        self.settle(row_start(below))
+        self.settle(self.row_start(below))
     }
 
     /// The place below the cursor, after scrolling if that is what it takes.
     fn make_row_below(&mut self) -> usize {
         let (cursor, segment) = (self.cursor(), self.segment());
-        if cursor + COLUMNS < segment.end {
-            cursor + COLUMNS
+        if cursor + self.columns() < segment.end {
+            cursor + self.columns()
         } else if self.scrolls() {
             self.pull_rows_up(segment);
             cursor
         } else {
-            cursor + COLUMNS - segment.len()
+            cursor + self.columns() - segment.len()
         }
     }
 
@@ -108,8 +116,8 @@ impl Terminal {
         let place = if self.state.modes.protect {
             self.next_field_start(cursor)
         } else {
-            let stop = self.state.tab_stops.next_after(cursor % COLUMNS);
-            stop.map_or(cursor, |column| row_start(cursor) + column)
+            let stop = self.state.tab_stops.next_after(cursor % self.columns());
+            stop.map_or(cursor, |column| self.row_start(cursor) + column)
         };
         self.settle(place)
     }
@@ -119,8 +127,8 @@ impl Terminal {
         let place = if self.state.modes.protect {
             self.previous_field_start(cursor)
         } else {
-            let stop = self.state.tab_stops.last_before(cursor % COLUMNS);
-            row_start(cursor) + stop.unwrap_or(0)
+            let stop = self.state.tab_stops.last_before(cursor % self.columns());
+            self.row_start(cursor) + stop.unwrap_or(0)
         };
         self.settle(place)
     }
@@ -160,8 +168,4 @@ impl Terminal {
         self.state.active = segment;
         self.settle(self.cursor())
     }
-}
-
-pub(super) fn row_start(place: usize) -> usize {
-    place - place % COLUMNS
 }

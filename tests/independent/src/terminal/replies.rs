@@ -14,20 +14,21 @@ impl Terminal {
     }
 
     pub(super) fn set_tab_stop(&mut self, on: bool) -> Outcome {
-        let column = self.cursor() % COLUMNS;
+        let column = self.cursor() % self.columns();
         self.state.tab_stops.set(column, on);
         DONE
     }
 
     pub(super) fn clear_tab_stops(&mut self) -> Outcome {
-        self.state.tab_stops = TabStops(0);
+        self.state.tab_stops = TabStops::NONE;
         DONE
     }
 
     /// The cursor's row and column, counted from 0 at the segment's top.
     pub(super) fn position(&self) -> (u8, u8) {
         let offset = self.cursor() - self.segment().start;
-        ((offset / COLUMNS) as u8, (offset % COLUMNS) as u8)
+        let columns = self.columns();
+        ((offset / columns) as u8, (offset % columns) as u8)
     }
 
     /// The bytes of a reply that reads no cells.

@@ -10,9 +10,9 @@ impl Terminal {
     pub fn rows_with_room(&self) -> Vec<u16> {
         let mut list = Vec::new();
         for row in 0..ROWS {
-            let cells = row * COLUMNS..(row + 1) * COLUMNS;
-            let columns: Vec<usize> = (1..=COLUMNS)
-                .filter(|column| self.is_open(cells.start + column - 1))
+            let start = row * self.columns();
+            let columns: Vec<usize> = (1..=self.columns())
+                .filter(|column| self.is_open(start + column - 1))
                 .collect();
             list.push(columns.len() as u16);
             list.push(columns.first().map_or(0, |&column| column as u16));

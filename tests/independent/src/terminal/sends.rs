@@ -1,6 +1,5 @@
 //! Replies that may be sent in parts.
 
-use super::cursor::row_start;
 use super::*;
 
 const FS: u8 = 0x1C;
@@ -8,10 +7,13 @@ const US: u8 = 0x1F;
 
 impl Terminal {
     pub(super) fn begin_reply(&mut self, command: u8, room: &mut [u8]) -> Outcome {
+        let places = self.state.places(command);
+        if places.is_empty() {
+            return Err(Refusal::BadArgument);
+        }
         if room.is_empty() {
             return Err(Refusal::NoRoom);
         }
-        let places = self.state.places(command);
         Ok(self.send(command, &places, room))
     }
 
@@ -61,7 +63,7 @@ impl Terminal {
         if !leaves_out(cell) {
             return Some(self.page[cell].sent());
         }
-        let is_first = cell == row_start(cell) || !leaves_out(cell - 1);
+        let is_first = cell == self.row_start(cell) || !leaves_out(cell - 1);
         is_first.then_some(FS)
     }
 }

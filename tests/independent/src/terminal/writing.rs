@@ -1,6 +1,5 @@
 //! Writing and clearing.
 
-use super::cursor::row_start;
 use super::*;
 use std::ops::Range;
 
@@ -39,14 +38,14 @@ impl Terminal {
         if !self.scrolls() {
             return self.home();
         }
-        let bottom = segment.end - COLUMNS;
+        let bottom = segment.end - self.columns();
         self.pull_rows_up(segment);
         self.settle(bottom)
     }
 
     /// The cells from the cursor up to the next guarded cell or row end.
     fn edit_run(&self, cursor: usize) -> Range<usize> {
-        let row_end = row_start(cursor) + COLUMNS;
+        let row_end = self.row_start(cursor) + self.columns();
         let guarded = (cursor + 1..row_end).find(|&place| self.is_guarded(place));
         cursor..guarded.unwrap_or(row_end)
     }
@@ -90,20 +89,21 @@ impl Terminal {
         if self.state.modes.protect {
             return Err(Refusal::Barred);
         }
-        Ok(row_start(self.cursor())..self.segment().end)
+        Ok(self.row_start(self.cursor())..self.segment().end)
     }
 
     pub(super) fn push_rows_down(&mut self, rows: Range<usize>) {
-        let first = rows.start;
-        self.page
-            .copy_within(first..rows.end - COLUMNS, first + COLUMNS);
-        self.page[first..first + COLUMNS].fill(Cell::SPACE);
+        let (first, second) = (rows.start, rows.start + self.columns());
+        let last = rows.end - self.columns();
+        self.page.copy_within(first..last, second);
+        self.page[first..second].fill(Cell::SPACE);
     }
 
     pub(super) fn pull_rows_up(&mut self, rows: Range<usize>) {
-        self.page
-            .copy_within(rows.start + COLUMNS..rows.end, rows.start);
-        self.page[rows.end - COLUMNS..rows.end].fill(Cell::SPACE);
+        let second = rows.start + self.columns();
+        let last = rows.end - self.columns();
+        self.page.copy_within(second..rows.end, rows.start);
+        self.page[last..rows.end].fill(Cell::SPACE);
     }
 
     fn fill_open(&mut self, cells: Range<usize>, cell: Cell) {
@@ -117,7 +117,7 @@ impl Terminal {
 
     pub(super) fn clear_row_rest(&mut self, cell: Cell) -> Outcome {
         let cursor = self.cursor();
-        self.fill_open(cursor..row_start(cursor) + COLUMNS, cell);
+        self.fill_open(cursor..self.row_start(cursor) + self.columns(), cell);
         DONE
     }
 
@@ -144,8 +144,8 @@ impl Terminal {
 
     pub(super) fn protect_column(&mut self) -> Outcome {
         let (cursor, segment) = (self.cursor(), self.segment());
-        let top = segment.start + cursor % COLUMNS;
-        for place in (top..segment.end).step_by(COLUMNS) {
+        let top = segment.start + cursor % self.columns();
+        for place in (top..segment.end).step_by(self.columns()) {
             if self.is_open(place) {
                 self.page[place] = Cell::SPACE.with_protection();
             }

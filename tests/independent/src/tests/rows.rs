@@ -2,7 +2,7 @@
 
 use super::*;
 use crate::terminal::ROW_NUMBERS;
-use crate::transcript::{set, Bench, Line};
+use crate::transcript::{Bench, Line};
 
 /// Marked from cell 0 to 84, and again all of row 3 and row 4 but its last cell.
 fn form() -> Terminal {
@@ -71,39 +71,27 @@ fn calls_with_the_list_do_as_those_without() {
     for seed in 0..20 {
         let mut bench = Bench::new();
         for line in generate::script(seed, 300) {
-            let mut plain = bench.terminal.clone();
-            let mut rooms = [[0; 4000]; 2];
-            match line {
-                Line::Step { byte, room } | Line::ListStep { byte, room } => {
-                    let mut list = plain.is_possible().then(|| plain.rows_with_room());
-                    let list = list.get_or_insert(vec![0; ROW_NUMBERS]);
-                    let listed = bench
-                        .terminal
-                        .step_with_rows(byte, &mut rooms[0][..room], list);
-                    assert_eq!(listed, plain.step(byte, &mut rooms[1][..room]));
-                    assert!(!plain.is_possible() || *list == plain.rows_with_room());
-                }
-                Line::Run { bytes, room } | Line::ListRun { bytes, room } => {
-                    let mut list = plain.is_possible().then(|| plain.rows_with_room());
-                    let list = list.get_or_insert(vec![0; ROW_NUMBERS]);
-                    let listed = bench
-                        .terminal
-                        .run_with_rows(&bytes, &mut rooms[0][..room], list);
-                    assert_eq!(listed, plain.run(&bytes, &mut rooms[1][..room]));
-                    assert!(!plain.is_possible() || *list == plain.rows_with_room());
-                }
-                Line::On(personality) => {
-                    let personality = personality.unwrap_or(Personality::Wy50);
-                    let _ = bench.terminal.power_on(personality);
-                    continue;
-                }
-                _ => {
-                    set(&mut bench, &line);
-                    continue;
-                }
+            let (mut listed, mut plain) = (bench.terminal.clone(), bench.terminal.clone());
+            let mut list = match plain.is_possible() {
+                true => plain.rows_with_room(),
+                false => vec![0; ROW_NUMBERS],
+            };
+            let [mut listed_room, mut plain_room] = [[0; 4000]; 2];
+            match &line {
+                Line::Step { byte, room } | Line::ListStep { byte, room } => assert_eq!(
+                    listed.step_with_rows(*byte, &mut listed_room[..*room], &mut list),
+                    plain.step(*byte, &mut plain_room[..*room])
+                ),
+                Line::Run { bytes, room } | Line::ListRun { bytes, room } => assert_eq!(
+                    listed.run_with_rows(bytes, &mut listed_room[..*room], &mut list),
+                    plain.run(bytes, &mut plain_room[..*room])
+                ),
+                _ => {}
             }
-            assert!(rooms[0] == rooms[1] && plain.page == bench.terminal.page);
-            assert_eq!(plain.state, bench.terminal.state);
+            assert!(listed_room == plain_room && listed.page == plain.page);
+            assert_eq!(listed.state, plain.state);
+            assert!(!plain.is_possible() || list == plain.rows_with_room());
+            assert!(bench.follow(&line).is_some());
         }
     }
 }

@@ -4,8 +4,10 @@ use super::line::Line;
 use super::set::set;
 use super::WIDEST_ROOM;
 use crate::setups::{self, STORE};
-use crate::state::Personality;
-use crate::terminal::{Terminal, ROW_NUMBERS};
+use crate::state::{Cell, Personality};
+use crate::terminal::{Outcome, Terminal, ROW_NUMBERS};
+
+const CELL_FILLER: Cell = Cell(0xEEEE);
 
 /// A terminal, and what is lent to it beside the page.
 #[derive(Clone)]
@@ -24,6 +26,19 @@ impl Bench {
             rows: vec![0; ROW_NUMBERS],
             store: vec![0; STORE],
         }
+    }
+
+    /// Converts into a target of so many cells, which is the page on 0. Gives the
+    /// answer, whether the old page is as it was, and the target.
+    pub fn convert(&mut self, count: usize) -> (Outcome, bool, Vec<Cell>) {
+        let mut target = vec![CELL_FILLER; count];
+        let old = self.terminal.page.clone();
+        let outcome = self.terminal.convert(&mut target);
+        let is_as_it_was = self.terminal.page == old;
+        if outcome.is_ok() {
+            self.terminal.page.clone_from(&target);
+        }
+        (outcome, is_as_it_was, target)
     }
 
     /// Obeys a line and says how many of its bytes were taken. None if the line
@@ -60,6 +75,10 @@ impl Bench {
             }
             Line::Restore(number) => {
                 let _ = setups::restore(&mut terminal.state, store, *number);
+                0
+            }
+            Line::Convert(count) => {
+                let _ = self.convert(*count);
                 0
             }
             _ if line.is_output() => 0,

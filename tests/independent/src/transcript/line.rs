@@ -68,6 +68,8 @@ pub enum Line {
     Personality(Personality),
     Remembered(u8),
     Sending(Option<Sending>),
+    Wide(bool),
+    Wish(bool),
     Store(usize),
     Byte {
         index: usize,
@@ -105,6 +107,7 @@ pub enum Line {
     },
     Save,
     Restore(u16),
+    Convert(usize),
 }
 
 impl Line {
@@ -124,6 +127,7 @@ impl Line {
                 | Line::ListRun { .. }
                 | Line::Save
                 | Line::Restore(_)
+                | Line::Convert(_)
         )
     }
 

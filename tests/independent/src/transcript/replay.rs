@@ -47,6 +47,7 @@ impl Replay {
             Line::Rebuild => self.rebuild(out),
             Line::ListStep { byte, room } => self.list_step(*byte, *room, out),
             Line::ListRun { bytes, room } => self.list_run(bytes, *room, out),
+            Line::Convert(count) => self.convert(*count, out),
             Line::Save => self.save(out),
             Line::Restore(number) => self.restore(*number, out),
             Line::Count { reply, first, last } => {
@@ -113,6 +114,16 @@ impl Replay {
         out.extend_from_slice(b" listrun");
         self.write_report(report, room, out);
         self.write_rows(out);
+    }
+
+    fn convert(&mut self, count: usize, out: &mut Vec<u8>) {
+        let (outcome, is_as_it_was, target) = self.bench.convert(count);
+        out.extend_from_slice(b" convert answer=");
+        push_number(out, answer_number(outcome) as usize);
+        out.extend_from_slice(b" old=");
+        push_flag(out, is_as_it_was);
+        out.extend_from_slice(b" target=");
+        push_digest(out, PageDigest::new().of(&target));
     }
 
     fn save(&mut self, out: &mut Vec<u8>) {

@@ -2,7 +2,7 @@
 
 use super::bench::Bench;
 use super::line::Line;
-use crate::state::{key_number, Cell, Flags, Sequence, State, Text, CELLS};
+use crate::state::{key_number, Cell, Flags, Place, Sending, Sequence, State, Text};
 use crate::terminal::Terminal;
 
 /// What spoils a text under way.
@@ -20,7 +20,7 @@ pub fn set(bench: &mut Bench, line: &Line) -> bool {
     let Terminal { page, state } = terminal;
     match line {
         Line::Length(count) => *page = vec![Cell::NULL; *count],
-        Line::Noise { seed, mask, share } => return fill_with_noise(page, *seed, *mask, *share),
+        Line::Noise { seed, mask, share } => fill_with_noise(page, *seed, *mask, *share),
         Line::Cell { index, value } => match page.get_mut(*index) {
             Some(cell) => *cell = Cell(*value),
             None => return false,
@@ -58,6 +58,12 @@ pub fn set(bench: &mut Bench, line: &Line) -> bool {
             None => return false,
         },
         Line::Personality(personality) => state.personality = *personality,
+        Line::Wide(on) => state.wide = *on,
+        Line::Wish(on) => state.wish = *on,
+        Line::Sending(Some(Sending {
+            place: Place::RowMark(cell),
+            ..
+        })) if state.row_start(*cell as usize) != *cell as usize => return false,
         Line::Sending(sending) => {
             state.sending = *sending;
             state.sequence = Sequence::None;
@@ -73,10 +79,7 @@ pub fn set(bench: &mut Bench, line: &Line) -> bool {
     true
 }
 
-fn fill_with_noise(page: &mut [Cell], seed: u32, mask: u16, share: u16) -> bool {
-    if page.len() != CELLS {
-        return false;
-    }
+fn fill_with_noise(page: &mut [Cell], seed: u32, mask: u16, share: u16) {
     let mut x = seed;
     let mut draw = || {
         x = x.wrapping_mul(1664525).wrapping_add(1013904223);
@@ -87,7 +90,6 @@ fn fill_with_noise(page: &mut [Cell], seed: u32, mask: u16, share: u16) -> bool 
         let protected = draw() >> 24 < share as u32;
         *cell = Cell(contents + if protected { 128 } else { 0 });
     }
-    true
 }
 
 fn set_mode(state: &mut State, mode: usize, on: bool) {

@@ -1,7 +1,7 @@
 //! The state as a trace shows it.
 
 use super::write::*;
-use crate::state::{Sequence, State, Text};
+use crate::state::{Sequence, State, Text, WIDEST};
 
 pub fn write_state(state: &State, out: &mut Vec<u8>) {
     out.extend_from_slice(b" active=");
@@ -15,9 +15,7 @@ pub fn write_state(state: &State, out: &mut Vec<u8>) {
     out.extend_from_slice(b" modes=");
     write_modes(state, out);
     out.extend_from_slice(b" tabs=");
-    for byte in &state.tab_stops.0.to_be_bytes()[6..] {
-        push_hex(out, *byte);
-    }
+    write_tab_stops(state, out);
     out.extend_from_slice(b" attributes=");
     push_bytes(out, &state.attributes);
     out.extend_from_slice(b" features=");
@@ -40,6 +38,21 @@ pub fn write_state(state: &State, out: &mut Vec<u8>) {
     push_number(out, state.remembered.0 as usize);
     out.extend_from_slice(b" sending=");
     push_sending(out, state.sending);
+    out.extend_from_slice(b" wide=");
+    push_flag(out, state.wide);
+    out.extend_from_slice(b" wish=");
+    push_flag(out, state.wish);
+}
+
+/// Four columns a digit, the first of them the highest.
+fn write_tab_stops(state: &State, out: &mut Vec<u8>) {
+    for first in (0..WIDEST).step_by(4) {
+        let columns = first..first + 4;
+        let digit = columns.fold(0, |digit, column| {
+            digit << 1 | state.tab_stops.has(column) as u8
+        });
+        push_hex_digit(out, digit);
+    }
 }
 
 fn write_modes(state: &State, out: &mut Vec<u8>) {

@@ -1,7 +1,7 @@
 //! The words of a line.
 
 use super::WIDEST_ROOM;
-use crate::state::{Place, Sending, COLUMNS, ESC};
+use crate::state::{Place, Sending, ESC};
 
 pub fn number(word: &str, largest: usize) -> Option<usize> {
     if word.is_empty() || !word.bytes().all(|byte| byte.is_ascii_digit()) {
@@ -46,8 +46,7 @@ pub fn sending(word: &str) -> Option<Option<Sending>> {
     } else if !Sending::reads_cells(command) {
         return None;
     } else if let Some(cell) = place.strip_prefix('u') {
-        let cell = number(cell, 0xFFFF).filter(|cell| cell % COLUMNS == 0)?;
-        Place::RowMark(cell as u16)
+        Place::RowMark(number(cell, 0xFFFF)? as u16)
     } else if place == "cr" {
         Place::Cr
     } else {

@@ -13,10 +13,13 @@ pub fn push_flag(out: &mut Vec<u8>, on: bool) {
     out.push(b'0' + on as u8);
 }
 
+pub fn push_hex_digit(out: &mut Vec<u8>, digit: u8) {
+    out.push(b"0123456789abcdef"[digit as usize]);
+}
+
 pub fn push_hex(out: &mut Vec<u8>, byte: u8) {
-    const DIGITS: &[u8; 16] = b"0123456789abcdef";
-    let (high, low) = (byte >> 4, byte & 15);
-    out.extend_from_slice(&[DIGITS[high as usize], DIGITS[low as usize]]);
+    push_hex_digit(out, byte >> 4);
+    push_hex_digit(out, byte & 15);
 }
 
 pub fn push_bytes(out: &mut Vec<u8>, bytes: &[u8]) {

@@ -1,7 +1,7 @@
 //! The lines of a script, read.
 
 use super::Line;
-use crate::state::{Personality, COLUMNS, KEYS, LABELS};
+use crate::state::{Personality, KEYS, LABELS, WIDEST};
 use crate::transcript::words::*;
 
 const LONGEST_PAGE: usize = 4000;
@@ -38,7 +38,7 @@ impl Line {
                 on: flag(words.next()?)?,
             },
             "tab" => Line::Tab {
-                column: number(words.next()?, COLUMNS - 1)?,
+                column: number(words.next()?, WIDEST - 1)?,
                 on: flag(words.next()?)?,
             },
             "attribute" => Line::Attribute {
@@ -69,6 +69,8 @@ impl Line {
             "personality" => Line::Personality(personality(words.next()?)?),
             "remembered" => Line::Remembered(number(words.next()?, 31)? as u8),
             "sending" => Line::Sending(sending(words.next()?)?),
+            "wide" => Line::Wide(flag(words.next()?)?),
+            "wish" => Line::Wish(flag(words.next()?)?),
             "store" => Line::Store(number(words.next()?, LONGEST_STORE)?),
             "byte" => Line::Byte {
                 index: number(words.next()?, LONGEST_STORE)?,
@@ -93,6 +95,7 @@ impl Line {
             "show" => Line::Show,
             "save" => Line::Save,
             "restore" => Line::Restore(number(words.next()?, 0xFFFF)? as u16),
+            "convert" => Line::Convert(number(words.next()?, LONGEST_PAGE)?),
             "rebuild" => Line::Rebuild,
             "liststep" => Line::ListStep {
                 byte: hex_byte(words.next()?)?,

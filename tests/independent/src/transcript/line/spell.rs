@@ -51,6 +51,8 @@ impl Line {
                 word(out, "sending ");
                 push_sending(out, *sending);
             }
+            Line::Wide(on) => word(out, &format!("wide {}", *on as u8)),
+            Line::Wish(on) => word(out, &format!("wish {}", *on as u8)),
             Line::Store(count) => word(out, &format!("store {count}")),
             Line::Byte { index, value } => word(out, &format!("byte {index} {value}")),
             Line::On(None) => word(out, "on"),
@@ -70,6 +72,7 @@ impl Line {
             }
             Line::Save => word(out, "save"),
             Line::Restore(number) => word(out, &format!("restore {number}")),
+            Line::Convert(count) => word(out, &format!("convert {count}")),
             Line::Rebuild => word(out, "rebuild"),
             Line::ListStep { byte, room } => word(out, &format!("liststep {byte:02x} {room}")),
             Line::ListRun { bytes, room } => {
