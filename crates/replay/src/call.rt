@@ -26,7 +26,7 @@ pub struct Called {
 }
 
 // The line's number, its word and the answer.
-fn opening(out: &mut [u8], at: usize, count: usize, word: &[u8], a: Answer) -> usize {
+pub fn opening(out: &mut [u8], at: usize, count: usize, word: &[u8], a: Answer) -> usize {
     let n = heading(out, at, count, word);
     named(out, n, b" answer=", terminal::answer_number(a) as usize)
 }

@@ -1,6 +1,7 @@
 // Lines that set something: the page's cells, and the parts of a state.
-use crate::narrow::COLUMNS;
+use crate::bounds::least;
 use crate::script::Setting;
+use crate::sizes::STOPS;
 use rules::Core;
 use rules::LongText;
 use rules::Modes;
@@ -45,6 +46,16 @@ pub fn fill(cells: &mut [u16], v: u16) {
     }
 }
 
+// As many cells as both have.
+pub fn copy(from: &[u16], to: &mut [u16]) {
+    let n = least(from.len(), to.len());
+    let mut i = 0;
+    while i < n {
+        to[i] = from[i];
+        i += 1;
+    }
+}
+
 fn with_mode(m: Modes, i: usize, b: bool) -> Modes {
     let mut t = m;
     match i {
@@ -85,7 +96,7 @@ fn with_personality(c: Core, m: Personality) -> Core {
 
 fn with_tab(u: Setup, c: usize, b: bool) -> Setup {
     let mut t = u;
-    if c < COLUMNS {
+    if c < STOPS {
         t.tabs[c] = b;
     }
     t
@@ -181,6 +192,8 @@ pub fn set(s: State, x: Setting) -> State {
         Setting::Feature(n, v) => setup = with_feature(setup, n, v),
         Setting::Bells(n) => core.bells = n,
         Setting::Shifted(b) => setup.shifted = b,
+        Setting::Wide(b) => core.screen.wide = b,
+        Setting::Wish(b) => setup.wish = b,
         Setting::Personality(m) => core = with_personality(core, m),
         Setting::Remembered(n) => core.attribute = n,
     }

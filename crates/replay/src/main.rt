@@ -3,15 +3,16 @@ mod bounds;
 mod call;
 mod change;
 mod digest;
-mod narrow;
 mod progress;
 mod script;
 mod send;
 mod sequence;
+mod sizes;
 mod state_text;
 mod store;
 mod text;
 mod trace;
+mod turn;
 
 ghost use Prim.Native.Nat.{_≤_, _<_};
 ghost use lib.ListN.{length};

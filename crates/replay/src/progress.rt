@@ -3,7 +3,6 @@ use crate::bounds::within;
 use crate::bounds::within_cells;
 use crate::call;
 use crate::change;
-use crate::narrow::CELLS;
 use crate::script::Call;
 use crate::script::Command;
 use crate::script::ListLine;
@@ -13,8 +12,10 @@ use crate::script::StoreLine;
 use crate::script::read;
 use crate::send;
 use crate::sequence;
+use crate::sizes::CELLS;
 use crate::store;
 use crate::text;
+use crate::turn;
 use libc::STDERR_FILENO;
 use rules::Personality;
 use rules::Setup;
@@ -113,6 +114,7 @@ fn carry_out(
         Command::Message => set_message(s, line),
         Command::Pending => set_pending(s, line),
         Command::Sending => set_sending(s, line),
+        Command::Convert(n) => convert(s, n, page, out),
         Command::Call(x, n) => obey_call(s, x, n, line, page, rows, out),
     }
 }
@@ -218,6 +220,37 @@ fn restore(s: Progress, n: u16, page: &[u16], store: &[u8], out: &mut [u8]) -> P
     t.state = next;
     t.written = count;
     t.at = r.at;
+    t
+}
+
+// The target is all EEEEh before the call.
+fn convert(s: Progress, n: usize, page: &mut [u16], out: &mut [u8]) -> Progress {
+    let mut target = [0xeeeeu16; 4000];
+    let size = within_cells(n, &target);
+    convert_into(s, page, &mut target[..size], out)
+}
+
+// Done, the target is the page from then on.
+fn convert_into(s: Progress, page: &mut [u16], target: &mut [u16], out: &mut [u8]) -> Progress {
+    let cells = within_cells(s.cells, page);
+    let state = s.state;
+    let count = wrapping_add_usize(s.written, 1);
+    let r = turn::convert(count, state, &page[..cells], target, out, s.at);
+    let next = r.state;
+    let mut t = s;
+    t.state = next;
+    t.written = count;
+    t.at = r.at;
+    turned(t, r.done, target, page)
+}
+
+fn turned(s: Progress, done: bool, target: &[u16], page: &mut [u16]) -> Progress {
+    if !done {
+        return s;
+    }
+    change::copy(target, page);
+    let mut t = s;
+    t.cells = target.len();
     t
 }
 

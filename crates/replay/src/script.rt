@@ -1,5 +1,5 @@
 // A line of a script as a command of numbers. Its byte strings are read where it is carried out.
-use crate::narrow::COLUMNS;
+use crate::sizes::STOPS;
 use crate::text::NONE;
 use crate::text::byte;
 use crate::text::first;
@@ -42,6 +42,8 @@ pub enum Setting {
     Feature(usize, u8),
     Bells(u8),
     Shifted(bool),
+    Wide(bool),
+    Wish(bool),
     Personality(Personality),
     Remembered(u8),
 }
@@ -74,6 +76,8 @@ pub enum Command {
     Message,
     Pending,
     Sending,
+    // the length of the target
+    Convert(usize),
     Call(Call, usize),
 }
 
@@ -143,6 +147,9 @@ fn two_words(line: &[u8]) -> Command {
     if same(word, b"restore") {
         return restore(n);
     }
+    if same(word, b"convert") {
+        return given(n <= 4000, Command::Convert(n));
+    }
     if 255 < n {
         return Command::Bad;
     }
@@ -156,13 +163,24 @@ fn two_words(line: &[u8]) -> Command {
     if same(word, b"bells") {
         return Command::Set(Setting::Bells(v));
     }
-    if same(word, b"shifted") {
-        return given(v <= 1, Command::Set(Setting::Shifted(v == 1)));
-    }
     if same(word, b"remembered") {
         return given(v < 32, Command::Set(Setting::Remembered(v)));
     }
+    if v <= 1 {
+        return of_flag(word, v == 1);
+    }
     of_personality(word, v)
+}
+
+// A word with a flag.
+fn of_flag(word: &[u8], b: bool) -> Command {
+    if same(word, b"shifted") {
+        return Command::Set(Setting::Shifted(b));
+    }
+    if same(word, b"wide") {
+        return Command::Set(Setting::Wide(b));
+    }
+    given(same(word, b"wish"), Command::Set(Setting::Wish(b)))
 }
 
 fn restore(n: usize) -> Command {
@@ -277,7 +295,7 @@ fn switch(word: &[u8], i: usize, n: usize) -> Command {
         return given(i < 6, Command::Set(Setting::Mode(i, n == 1)));
     }
     if same(word, b"tab") {
-        return given(i < COLUMNS, Command::Set(Setting::Tab(i, n == 1)));
+        return given(i < STOPS, Command::Set(Setting::Tab(i, n == 1)));
     }
     Command::Bad
 }

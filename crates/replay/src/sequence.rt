@@ -2,7 +2,7 @@
 ghost use Prim.Native.Nat.{_+_, _≤_};
 use crate::bounds::least;
 use crate::bounds::within;
-use crate::narrow::CELLS;
+use crate::sizes::CELLS;
 use crate::text::byte_string;
 use check::same;
 use rules::Argument;

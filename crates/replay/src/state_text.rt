@@ -1,9 +1,9 @@
 // The STATE of an output line.
 ghost use Prim.Native.Nat.{_≤_};
 use crate::bounds::within;
-use crate::narrow::COLUMNS;
 use crate::send;
 use crate::sequence::spelled;
+use crate::sizes::STOPS;
 use crate::trace::byte_string;
 use crate::trace::comma;
 use crate::trace::decimal;
@@ -36,7 +36,16 @@ pub fn state(out: &mut [u8], at: usize, s: State) -> usize {
     let n3 = bells_and_pending(out, n2, core, g);
     let n4 = texts(out, n3, setup);
     let n5 = personality(out, n4, core);
-    send::show(out, n5, sending)
+    let n6 = send::show(out, n5, sending);
+    widths(out, n6, x, setup)
+}
+
+// The state's own width, and the wish.
+fn widths(out: &mut [u8], at: usize, x: Screen, u: Setup) -> usize {
+    let n = text(out, at, b" wide=");
+    let n1 = flag(out, n, x.wide);
+    let n2 = text(out, n1, b" wish=");
+    flag(out, n2, u.wish)
 }
 
 fn bells_and_pending(out: &mut [u8], at: usize, core: Core, g: [u8; 46]) -> usize {
@@ -102,7 +111,7 @@ fn feature_bytes(out: &mut [u8], at: usize, bytes: [u8; 5]) -> usize {
 fn tabs(out: &mut [u8], at: usize, stops: [bool; 132]) -> usize {
     let mut n = at;
     let mut i = 0;
-    while i < COLUMNS {
+    while i < STOPS {
         let high = bit(stops[i]) * 2 + bit(stops[i + 1]);
         let low = bit(stops[i + 2]) * 2 + bit(stops[i + 3]);
         n = hex_digit(out, n, high * 4 + low);

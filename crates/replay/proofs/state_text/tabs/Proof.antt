@@ -7,10 +7,10 @@ use Rattle.replay.proofs.state_text.tabs.Statement.{statement}
 use Rattle.replay.proofs.state_text.tabs.Tie as tie
 
 abbrev Inv-loop : tie.InvT-loop
-Inv-loop out₀ at stops n₀ i₀ out n i = (i ≤ 80) × (i % 4 ≡ 0) × (length out ≡ length out₀)
+Inv-loop out₀ at stops n₀ i₀ out n i = (i ≤ 132) × (i % 4 ≡ 0) × (length out ≡ length out₀)
 
 abbrev μ-loop : tie.MeasureT-loop
-μ-loop out₀ at stops n₀ i₀ out n i = 80 - i
+μ-loop out₀ at stops n₀ i₀ out n i = 132 - i
 
 pub tabs-spec : {M : Type 1} → statement M
 tabs-spec =
