@@ -1,11 +1,13 @@
 /* wy50.h: the alert terminal, a WY-50 or a WY-60, for C99 and C++. Link with libwy50.a.
  *
- * The caller lends the page (1,920 cells) and the reply room at each call and keeps the state: it goes in by value and comes back by value.
+ * The caller lends the page and the reply room at each call and keeps the state: it goes in by value and comes back by value. The page is 24 rows of
+ * 80 columns, 1,920 cells, or of 132, 3,168 cells: the state says which.
  * The library keeps nothing between calls, allocates nothing and calls nothing but memcpy, memmove and memset, so different terminals may run in
  * different threads.
  *
  * Every call returns, whatever numbers it is handed. It relies on this much of its caller: a pointer goes with a count of elements and points to
- * that many, so where the count is 0 it may be NULL; and the page, the row list, the input and the reply room do not overlap.
+ * that many, so where the count is 0 it may be NULL; and the page, the target of a conversion, the row list, the input and the reply room do not
+ * overlap.
  *
  * Start from wy50_power_on: a page and a state of one's own making may well be no terminal, and answer 7.
  *
@@ -16,6 +18,9 @@
  * A run counts refusals and joins replies. Who must know of each which byte it answers calls wy50_next instead, in the same loop.
  *
  * What ESC 4 to ESC 7 send ends at the cursor. A program that wants a whole form has the host go to its last cell first, or reads the page itself.
+ *
+ * A terminal starts narrow, and no byte changes its width: a host only wishes for one (ESC ` 3Bh wide, 3Ah narrow). A program that follows the wish
+ * compares state.wish with state.screen.wide after each run and calls wy50_convert where they differ. One that does not may leave it at that.
  *
  * Threads: a terminal is its page and its state. Different terminals may be used at the same time, one terminal by one thread at a time.
  *
@@ -44,9 +49,11 @@ uint32_t wy50_version(void);
 enum {
     WY50_ROWS = 24,
     WY50_COLUMNS = 80,
-    WY50_CELLS = 1920,         /* the page, in reading order */
-    WY50_ROW_NUMBERS = 48,     /* a row list: two numbers for each row */
-    WY50_LONGEST_REPLY = 1944, /* no reply is longer */
+    WY50_CELLS = 1920,         /* a narrow page, in reading order: as power-on gives it */
+    WY50_WIDE_COLUMNS = 132,
+    WY50_WIDE_CELLS = 3168,    /* a wide page: as only wy50_convert gives it */
+    WY50_ROW_NUMBERS = 48,     /* a row list: two numbers for each row, at either width */
+    WY50_LONGEST_REPLY = 3192, /* no reply is longer; on a narrow page none is longer than 1,944 */
     WY50_LONGEST_TEXT = 132,   /* no text of a field or a row is longer */
     WY50_KEYS = 32,
     WY50_KEY_BYTES = 8,
@@ -62,18 +69,19 @@ enum {
     WY50_HIGH_BYTE = 1,    /* a byte 80h to FFh; nothing changed */
     WY50_UNKNOWN = 2,      /* no such byte after ESC; the sequence is cleared */
     WY50_BAD_ARGUMENT = 3, /* an argument outside its range, a text too long or with a bad byte, no such key or segment; the sequence is cleared */
-    WY50_BARRED = 4,       /* a guarded cell or protect mode bars it; the sequence is cleared */
+    WY50_BARRED = 4,       /* a guarded cell or protect mode bars it; the sequence is cleared. Of a conversion: a cell would be lost; nothing changed */
                            /* 5 is unused: 32 keys of 8 bytes are never over 256 */
-    WY50_NO_ROOM = 6,      /* the room is zero while a reply is due; of a key press also where its bytes do not fit, and during a send; nothing
-                              changed, the byte may come again */
-    WY50_BAD_CALL = 7,     /* the page is not 1,920 cells long, the state is not possible, or the row list is not the page's; nothing changed */
+    WY50_NO_ROOM = 6,      /* the room is zero while a reply is due; of a key press also where its bytes do not fit, and during a send, as of a
+                              conversion; nothing changed, the byte may come again */
+    WY50_BAD_CALL = 7,     /* the page is not as long as the state's width has it, the state is not possible, or the row list is not the page's;
+                              nothing changed */
     WY50_LOCKED = 8,       /* a key is pressed while the keyboard is locked; nothing changed */
     WY50_BAD_STORE = 9,    /* no saves could have left the store so; nothing changed */
     WY50_BAD_NUMBER = 10,  /* a number never saved, or overwritten since; nothing changed */
     WY50_FULL = 11         /* number 65,535 is used; nothing changed */
 };
 
-/* An answer in a few words, for a log. A number that is no answer has some too. */
+/* An answer in a few words, for a log. A number that is no answer has some too. Those of a conversion mean what is said there. */
 static inline const char *wy50_answer_name(uint8_t answer)
 {
     switch (answer) {
@@ -139,8 +147,9 @@ typedef struct wy50_message {
     uint8_t bytes[WY50_MESSAGE_BYTES];
 } wy50_message;
 
-/* The page is one segment, or split into two at a row. */
+/* The page has 80 columns or 132, and is one segment, or split into two at a row. */
 typedef struct wy50_screen {
+    uint16_t wide;    /* 1: 132 columns, a page of 3,168 cells; 0: 80 columns, 1,920 cells */
     uint8_t active;   /* the active segment, 0 or 1 */
     uint8_t split;    /* the first row of segment 1, 2 to 24, counted from 1; 0: not split */
     uint16_t cursor0; /* the cursor of segment 0, as a cell of the page, counted from 0 */
@@ -223,7 +232,7 @@ typedef struct wy50_sending {
     uint16_t place;
 } wy50_sending;
 
-/* The places of wy50_state.features, each holding the code that ESC ` last set it to. */
+/* The places of wy50_state.features, each holding the code that ESC ` last set it to. Its codes ':' and ';' set wy50_state.wish. */
 enum {
     WY50_CURSOR_SHOWN = 0,   /* '0' hidden, '1' shown */
     WY50_CURSOR_STYLE = 1,   /* '2' steady block, '3' blinking line, '4' steady line, '5' blinking block */
@@ -252,13 +261,14 @@ enum {
     WY50_JUMP = '@'
 };
 
-/* The state: numbers alone, without padding, so that memcmp compares two states and a state can be saved as its 642 bytes.
+/* The state: numbers alone, without padding, so that memcmp compares two states and a state can be saved as its 698 bytes.
  *
  * A program may read it and may fill it in. Numbers that are no possible state do no harm: a call that is handed them answers 7, replies
- * nothing and gives them back as they came. A mode, a tab stop or a shifted line that is neither 0 nor 1, a personality that is neither 50 nor 60,
- * a sequence of no kind above, a send of no command or kind above, and a number other than 0 that its kind does not have are such numbers too. So is a
- * send while a sequence is under way. The bytes of a key, a label or the message beyond its len are not looked at, and no more are the bytes gathered
- * beyond those that the sequence counts: they mean nothing, and a call that is not refused with 7 gives zeros there.
+ * nothing and gives them back as they came. A width, a wish, a mode, a tab stop or a shifted line that is neither 0 nor 1, a personality that is
+ * neither 50 nor 60, a sequence of no kind above, a send of no command or kind above, and a number other than 0 that its kind does not have are such
+ * numbers too. So is a send while a sequence is under way, a tab stop beyond the width, and a send of ESC ? or ESC / on a wide page. The bytes of a
+ * key, a label or the message beyond its len are not looked at, and no more are the bytes gathered beyond those that the sequence counts: they mean
+ * nothing, and a call that is not refused with 7 gives zeros there.
  */
 typedef struct wy50_state {
     wy50_screen screen;
@@ -269,13 +279,14 @@ typedef struct wy50_state {
     wy50_sequence sequence;
     wy50_sending sending;
     uint8_t gathered[WY50_MESSAGE_BYTES]; /* the bytes of a text under way; the sequence counts them */
-    uint8_t tabs[WY50_COLUMNS];           /* by column: 1 a tab stop, 0 none */
+    uint8_t tabs[WY50_WIDE_COLUMNS];      /* by column: 1 a tab stop, 0 none; none beyond the width */
     uint8_t attributes[4];                /* of ESC A: 20h, 30h to 3Fh or 70h to 7Eh */
     uint8_t features[5];                  /* of ESC `, by the places above */
     wy50_key keys[WY50_KEYS];             /* 40h to 4Fh, then 60h to 6Fh */
     wy50_key labels[WY50_LABELS];         /* fields 30h to 37h, then 50h to 57h, which are the shifted line's */
     wy50_message message;                 /* of ESC F */
     uint16_t shifted;                     /* the shifted line: 0 off, 1 on */
+    uint16_t wish;                        /* of ESC ` 3Bh and 3Ah: 1 a wide page is wished for, 0 a narrow one */
 } wy50_state;
 
 typedef struct wy50_power_on_result {
@@ -322,12 +333,18 @@ typedef struct wy50_restore_result {
     wy50_state state;
 } wy50_restore_result;
 
-/* Power-on: every cell 0, and the power-on state of that personality. A page of another length than 1,920 answers 7 and is left as it was; the
- * state is given. So does a number that is no personality; the state is that of a WY-50. */
+typedef struct wy50_convert_result {
+    uint8_t answer; /* 0, 4, 6 or 7 */
+    wy50_state state;
+} wy50_convert_result;
+
+/* Power-on: every cell 0, and the power-on state of that personality; page and wish are narrow. A page of another length than 1,920, a wide one too,
+ * answers 7 and is left as it was; the state is given. So does a number that is no personality; the state is that of a WY-50. */
 wy50_power_on_result wy50_power_on(uint16_t *page, size_t page_len, uint8_t personality);
 
-/* One byte from the host. The reply is put at the front of the room; what lies beyond it is not touched. A reply that does not fit begins and is
- * the send under way. During a send the step sends as much of it as fits and leaves the byte for the next call. */
+/* One byte from the host. The page is as long as the state's width has it, here and in every call that takes both. The reply is put at the front of the
+ * room; what lies beyond it is not touched. A reply that does not fit begins and is the send under way. During a send the step sends as much of it as
+ * fits and leaves the byte for the next call. */
 wy50_step_result wy50_step(uint16_t *page, size_t page_len, wy50_state state, uint8_t byte, uint8_t *reply, size_t reply_len);
 
 /* Bytes from the host: a send under way goes on, and then the single step repeated, replies joined. It stops with 6 before the first byte whose
@@ -377,11 +394,12 @@ wy50_press_result wy50_press(const uint16_t *page, size_t page_len, wy50_state s
 
 /* The step and the run with a row list, which says what room each row has, so that settling skips the rows that have none. It has two numbers
  * for each row from the top: how many of its cells are open, and the column of the first one, counted from 1, or 0. While protect mode is off
- * each row has 80, 1. The list belongs to the page and protect mode and is kept in step with them: answer, page, state, reply and counts are
- * those that wy50_step and wy50_run give. Power-on and the key press take none.
+ * each row has 80, 1, on a wide page 132, 1. The list belongs to the page and protect mode and is kept in step with them: answer, page, state, reply
+ * and counts are those that wy50_step and wy50_run give. Power-on, the key press and the conversion take none.
  *
  * A list that is not 48 numbers long, or that disagrees with the page or protect mode, answers 7, and it too is left as it was. After every
- * other answer it agrees. Rebuild it after power-on, after a step or run without it, and where the program itself changes page or state.
+ * other answer it agrees. Rebuild it after power-on, after a conversion, after a step or run without it, and where the program itself changes page or
+ * state.
  *
  * Each call checks the whole list. A single step seldom earns that back: a list pays in runs, on forms with rows of labels alone. */
 wy50_step_result wy50_step_rows(uint16_t *page, size_t page_len, uint16_t *rows, size_t rows_len, wy50_state state, uint8_t byte, uint8_t *reply,
@@ -389,19 +407,45 @@ wy50_step_result wy50_step_rows(uint16_t *page, size_t page_len, uint16_t *rows,
 wy50_run_result wy50_run_rows(uint16_t *page, size_t page_len, uint16_t *rows, size_t rows_len, wy50_state state, const uint8_t *input,
                               size_t input_len, uint8_t *reply, size_t reply_len);
 
-/* The row list made anew, whatever it held. Answers 0, or 7 for a list that is not 48 numbers long, a page of another length than 1,920 and a
+/* The row list made anew, whatever it held. Answers 0, or 7 for a list that is not 48 numbers long, a page of another length than the state's and a
  * state that is not possible; then the list is left as it was. The page is only read. */
 uint8_t wy50_rebuild_rows(const uint16_t *page, size_t page_len, uint16_t *rows, size_t rows_len, wy50_state state);
 
-/* Saved set-ups: tab stops, features, field attributes, keys and labels, the last eight by number, from 1. The lent store is 8,714 bytes, all 0 at
- * first, and a file of these bytes keeps it. A set-up is kept as the terminal's own commands: fed to a terminal of the same personality just
- * powered on they give those settings.
+/* The page and the state at the other width: 132 columns from 80, 80 from 132. The converted page is put into the target, which has the other width's
+ * length; the old page stays as it is. A cell keeps its row and column. Widening puts unprotected nulls at each row's end; narrowing leaves out what is
+ * beyond column 80, which must be 0.
  *
- * A save writes its own place and the last number, nothing else. A restore gives the state those settings; cursors, segments, modes, bells, the
- * sequence or the send under way, the host message and the shifted line stay as they are, and so does the store. Either is refused with 7 for a
- * state that is not possible, then with 9 for a store that no saves could have left, also one of another length; then a save with 11 after number
- * 65,535, and a restore with 10 for a number that is not one of the last eight saved. What is refused changes nothing, and a refused restore gives
- * the state back as it came. Each call runs all eight set-ups through a terminal to be sure of the store. */
+ *     answer 0   page and state are at the other width: go on with the target and the state
+ *     answer 4   narrowing would lose a cell: some cell beyond column 80 is not 0
+ *     answer 6   a send is under way: let it go on to its end first
+ *     answer 7   the page is not as long as the state's width has it, the state is not possible, or the target is not as long as the other width has it
+ *
+ * In this order: 7, 6, 4. What is refused changes nothing, the target neither, and gives the numbers of the state back as they came.
+ *
+ * The page is then one segment, as after ESC x 0: both cursors go to cell 0, and the active one settles on the new page. Tab stops beyond the new width
+ * are cleared. The rest of the state is as it was: modes, settings, texts, the sequence under way, and the wish, which the call does not look at. A row
+ * list is to be rebuilt.
+ *
+ * A program that follows the wish, with two pages:
+ *
+ *     if (state.wish != state.screen.wide) {
+ *         wy50_convert_result c = state.screen.wide ? wy50_convert(wide, WY50_WIDE_CELLS, state, narrow, WY50_CELLS)
+ *                                                   : wy50_convert(narrow, WY50_CELLS, state, wide, WY50_WIDE_CELLS);
+ *         state = c.state;
+ *     }
+ *
+ * Where that is refused it stays at its width, and may try again after the next run. */
+wy50_convert_result wy50_convert(const uint16_t *page, size_t page_len, wy50_state state, uint16_t *target, size_t target_len);
+
+/* Saved set-ups: tab stops of columns 1 to 80, features, field attributes, keys and labels, the last eight by number, from 1. The lent store is 8,714
+ * bytes, all 0 at first, and a file of these bytes keeps it. A set-up is kept as the terminal's own commands: fed to a terminal of the same personality
+ * just powered on they give those settings.
+ *
+ * A save writes its own place and the last number, nothing else. A restore gives the state those settings; width and wish, tab stops beyond column 80,
+ * cursors, segments, modes, bells, the sequence or the send under way, the host message and the shifted line stay as they are, and so does the store.
+ * Either is refused with 7 for a state that is not possible, then with 9 for a store that no saves could have left, also one of another length; then a
+ * save with 11 after number 65,535, and a restore with 10 for a number that is not one of the last eight saved. What is refused changes nothing, and a
+ * refused restore gives the state back as it came. Each call runs all eight set-ups through a terminal to be sure of the store. */
 wy50_save_result wy50_save(wy50_state state, uint8_t *store, size_t store_len);
 wy50_restore_result wy50_restore(wy50_state state, const uint8_t *store, size_t store_len, uint16_t number);
 
@@ -455,7 +499,7 @@ wy50_text_result wy50_row_text(const uint16_t *page, size_t page_len, size_t row
 wy50_position wy50_position_of(size_t page_len, size_t cell);
 size_t wy50_cell_at(size_t page_len, size_t row, size_t column);
 
-/* The row and column of the active segment's cursor, in the page; 3 for a cursor outside it, which no possible state has. */
+/* The row and column of the active segment's cursor, in a page of the state's width; 3 for a cursor outside it, which no possible state has. */
 wy50_position wy50_cursor(wy50_state state);
 
 #ifdef __cplusplus

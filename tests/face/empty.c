@@ -1,4 +1,4 @@
-/* Checks that NULL goes with a count of 0 in every call: page, row list, input and reply room, one by one and together. Each call gives what it gives
+/* Checks that NULL goes with a count of 0 in every call: page, target, row list, input and reply room, one by one and together. Each call gives what it gives
  * with another pointer and 0. As C++ the pointers are those of an empty std::vector. Prints one line for each part, and fails by its status. */
 #include "wy50.h"
 
@@ -16,7 +16,7 @@ static std::vector<uint8_t> no_bytes;
 #define NO_BYTES NULL
 #endif
 
-static uint16_t page[WY50_CELLS], before[WY50_CELLS], rows[WY50_ROW_NUMBERS];
+static uint16_t page[WY50_CELLS], before[WY50_CELLS], wide[WY50_WIDE_CELLS], rows[WY50_ROW_NUMBERS];
 static uint8_t reply[WY50_LONGEST_REPLY];
 static wy50_state state;
 static int failures, part_failures;
@@ -135,6 +135,7 @@ static void no_page(void)
     wy50_next_result n;
     wy50_save_result s;
     wy50_restore_result y;
+    wy50_convert_result c;
     memcpy(list, rows, sizeof list);
     memset(reply, 0x55, sizeof reply);
     x = wy50_step(NO_NUMBERS, 0, state, 5, reply, sizeof reply);
@@ -171,6 +172,11 @@ static void no_page(void)
     CHECK(s.answer == wy50_save(state, reply, 0).answer && s.answer != WY50_DONE && s.number == 0);
     y = wy50_restore(state, NO_BYTES, 0, 1);
     CHECK(y.answer == s.answer && same(&y.state, &state));
+    c = wy50_convert(NO_NUMBERS, 0, state, wide, WY50_WIDE_CELLS);
+    CHECK(c.answer == WY50_BAD_CALL && same(&c.state, &state) && wide[0] == 0);
+    c = wy50_convert(page, WY50_CELLS, state, NO_NUMBERS, 0);
+    CHECK(c.answer == WY50_BAD_CALL && same(&c.state, &state));
+    CHECK(wy50_convert(NO_NUMBERS, 0, state, NO_NUMBERS, 0).answer == WY50_BAD_CALL);
     CHECK(wy50_next_field(NO_NUMBERS, 0, 0).length == 0);
     CHECK(wy50_field_text(NO_NUMBERS, 0, 0, 1, NO_BYTES, 0).answer == WY50_BAD_CALL && wy50_row_text(NO_NUMBERS, 0, 0, 1, NO_BYTES, 0).answer == WY50_BAD_CALL);
     CHECK(wy50_row_text(page, WY50_CELLS, 0, 0, NO_BYTES, 0).answer == WY50_NO_ROOM);

@@ -73,28 +73,35 @@ static void layout(void)
 {
     CHECK(sizeof(wy50_key) == 9);
     CHECK(sizeof(wy50_message) == 47);
-    CHECK(sizeof(wy50_screen) == 6);
+    CHECK(sizeof(wy50_screen) == 8);
     CHECK(sizeof(wy50_modes) == 6);
     CHECK(sizeof(wy50_sequence) == 6);
     CHECK(sizeof(wy50_sending) == 4);
-    CHECK(sizeof(wy50_state) == 642);
-    CHECK(offsetof(wy50_state, modes) == 6);
-    CHECK(offsetof(wy50_state, bells) == 12);
-    CHECK(offsetof(wy50_state, personality) == 14);
-    CHECK(offsetof(wy50_state, remembered) == 15);
-    CHECK(offsetof(wy50_state, sequence) == 16);
-    CHECK(offsetof(wy50_state, sending) == 22);
-    CHECK(offsetof(wy50_state, gathered) == 26);
-    CHECK(offsetof(wy50_state, tabs) == 72);
-    CHECK(offsetof(wy50_state, attributes) == 152);
-    CHECK(offsetof(wy50_state, features) == 156);
-    CHECK(offsetof(wy50_state, keys) == 161);
-    CHECK(offsetof(wy50_state, labels) == 449);
-    CHECK(offsetof(wy50_state, message) == 593);
-    CHECK(offsetof(wy50_state, shifted) == 640);
-    CHECK(sizeof(wy50_power_on_result) == 644);
-    CHECK(sizeof(wy50_step_result) == 664);
-    CHECK(sizeof(wy50_run_result) == 680);
+    CHECK(sizeof(wy50_state) == 698);
+    CHECK(offsetof(wy50_state, screen) == 0);
+    CHECK(offsetof(wy50_screen, wide) == 0);
+    CHECK(offsetof(wy50_screen, active) == 2);
+    CHECK(offsetof(wy50_screen, split) == 3);
+    CHECK(offsetof(wy50_screen, cursor0) == 4);
+    CHECK(offsetof(wy50_screen, cursor1) == 6);
+    CHECK(offsetof(wy50_state, modes) == 8);
+    CHECK(offsetof(wy50_state, bells) == 14);
+    CHECK(offsetof(wy50_state, personality) == 16);
+    CHECK(offsetof(wy50_state, remembered) == 17);
+    CHECK(offsetof(wy50_state, sequence) == 18);
+    CHECK(offsetof(wy50_state, sending) == 24);
+    CHECK(offsetof(wy50_state, gathered) == 28);
+    CHECK(offsetof(wy50_state, tabs) == 74);
+    CHECK(offsetof(wy50_state, attributes) == 206);
+    CHECK(offsetof(wy50_state, features) == 210);
+    CHECK(offsetof(wy50_state, keys) == 215);
+    CHECK(offsetof(wy50_state, labels) == 503);
+    CHECK(offsetof(wy50_state, message) == 647);
+    CHECK(offsetof(wy50_state, shifted) == 694);
+    CHECK(offsetof(wy50_state, wish) == 696);
+    CHECK(sizeof(wy50_power_on_result) == 700);
+    CHECK(sizeof(wy50_step_result) == 720);
+    CHECK(sizeof(wy50_run_result) == 736);
     CHECK(sizeof(wy50_press_result) == 16);
     CHECK(WY50_CELLS == WY50_ROWS * WY50_COLUMNS && WY50_ROW_NUMBERS == 2 * WY50_ROWS);
     part("sizes and offsets");
@@ -161,6 +168,8 @@ static void members(void)
     EXPECT("\033`A", expected.features[WY50_PROTECTED_LOOK] = 'A');
     EXPECT("\033`8", expected.features[WY50_SCREEN_SHOWN] = '8');
     EXPECT("\033`<", expected.features[WY50_SCROLLING] = '<');
+    EXPECT("\033`;", expected.wish = 1);
+    EXPECT("\033`;\033`:", (void)0);
     EXPECT("\033z@first\177", set_key(&expected.keys[0], "first"));
     EXPECT("\033zonine byte\177", (void)0);
     EXPECT("\033zoeightlng\177", set_key(&expected.keys[31], "eightlng"));
@@ -227,6 +236,7 @@ static void round_trip(void)
     state.message.len = 45;
     memset(state.message.bytes, 0x7e, WY50_MESSAGE_BYTES);
     state.shifted = 1;
+    state.wish = 1;
     for (i = 0; i < WY50_COLUMNS; i++)
         state.tabs[i] = (uint8_t)(i % 3 == 1);
     for (i = 0; i < 4; i++)
@@ -412,7 +422,7 @@ static void sends(void)
 {
     static const char host[] = "\033)Roast\033(dark\037\033)Date\033(24 bags\0334a\0335b\0336c\0337d\033 e\033?f\033/g\033bh\005i\033Mj\033=\x37\x6f\0335k\0337";
     static uint16_t page_after[WY50_CELLS];
-    static const size_t rooms[] = {1, 2, 3, 7, 64, 80, 81, 1943, WY50_LONGEST_REPLY};
+    static const size_t rooms[] = {1, 2, 3, 7, 64, 80, 81, 1943, 1944, WY50_LONGEST_REPLY};
     wy50_state after;
     size_t i, n;
 
@@ -433,7 +443,7 @@ static void sends(void)
     n = through(host, sizeof host - 1, sizeof whole, whole);
     memcpy(page_after, page, sizeof page);
     after = state;
-    CHECK(n > 2 * WY50_LONGEST_REPLY);
+    CHECK(n > 2 * 1944);
     for (i = 0; i < sizeof rooms / sizeof *rooms; i++) {
         CHECK(through(host, sizeof host - 1, rooms[i], joined) == n && memcmp(joined, whole, n) == 0);
         CHECK(memcmp(page, page_after, sizeof page) == 0 && same(&state, &after));
@@ -674,7 +684,7 @@ static void impossible(void)
     REFUSED(state.modes.autoscroll = 255);
     REFUSED(state.modes.locked = 2);
     REFUSED(state.modes.local_edit = 128);
-    for (i = 0; i < WY50_COLUMNS; i++)
+    for (i = 0; i < WY50_WIDE_COLUMNS; i++)
         REFUSED(state.tabs[i] = (uint8_t)(2 + i));
     REFUSED(state.bells = 256);
     REFUSED(state.sequence.kind = 25);
@@ -709,12 +719,18 @@ static void impossible(void)
     REFUSED(send_is('b', WY50_SENT_BYTES, 257));
     REFUSED(state.shifted = 2);
     REFUSED(state.shifted = 256);
+    REFUSED(state.screen.wide = 2);
+    REFUSED(state.screen.wide = 256);
+    REFUSED(state.wish = 2);
+    REFUSED(state.wish = 256);
     REFUSED(state.personality = 0);
     REFUSED(state.personality = 1);
     REFUSED(state.personality = 51);
     REFUSED(state.personality = 255);
     part("numbers that name no state: 7, and given back as they came");
 
+    REFUSED(state.screen.wide = 1);
+    REFUSED(state.tabs[WY50_COLUMNS] = 1);
     REFUSED(state.screen.active = 1);
     REFUSED(state.screen.split = 1);
     REFUSED((state.screen.split = 25, state.screen.cursor1 = 1919));
@@ -826,7 +842,7 @@ static void features(void)
         char bytes[3] = "\033`";
         power_on();
         bytes[2] = (char)i;
-        taken += feed(bytes, 3) == WY50_DONE && i != ':'; /* which changes nothing */
+        taken += feed(bytes, 3) == WY50_DONE && i != ':' && i != ';'; /* the wish for a width */
     }
     CHECK(named == taken);
     part("the codes of the features, by name, and no other code");

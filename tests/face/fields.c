@@ -5,9 +5,7 @@
 #include <stdio.h>
 #include <string.h>
 
-enum { WIDE_CELLS = 3168, MOST = WIDE_CELLS };
-
-static uint16_t page[MOST + 1];
+static uint16_t page[WY50_WIDE_CELLS + 1];
 static uint8_t text[WY50_LONGEST_TEXT + 8], expected[WY50_LONGEST_TEXT];
 static int failures, part_failures;
 
@@ -150,8 +148,8 @@ static void pages(void)
     }
     part("fields, rows and places of 80 columns");
     for (i = 0; i < 40; i++) {
-        make_page(WIDE_CELLS);
-        read_page(WIDE_CELLS);
+        make_page(WY50_WIDE_CELLS);
+        read_page(WY50_WIDE_CELLS);
     }
     part("fields, rows and places of 132 columns");
 }
@@ -174,10 +172,10 @@ static void refusals(void)
     part("a page of another length: 7, and no field");
     at = wy50_position_of(WY50_CELLS, WY50_CELLS);
     CHECK(at.answer == WY50_BAD_ARGUMENT && at.row == 0 && at.column == 0);
-    CHECK(wy50_position_of(WIDE_CELLS, (size_t)-1).answer == WY50_BAD_ARGUMENT);
-    CHECK(wy50_cell_at(WY50_CELLS, 23, 79) == 1919 && wy50_cell_at(WIDE_CELLS, 23, 131) == 3167);
+    CHECK(wy50_position_of(WY50_WIDE_CELLS, (size_t)-1).answer == WY50_BAD_ARGUMENT);
+    CHECK(wy50_cell_at(WY50_CELLS, 23, 79) == 1919 && wy50_cell_at(WY50_WIDE_CELLS, 23, 131) == 3167);
     CHECK(wy50_cell_at(WY50_CELLS, 24, 0) == WY50_CELLS && wy50_cell_at(WY50_CELLS, 0, 80) == WY50_CELLS);
-    CHECK(wy50_cell_at(WIDE_CELLS, 0, 132) == WIDE_CELLS && wy50_cell_at(WIDE_CELLS, (size_t)-1, (size_t)-1) == WIDE_CELLS);
+    CHECK(wy50_cell_at(WY50_WIDE_CELLS, 0, 132) == WY50_WIDE_CELLS && wy50_cell_at(WY50_WIDE_CELLS, (size_t)-1, (size_t)-1) == WY50_WIDE_CELLS);
     part("places outside a page");
 }
 
@@ -228,7 +226,12 @@ static void cursors(void)
     state.screen.cursor1 = 1920;
     at = wy50_cursor(state);
     CHECK(at.answer == WY50_BAD_ARGUMENT && at.row == 0 && at.column == 0);
-    part("the cursor as row and column");
+    state.screen.wide = 1;
+    at = wy50_cursor(state);
+    CHECK(at.answer == 0 && at.row == 14 && at.column == 72);
+    state.screen.cursor1 = WY50_WIDE_CELLS;
+    CHECK(wy50_cursor(state).answer == WY50_BAD_ARGUMENT);
+    part("the cursor as row and column, by the state's width");
 }
 
 int main(void)

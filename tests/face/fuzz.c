@@ -1,5 +1,5 @@
-/* Calls the library with random pages, states, bytes, rooms, row lists and stores, and checks what holds of every call. Compiled with the address and undefined
- * behaviour sanitizers. Each buffer lies against a page of memory that may not be touched, before it or behind it by turns, and has guard
+/* Calls the library with random pages of either width, states, bytes, rooms, row lists, stores and conversions, and checks what holds of every call.
+ * Compiled with the address and undefined behaviour sanitizers. Each buffer lies against a page of memory that may not be touched, before it or behind it by turns, and has guard
  * bytes on its other side. One of no bytes is often NULL.
  *
  *     fuzz SECONDS [SEED]
@@ -14,9 +14,9 @@
 #include <time.h>
 #include <unistd.h>
 
-enum { MOST_ROOM = 2000, MOST_INPUT = 600, MOST_PAGE = 2100, MOST_ROWS = 60, MOST_STORE = 9000, GUARD = 64 };
+enum { MOST_ROOM = 3300, MOST_INPUT = 600, MOST_PAGE = 3300, MOST_ROWS = 60, MOST_STORE = 9000, GUARD = 64 };
 
-static uint64_t seed, calls, bytes, turns, answered_7, replies, lists, wrong_lists, nulls, saves;
+static uint64_t seed, calls, bytes, turns, answered_7, replies, lists, wrong_lists, nulls, saves, widened, narrowed_pages;
 
 static uint64_t next(void)
 {
@@ -101,7 +101,7 @@ static void untouched(const buffer *b)
 static size_t host(uint8_t *to, size_t most)
 {
     static const char after[] = " !\"#&'()*+,-./01245674:;=?AEFGHIJKMNOQRTVWY]`abijklqrtxyz{}";
-    static const char *const whole[] = {"\033=5A", "\033-15A", "\033-0! ", "\033a12R34C", "\033a24R80C", "\033x1,", "\033x0", "\033G4", "\033H5", "\033!s",
+    static const char *const whole[] = {"\033=5A", "\033-15A", "\033-0! ", "\033a12R34C", "\033a24R80C", "\033a24R132C", "\033a1R99C\0331", "\033`;", "\033`:", "\033*", "\033x1,", "\033x0", "\033G4", "\033H5", "\033!s",
         "\033.x", "\033`0", "\033A1t", "\033z@key\177", "\033Fdesk open\r", "\033F\r", "\033z0Send\r", "\033zPUpper\r", "\033zP\r", "\033z\177", "\033z1123456789\r", "\033zoeightlng\177", "\033zA123456789\177", "\033&", "\033)", "\033(", "\033'", "\0335", "\0337", "\033,", "\033V"};
     size_t n = below(most + 1), i = 0;
     while (i < n) {
@@ -125,13 +125,24 @@ static size_t host(uint8_t *to, size_t most)
     return n;
 }
 
+/* How wide the page of a state is, and how many cells it has. */
+static size_t columns(const wy50_state *x)
+{
+    return x->screen.wide == 1 ? WY50_WIDE_COLUMNS : WY50_COLUMNS;
+}
+
+static size_t cells_of(const wy50_state *x)
+{
+    return WY50_ROWS * columns(x);
+}
+
 /* A send by its numbers, mostly with no sequence. */
 static void set_send(wy50_state *x)
 {
     static const uint8_t commands[] = {0, 5, ' ', '/', '4', '5', '6', '7', '8', '?', 'M', 'b'};
     x->sending.command = commands[below(sizeof commands)];
     x->sending.kind = (uint8_t)below(5);
-    x->sending.place = (uint16_t)(below(2) ? below(9) : below(4) ? below(24) * WY50_COLUMNS : below(WY50_CELLS));
+    x->sending.place = (uint16_t)(below(2) ? below(9) : below(4) ? below(24) * columns(x) : below(cells_of(x)));
     if (below(4))
         memset(&x->sequence, 0, sizeof x->sequence);
 }
@@ -149,9 +160,15 @@ static wy50_state any_state(wy50_state last)
     } else if (k < 12) {
         set_send(&last);
         return last;
+    } else if (k < 13) {
+        /* the other width, often with its number of stops */
+        last.screen.wide ^= 1;
+        if (below(2))
+            memset(last.tabs + WY50_COLUMNS, 0, sizeof last.tabs - WY50_COLUMNS);
+        return last;
     } else if (k < 14) {
         for (i = 0; i <= below(4); i++)
-            raw[below(33)] = (uint8_t)below(32);
+            raw[below(35)] = (uint8_t)below(32);
     } else {
         for (i = 0; i < sizeof raw; i++)
             raw[i] = (uint8_t)next();
@@ -289,13 +306,13 @@ static uint8_t *lent_reply;
 static size_t rows_len;
 
 /* The row list of a page, counted here. */
-static void count_rows(uint16_t *list, const uint16_t *page, int protect)
+static void count_rows(uint16_t *list, const uint16_t *page, const wy50_state *x)
 {
-    int row, column;
+    size_t row, column;
     for (row = 0; row < WY50_ROWS; row++) {
         list[2 * row] = list[2 * row + 1] = 0;
-        for (column = WY50_COLUMNS; column > 0; column--) {
-            if (!protect || page[row * WY50_COLUMNS + column - 1] / 128 % 2 == 0) {
+        for (column = columns(x); column > 0; column--) {
+            if (!x->modes.protect || page[row * columns(x) + column - 1] / 128 % 2 == 0) {
                 list[2 * row]++;
                 list[2 * row + 1] = (uint16_t)column;
             }
@@ -313,7 +330,7 @@ static int lend(size_t cells, size_t room, const wy50_state *x)
     lent_reply = (uint8_t *)place(&lent_reply_buffer, room);
     copy(lent_page, page_before, cells * sizeof *lent_page);
     copy(lent_reply, room_before, room);
-    count_rows(right, page_before, x->modes.protect);
+    count_rows(right, page_before, x);
     rows_len = k == 0 ? below(2) * below(MOST_ROWS + 1) : WY50_ROW_NUMBERS;
     rows = (uint16_t *)place(&rows_buffer, rows_len * sizeof *rows);
     for (i = 0; i < rows_len; i++)
@@ -334,7 +351,7 @@ static void lent(size_t cells, const uint16_t *page, size_t room, const uint8_t 
     expect(equal(lent_page, page, cells * sizeof *page), "a row list does not change the page");
     expect(equal(lent_reply, reply, room), "a row list does not change the reply");
     if (answer != WY50_BAD_CALL)
-        count_rows(rows_before, lent_page, x->modes.protect);
+        count_rows(rows_before, lent_page, x);
     expect(equal(rows, rows_before, rows_len * sizeof *rows), "the row list is right, and 7 leaves it");
     untouched(&lent_page_buffer);
     untouched(&lent_reply_buffer);
@@ -428,19 +445,19 @@ static int same_texts(const wy50_key *a, const wy50_key *b, size_t n)
 
 static int same_settings(const wy50_state *a, const wy50_state *b)
 {
-    return memcmp(a->tabs, b->tabs, sizeof a->tabs) == 0 && memcmp(a->features, b->features, sizeof a->features) == 0
+    return memcmp(a->tabs, b->tabs, WY50_COLUMNS) == 0 && memcmp(a->features, b->features, sizeof a->features) == 0
         && memcmp(a->attributes, b->attributes, sizeof a->attributes) == 0 && same_texts(a->keys, b->keys, WY50_KEYS) && same_texts(a->labels, b->labels, WY50_LABELS);
 }
 
 /* A save of x and a restore of its number into the state that the last calls left; or both refused, in a store that is off or of another length. */
 static wy50_state kept_setups(wy50_state last, wy50_state x)
 {
-    static uint16_t any_page[WY50_CELLS];
+    static uint16_t any_page[WY50_WIDE_CELLS];
     static uint8_t store_before[MOST_STORE];
     uint8_t none = 0;
     size_t i, k = below(12), len = k ? WY50_STORE_BYTES : below(MOST_STORE + 1), place_at;
     uint8_t *store = (uint8_t *)place(&store_buffer, len);
-    int possible = wy50_step(any_page, WY50_CELLS, x, 0xe9, &none, 0).answer != WY50_BAD_CALL;
+    int possible = wy50_step(any_page, cells_of(&x), x, 0xe9, &none, 0).answer != WY50_BAD_CALL;
     uint16_t number;
     wy50_state other;
     wy50_save_result s;
@@ -449,12 +466,12 @@ static wy50_state kept_setups(wy50_state last, wy50_state x)
         store[i] = i < WY50_STORE_BYTES ? kept_store[i] : 0;
     if (k == 1)
         store[below(3) ? below(300) : below(len)] ^= (uint8_t)(1 << below(8));
-    memcpy(store_before, store, len);
+    copy(store_before, store, len);
     s = wy50_save(x, store, len);
     untouched(&store_buffer);
     calls++;
     if (s.answer != WY50_DONE) {
-        expect(s.number == 0 && memcmp(store, store_before, len) == 0, "a refused save gives no number and writes nothing");
+        expect(s.number == 0 && equal(store, store_before, len), "a refused save gives no number and writes nothing");
         expect(possible ? s.answer == WY50_BAD_STORE || s.answer == WY50_FULL : s.answer == WY50_BAD_CALL, "a save judges the state first");
         expect(!possible || len != WY50_STORE_BYTES || memcmp(store, kept_store, len) != 0 || (store[0] == 255 && store[1] == 255), "a store that saves left is taken");
         r = wy50_restore(last, store, len, 0);
@@ -477,7 +494,7 @@ static wy50_state kept_setups(wy50_state last, wy50_state x)
     r = wy50_restore(last, store, len, number);
     expect(r.answer == WY50_DONE && same_settings(&r.state, &x), "a restore gives the settings that were saved");
     other = r.state;
-    memcpy(other.tabs, last.tabs, sizeof other.tabs);
+    memcpy(other.tabs, last.tabs, WY50_COLUMNS);
     memcpy(other.features, last.features, sizeof other.features);
     memcpy(other.attributes, last.attributes, sizeof other.attributes);
     memcpy(other.keys, last.keys, sizeof other.keys);
@@ -489,28 +506,92 @@ static wy50_state kept_setups(wy50_state last, wy50_state x)
     return below(2) ? r.state : last;
 }
 
+static buffer target_buffer;
+static uint16_t target_before[MOST_PAGE];
+
+/* The page and the state that a conversion should give, reckoned here: the answer, 7 judged by a step. */
+static int reckoned(const uint16_t *page, size_t cells, wy50_state *x, uint16_t *target, size_t target_len)
+{
+    size_t i, from = columns(x), to = from == WY50_COLUMNS ? WY50_WIDE_COLUMNS : WY50_COLUMNS;
+    copy(page_stepped, page, cells * sizeof *page);
+    if (wy50_step(page_stepped, cells, *x, 0xe9, NULL, 0).answer == WY50_BAD_CALL || target_len != WY50_ROWS * to)
+        return WY50_BAD_CALL;
+    if (x->sending.command != 0)
+        return WY50_NO_ROOM;
+    for (i = 0; i < cells; i++)
+        if (i % from >= to && page[i] != 0)
+            return WY50_BARRED;
+    for (i = 0; i < target_len; i++)
+        target[i] = i % to < from ? page[i / to * from + i % to] : 0;
+    *x = tidied(*x);
+    x->screen.wide ^= 1;
+    x->screen.active = x->screen.split = 0;
+    x->screen.cursor0 = x->screen.cursor1 = 0;
+    for (i = 0; x->modes.protect && i < target_len; i++) {
+        if (target[i] / 128 % 2 == 0) {
+            x->screen.cursor0 = (uint16_t)i;
+            break;
+        }
+    }
+    memset(x->tabs + to, 0, sizeof x->tabs - to);
+    return WY50_DONE;
+}
+
+/* A conversion of the page lent; the state and, in `kept`, the page that go on. */
+static wy50_state converts(wy50_state last, wy50_state x, const uint16_t *page, size_t cells, uint16_t *kept)
+{
+    wy50_state expected = x;
+    size_t i, k = below(16), len = k == 0 ? below(MOST_PAGE + 1) : k == 1 ? cells_of(&x) : WY50_CELLS + WY50_WIDE_CELLS - cells_of(&x);
+    uint16_t *target = (uint16_t *)place(&target_buffer, len * sizeof *target);
+    wy50_convert_result r;
+    int answer;
+    for (i = 0; i < len; i++)
+        target[i] = target_before[i] = (uint16_t)next();
+    answer = reckoned(page, cells, &expected, target_before, len);
+    r = wy50_convert(page, cells, x, target, len);
+    calls++;
+    expect(r.answer == answer, "a conversion answers 7, 6, 4 or 0 as it should");
+    expect(same(&r.state, &expected), "a conversion gives the state that it should, and a refused one that which came");
+    expect(equal(target, target_before, len * sizeof *target), "a conversion gives the page that it should, and a refused one writes nothing");
+    expect(equal(page, page_before, cells * sizeof *page), "a conversion leaves the old page");
+    untouched(&target_buffer);
+    answered_7 += answer == WY50_BAD_CALL;
+    if (answer != WY50_DONE)
+        return last;
+    *(r.state.screen.wide ? &widened : &narrowed_pages) += 1;
+    memcpy(kept, target, len * sizeof *kept);
+    return r.state;
+}
+
 static wy50_state turn(wy50_state last, uint16_t *kept)
 {
-    size_t i, cells = below(20) ? WY50_CELLS : below(2) * below(MOST_PAGE + 1);
+    wy50_state x = any_state(last);
+    size_t i, cells = below(20) ? cells_of(&x) : below(3) ? WY50_CELLS + WY50_WIDE_CELLS - cells_of(&x) : below(2) * below(MOST_PAGE + 1);
     size_t room = below(3) ? below(MOST_ROOM + 1) : below(12);
     uint16_t *page = (uint16_t *)place(&page_buffer, cells * sizeof *page);
     uint8_t *reply = (uint8_t *)place(&reply_buffer, room);
-    wy50_state x = any_state(last);
+    int converted = 0;
     size_t n;
     uint8_t *input;
 
     for (i = 0; i < cells; i++)
-        page[i] = i < WY50_CELLS ? kept[i] : (uint16_t)next();
+        page[i] = i < cells_of(&last) ? kept[i] : (uint16_t)next();
     if (below(8) == 0) {
         for (i = 0; i < cells; i++)
             page[i] = (uint16_t)(below(4) ? next() : 32 + 128 * below(2));
+    }
+    if (below(4) == 0) {
+        /* nothing beyond column 80 */
+        for (i = 0; i < cells; i++)
+            if (i % columns(&x) >= WY50_COLUMNS)
+                page[i] = 0;
     }
     for (i = 0; i < room; i++)
         reply[i] = (uint8_t)next();
     copy(page_before, page, cells * sizeof *page);
     copy(room_before, reply, room);
 
-    switch (below(5)) {
+    switch (below(6)) {
     case 0: {
         uint8_t b = (uint8_t)(below(4) ? below(128) : next());
         wy50_step_result r = wy50_step(page, cells, x, b, reply, room);
@@ -541,6 +622,11 @@ static wy50_state turn(wy50_state last, uint16_t *kept)
     }
     case 2:
         rebuilt(cells, x);
+        break;
+    case 3:
+        n = (size_t)(widened + narrowed_pages);
+        last = converts(last, x, page, cells, kept);
+        converted = n != widened + narrowed_pages;
         break;
     default: {
         uint8_t text[MOST_INPUT];
@@ -576,15 +662,15 @@ static wy50_state turn(wy50_state last, uint16_t *kept)
     untouched(&page_buffer);
     untouched(&reply_buffer);
     calls++;
-    if (cells == WY50_CELLS)
-        memcpy(kept, page, sizeof *kept * WY50_CELLS);
-    expect(wy50_step(kept, WY50_CELLS, last, 0xe9, reply, 0).answer == (last.sending.command ? WY50_NO_ROOM : WY50_HIGH_BYTE), "a good state stays good");
+    if (cells == cells_of(&last) && !converted)
+        memcpy(kept, page, sizeof *kept * cells);
+    expect(wy50_step(kept, cells_of(&last), last, 0xe9, reply, 0).answer == (last.sending.command ? WY50_NO_ROOM : WY50_HIGH_BYTE), "a good state stays good");
     return last;
 }
 
 int main(int argc, char **argv)
 {
-    static uint16_t kept[WY50_CELLS];
+    static uint16_t kept[WY50_WIDE_CELLS];
     wy50_state last;
     double seconds = argc > 1 ? atof(argv[1]) : 10;
     struct timespec from, to;
@@ -598,6 +684,7 @@ int main(int argc, char **argv)
     lent_reply_buffer = make(MOST_ROOM);
     rows_buffer = make(MOST_ROWS * sizeof *kept);
     store_buffer = make(MOST_STORE);
+    target_buffer = make(MOST_PAGE * sizeof *kept);
     last = powered_on(kept);
     do {
         if (turns % 5000 == 0)
@@ -606,9 +693,9 @@ int main(int argc, char **argv)
         turns++;
         clock_gettime(CLOCK_MONOTONIC, &to);
     } while ((double)(to.tv_sec - from.tv_sec) + 1e-9 * (double)(to.tv_nsec - from.tv_nsec) < seconds);
-    printf("fuzz: nothing found in %.0f seconds: %llu turns (%llu answered 7), %llu row lists (%llu wrong), %llu NULLs, %llu saves, %llu calls, %llu host bytes, %llu reply bytes (seed %llu)\n",
+    printf("fuzz: nothing found in %.0f seconds: %llu turns (%llu answered 7), %llu row lists (%llu wrong), %llu NULLs, %llu saves, %llu pages widened and %llu narrowed, %llu calls, %llu host bytes, %llu reply bytes (seed %llu)\n",
         seconds, (unsigned long long)turns, (unsigned long long)answered_7, (unsigned long long)lists, (unsigned long long)wrong_lists,
-        (unsigned long long)nulls, (unsigned long long)saves, (unsigned long long)calls, (unsigned long long)bytes, (unsigned long long)replies,
+        (unsigned long long)nulls, (unsigned long long)saves, (unsigned long long)widened, (unsigned long long)narrowed_pages, (unsigned long long)calls, (unsigned long long)bytes, (unsigned long long)replies,
         (unsigned long long)seed);
     return 0;
 }

@@ -123,7 +123,7 @@ int main(void)
 
     /* the longest set-ups, and each of their bytes off by one: refused and not written, or bytes of another set-up */
     full = on;
-    memset(full.tabs, 1, sizeof full.tabs);
+    memset(full.tabs, 1, WY50_COLUMNS);
     for (n = 0; n < WY50_KEYS; n++) {
         full.keys[n].len = WY50_KEY_BYTES;
         memset(full.keys[n].bytes, 'k', WY50_KEY_BYTES);
