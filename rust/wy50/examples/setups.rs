@@ -75,7 +75,7 @@ fn fed() -> Result<Terminal, Box<dyn Error>> {
 
 fn show(terminal: &Terminal) {
     let state = terminal.state();
-    println!("  tabs       {}", ruler(&state.tabs));
+    println!("  tabs       {}", ruler(&state.tabs[..COLUMNS]));
     println!("  features   {}", state.features.map(|code| code as char).iter().collect::<String>());
     println!("  attributes {}", state.attributes.map(|code| format!("{code:02x}")).join(" "));
     for (place, key) in (0..).zip(&state.keys).filter(|(_, key)| key.len != 0) {
@@ -86,8 +86,8 @@ fn show(terminal: &Terminal) {
     }
 }
 
-// A T in each column that has a stop.
-fn ruler(tabs: &[u8; COLUMNS]) -> String {
+// A T in each column that has a stop; a set-up holds columns 1 to 80.
+fn ruler(tabs: &[u8]) -> String {
     tabs.iter().map(|&stop| if stop == 0 { '-' } else { 'T' }).collect()
 }
 

@@ -17,7 +17,7 @@ pub enum Answer {
     // 5 is unused.
     /// There is no room while a reply is due, or a key's bytes do not fit or would come into a send; nothing changed, the byte may come again.
     NoRoom = 6,
-    /// The state is not possible; nothing changed.
+    /// The state is not possible, or not of the page's width; nothing changed.
     BadCall = 7,
     /// A key is pressed while the keyboard is locked; nothing changed.
     Locked = 8,

@@ -1,7 +1,7 @@
 //! What is read of a page: fields, texts and places. Each is asked of the library.
 
 use crate::cell::write_cells;
-use crate::{sys, Cell, CELLS, LONGEST_TEXT};
+use crate::{sys, Cell, LONGEST_TEXT};
 use core::fmt;
 use core::ops::Deref;
 
@@ -13,16 +13,6 @@ pub struct Position {
 }
 
 impl Position {
-    /// Where a cell of the page lies; none is outside it.
-    pub fn of(cell: usize) -> Option<Self> {
-        Position::at(sys::position_of(CELLS, cell))
-    }
-
-    /// The cell at this place, if there is one.
-    pub fn cell(self) -> Option<usize> {
-        Some(sys::cell_at(CELLS, self.row, self.column)).filter(|&cell| cell < CELLS)
-    }
-
     pub(crate) fn at(raw: sys::RawPosition) -> Option<Self> {
         (raw.answer == 0).then_some(Position { row: raw.row, column: raw.column })
     }
@@ -79,7 +69,7 @@ impl fmt::Debug for Text {
 /// A field: a longest stretch of cells within one row that are not marked protected. It displays at its full width, as a send gives it.
 #[derive(Clone, Copy, PartialEq, Eq)]
 pub struct Field<'a> {
-    page: &'a [u16; CELLS],
+    page: &'a [u16],
     start: usize,
     length: usize,
     position: Position,
@@ -130,12 +120,12 @@ impl fmt::Debug for Field<'_> {
 /// The fields of a page in reading order.
 #[derive(Clone)]
 pub struct Fields<'a> {
-    page: &'a [u16; CELLS],
+    page: &'a [u16],
     from: usize,
 }
 
 impl<'a> Fields<'a> {
-    pub(crate) fn new(page: &'a [u16; CELLS]) -> Self {
+    pub(crate) fn new(page: &'a [u16]) -> Self {
         Fields { page, from: 0 }
     }
 }
@@ -146,7 +136,7 @@ impl<'a> Iterator for Fields<'a> {
     fn next(&mut self) -> Option<Field<'a>> {
         let found = sys::next_field(self.page, self.from);
         if found.length == 0 {
-            self.from = CELLS;
+            self.from = self.page.len();
             return None;
         }
         self.from = found.start + found.length;

@@ -36,6 +36,21 @@
 //!
 //! [`Terminal::with_row_list`] takes long feeds faster over forms that are mostly labels, and changes nothing else.
 //!
+//! A terminal starts with 80 columns. A host may wish for 132, and who follows it converts:
+//!
+//! ```
+//! use wy50::Terminal;
+//!
+//! let mut terminal = Terminal::new();
+//! let fed = terminal.feed(b"\x1b`;", &mut []);
+//! assert_eq!((fed.refused, terminal.wishes_wide(), terminal.columns()), (0, true, 80));
+//! if terminal.wishes_wide() != terminal.is_wide() {
+//!     terminal.convert()?;
+//! }
+//! assert_eq!(terminal.columns(), 132);
+//! # Ok::<(), wy50::Unconverted>(())
+//! ```
+//!
 //! A [`Store`] keeps the last eight set-ups.
 //!
 //! It links the proved library libwy50.a (see `build.rs`), which keeps nothing between calls and allocates nothing; neither does this crate.
@@ -48,6 +63,7 @@ mod cell;
 mod event;
 mod features;
 mod field;
+mod page;
 mod personality;
 mod sending;
 mod sequence;
@@ -60,6 +76,8 @@ use core::fmt;
 pub use event::{Command, Event, Next};
 pub use features::{CursorStyle, Features, ProtectedLook, Scrolling};
 pub use field::{Field, Fields, Position, ProtectOff, Text};
+use page::Page;
+pub use page::Unconverted;
 pub use personality::Personality;
 pub use sending::{Place, Sending};
 pub use sequence::SequenceKind;
@@ -68,12 +86,15 @@ pub use sys::{Key, Message, Modes, RawSending, Screen, Sequence, State};
 
 pub const ROWS: usize = 24;
 pub const COLUMNS: usize = 80;
-/// The page, in reading order.
+/// A narrow page, in reading order.
 pub const CELLS: usize = ROWS * COLUMNS;
+pub const WIDE_COLUMNS: usize = 132;
+/// A wide page.
+pub const WIDE_CELLS: usize = ROWS * WIDE_COLUMNS;
 /// A row list: two numbers for each row.
 pub const ROW_NUMBERS: usize = 2 * ROWS;
-/// No reply is longer: a byte that has this room begins no send that goes on at the next call.
-pub const LONGEST_REPLY: usize = 1944;
+/// No reply is longer: a byte that has this room begins no send that goes on at the next call. On a narrow page none is longer than 1,944.
+pub const LONGEST_REPLY: usize = 3192;
 /// No text of a field or a row is longer.
 pub const LONGEST_TEXT: usize = 132;
 /// The function keys, and the longest text of one.
@@ -131,10 +152,10 @@ pub struct Replied {
     pub replied: usize,
 }
 
-/// A terminal: its page and its state. Two are equal if these are: a row list follows from them.
+/// A terminal: its page, with room for either width, and its state. Two are equal if these are: a row list follows from them.
 #[derive(Clone)]
 pub struct Terminal {
-    page: [u16; CELLS],
+    page: Page,
     state: State,
     row_list: Option<[u16; ROW_NUMBERS]>,
 }
@@ -147,15 +168,15 @@ impl Terminal {
 
     /// A terminal of this personality just powered on.
     pub fn with_personality(personality: Personality) -> Self {
-        let mut page = [0; CELLS];
+        let mut page = Page::new(false);
         let state = sys::power_on(&mut page, personality.number()).state;
         Terminal { page, state, row_list: None }
     }
 
-    /// A terminal with this page and state, as [`page`](Self::page) and [`state`](Self::state) gave them. A state that is not possible
-    /// does no harm: every call answers [`Answer::BadCall`] and changes nothing.
-    pub fn from_parts(page: [u16; CELLS], state: State) -> Self {
-        Terminal { page, state, row_list: None }
+    /// A terminal with this page and state, as [`page`](Self::page) and [`state`](Self::state) gave them; none with a page of a length that neither
+    /// width has. A state that is not possible, or not of the page's width, does no harm: every call answers [`Answer::BadCall`] and changes nothing.
+    pub fn from_parts(page: &[u16], state: State) -> Option<Self> {
+        Page::of(page).map(|page| Terminal { page, state, row_list: None })
     }
 
     /// The same terminal with a row list, which it keeps from now on: where the cursor settles, rows without an open cell are skipped. Every
@@ -173,10 +194,14 @@ impl Terminal {
     /// assert_eq!(terminal.row_list().unwrap()[44..], [0, 0, 1, 80]); // rows 23 and 24
     /// ```
     pub fn with_row_list(mut self) -> Self {
+        self.row_list = self.rebuilt();
+        self
+    }
+
+    fn rebuilt(&self) -> Option<[u16; ROW_NUMBERS]> {
         let mut list = [0; ROW_NUMBERS];
         let answer = Answer::of(sys::rebuild_rows(&self.page, &mut list, self.state));
-        self.row_list = (answer == Answer::Done).then_some(list);
-        self
+        (answer == Answer::Done).then_some(list)
     }
 
     /// Bytes from the host. What they reply is put at the front of `reply`; what lies beyond it is not touched. A send under way goes on first, and
@@ -239,7 +264,52 @@ impl Terminal {
         Replied { answer: Answer::of(pressed.answer), replied: pressed.replied }
     }
 
-    pub fn page(&self) -> &[u16; CELLS] {
+    /// Page and state at the other width: 132 columns from 80, 80 from 132. The wish is not looked at, and stays.
+    ///
+    /// A cell keeps its row and column. Widening puts unprotected nulls at each row's end; narrowing is refused with [`Unconverted::WouldLose`] if
+    /// some cell beyond column 80 is not 0, and either with [`Unconverted::Sending`] during a send. The page is then one segment, and the cursor
+    /// settles from its first cell; tab stops beyond the width are cleared. A row list is rebuilt. Nothing else changes.
+    ///
+    /// ```
+    /// use wy50::{Terminal, Unconverted};
+    ///
+    /// let mut terminal = Terminal::new();
+    /// assert_eq!(terminal.convert(), Ok(()));
+    /// let fed = terminal.feed(b"\x1ba1R132C!", &mut []);
+    /// assert_eq!((fed.refused, terminal.convert()), (0, Err(Unconverted::WouldLose)));
+    /// let fed = terminal.feed(b"\x1b*", &mut []); // all cells to nulls
+    /// assert_eq!((fed.refused, terminal.convert(), terminal.columns()), (0, Ok(()), 80));
+    /// ```
+    pub fn convert(&mut self) -> Result<(), Unconverted> {
+        let mut target = Page::new(!self.is_wide());
+        let converted = sys::convert(&self.page, self.state, &mut target);
+        if let Some(why) = Unconverted::refused(converted.answer) {
+            return Err(why);
+        }
+        (self.page, self.state) = (target, converted.state);
+        if self.row_list.is_some() {
+            self.row_list = self.rebuilt();
+        }
+        Ok(())
+    }
+
+    /// The page has 132 columns.
+    pub fn is_wide(&self) -> bool {
+        self.page.is_wide()
+    }
+
+    /// The host wishes for 132 columns: of ESC ` 3Bh and 3Ah the first came last.
+    pub fn wishes_wide(&self) -> bool {
+        self.state.wish != 0
+    }
+
+    /// 80 or 132.
+    pub fn columns(&self) -> usize {
+        self.page.columns()
+    }
+
+    /// The cells in reading order: [`ROWS`] times [`columns`](Self::columns).
+    pub fn page(&self) -> &[u16] {
         &self.page
     }
 
@@ -288,6 +358,16 @@ impl Terminal {
         Position::at(sys::cursor(self.state))
     }
 
+    /// Where a cell of the page lies; none is outside it.
+    pub fn position_of(&self, cell: usize) -> Option<Position> {
+        Position::at(sys::position_of(self.page.len(), cell))
+    }
+
+    /// The cell at a place of the page, if there is one.
+    pub fn cell_at(&self, place: Position) -> Option<usize> {
+        Some(sys::cell_at(self.page.len(), place.row, place.column)).filter(|&cell| cell < self.page.len())
+    }
+
     /// Protect mode is on: protected cells are guarded.
     pub fn protects(&self) -> bool {
         self.state.modes.protect != 0
@@ -317,7 +397,7 @@ impl Terminal {
 
     /// The rows from the top.
     pub fn rows(&self) -> impl DoubleEndedIterator<Item = Row<'_>> + ExactSizeIterator + '_ {
-        self.page.chunks_exact(COLUMNS).map(Row::new)
+        self.page.chunks_exact(self.columns()).map(Row::new)
     }
 
     /// The cells in reading order.
@@ -370,7 +450,7 @@ impl Default for Terminal {
 
 impl PartialEq for Terminal {
     fn eq(&self, other: &Self) -> bool {
-        self.page == other.page && self.state == other.state
+        *self.page == *other.page && self.state == other.state
     }
 }
 

@@ -18,7 +18,7 @@ pub enum Refusal {
     Full,
 }
 
-/// The last eight set-ups by number, from 1: tab stops, features, field attributes, keys and key labels.
+/// The last eight set-ups by number, from 1: tab stops of columns 1 to 80, features, field attributes, keys and key labels.
 ///
 /// ```
 /// use wy50::{Refusal, Store, Terminal};
@@ -64,7 +64,8 @@ impl Store {
         refused(saved.answer).map_or(Ok(saved.number), Err)
     }
 
-    /// Gives the terminal the settings of a number. Page, cursor, modes, host message and shifted line stay as they are.
+    /// Gives the terminal the settings of a number. Page, width, wish, stops beyond column 80, cursor, modes, host message and shifted line stay as
+    /// they are.
     pub fn restore(&self, terminal: &mut Terminal, number: u16) -> Result<(), Refusal> {
         let restored = sys::restore(terminal.state, &self.0, number);
         terminal.state = restored.state;

@@ -1,6 +1,6 @@
 //! What crosses to the library: the structs of include/wy50.h and its calls. All members are numbers, so every bit pattern is a value.
 
-use crate::{CELLS, COLUMNS, KEYS, KEY_BYTES, LABELS, MESSAGE_BYTES, ROW_NUMBERS, STORE_BYTES};
+use crate::{KEYS, KEY_BYTES, LABELS, MESSAGE_BYTES, ROW_NUMBERS, STORE_BYTES, WIDE_COLUMNS};
 
 /// A function key or a key label: the first `len` of `bytes`.
 #[repr(C)]
@@ -18,10 +18,12 @@ pub struct Message {
     pub bytes: [u8; MESSAGE_BYTES],
 }
 
-/// `split` is the first row of segment 1, from 1, and 0 if there is none. A cursor is a cell of the page, from 0.
+/// `wide` is 1 for 132 columns, 0 for 80. `split` is the first row of segment 1, from 1, and 0 if there is none. A cursor is a cell of the page,
+/// from 0.
 #[repr(C)]
 #[derive(Clone, Copy, Debug, PartialEq, Eq)]
 pub struct Screen {
+    pub wide: u16,
     pub active: u8,
     pub split: u8,
     pub cursor0: u16,
@@ -77,7 +79,8 @@ pub struct State {
     pub sending: RawSending,
     /// The bytes of a text under way, zeros behind them.
     pub gathered: [u8; MESSAGE_BYTES],
-    pub tabs: [u8; COLUMNS],
+    /// By column, 1 a tab stop, 0 none; none beyond the width.
+    pub tabs: [u8; WIDE_COLUMNS],
     pub attributes: [u8; 4],
     /// By code, as [`Features`](crate::Features) has them.
     pub features: [u8; 5],
@@ -85,6 +88,8 @@ pub struct State {
     pub labels: [Key; LABELS],
     pub message: Message,
     pub shifted: u16,
+    /// 1: ESC \` wishes for 132 columns, 0: for 80.
+    pub wish: u16,
 }
 
 #[repr(C)]
@@ -159,6 +164,12 @@ pub struct RawRestore {
     pub state: State,
 }
 
+#[repr(C)]
+pub struct RawConvert {
+    pub answer: u8,
+    pub state: State,
+}
+
 mod linked {
     use super::*;
 
@@ -212,6 +223,7 @@ mod linked {
         pub fn wy50_rebuild_rows(page: *const u16, page_len: usize, rows: *mut u16, rows_len: usize, state: State) -> u8;
         pub fn wy50_save(state: State, store: *mut u8, store_len: usize) -> RawSave;
         pub fn wy50_restore(state: State, store: *const u8, store_len: usize, number: u16) -> RawRestore;
+        pub fn wy50_convert(page: *const u16, page_len: usize, state: State, target: *mut u16, target_len: usize) -> RawConvert;
         pub safe fn wy50_cell_code(cell: u16) -> u8;
         pub safe fn wy50_cell_protected(cell: u16) -> u8;
         pub safe fn wy50_cell_kind(cell: u16) -> u8;
@@ -232,66 +244,71 @@ pub use linked::{
     wy50_version as version,
 };
 
-pub fn power_on(page: &mut [u16; CELLS], personality: u8) -> RawPowerOn {
+pub fn power_on(page: &mut [u16], personality: u8) -> RawPowerOn {
     // SAFETY: the pointer and the count are those of one slice that nothing else reads or writes meanwhile.
     unsafe { linked::wy50_power_on(page.as_mut_ptr(), page.len(), personality) }
 }
 
-pub fn step(page: &mut [u16; CELLS], state: State, byte: u8, reply: &mut [u8]) -> RawStep {
+pub fn step(page: &mut [u16], state: State, byte: u8, reply: &mut [u8]) -> RawStep {
     // SAFETY: as above, for each of two slices, which do not overlap since both are lent for writing.
     unsafe { linked::wy50_step(page.as_mut_ptr(), page.len(), state, byte, reply.as_mut_ptr(), reply.len()) }
 }
 
-pub fn run(page: &mut [u16; CELLS], state: State, input: &[u8], reply: &mut [u8]) -> RawRun {
+pub fn run(page: &mut [u16], state: State, input: &[u8], reply: &mut [u8]) -> RawRun {
     // SAFETY: as above; the input is only read, and overlaps neither of the slices that are lent for writing.
     unsafe { linked::wy50_run(page.as_mut_ptr(), page.len(), state, input.as_ptr(), input.len(), reply.as_mut_ptr(), reply.len()) }
 }
 
 // The row list is of no numbers where there is none.
-pub fn next(page: &mut [u16; CELLS], rows: &mut [u16], state: State, input: &[u8], reply: &mut [u8]) -> RawNext {
+pub fn next(page: &mut [u16], rows: &mut [u16], state: State, input: &[u8], reply: &mut [u8]) -> RawNext {
     let (page, page_len) = (page.as_mut_ptr(), page.len());
     let (rows, rows_len) = (rows.as_mut_ptr(), rows.len());
     // SAFETY: as above, with three slices that are lent for writing.
     unsafe { linked::wy50_next(page, page_len, rows, rows_len, state, input.as_ptr(), input.len(), reply.as_mut_ptr(), reply.len()) }
 }
 
-pub fn press(page: &[u16; CELLS], state: State, key: u8, reply: &mut [u8]) -> RawPress {
+pub fn press(page: &[u16], state: State, key: u8, reply: &mut [u8]) -> RawPress {
     // SAFETY: as above; the page is only read.
     unsafe { linked::wy50_press(page.as_ptr(), page.len(), state, key, reply.as_mut_ptr(), reply.len()) }
 }
 
-pub fn step_rows(page: &mut [u16; CELLS], rows: &mut [u16; ROW_NUMBERS], state: State, byte: u8, reply: &mut [u8]) -> RawStep {
+pub fn step_rows(page: &mut [u16], rows: &mut [u16; ROW_NUMBERS], state: State, byte: u8, reply: &mut [u8]) -> RawStep {
     let (page, page_len) = (page.as_mut_ptr(), page.len());
     let (rows, rows_len) = (rows.as_mut_ptr(), rows.len());
     // SAFETY: as above, for each of three slices.
     unsafe { linked::wy50_step_rows(page, page_len, rows, rows_len, state, byte, reply.as_mut_ptr(), reply.len()) }
 }
 
-pub fn run_rows(page: &mut [u16; CELLS], rows: &mut [u16; ROW_NUMBERS], state: State, input: &[u8], reply: &mut [u8]) -> RawRun {
+pub fn run_rows(page: &mut [u16], rows: &mut [u16; ROW_NUMBERS], state: State, input: &[u8], reply: &mut [u8]) -> RawRun {
     let (page, page_len) = (page.as_mut_ptr(), page.len());
     let (rows, rows_len) = (rows.as_mut_ptr(), rows.len());
     // SAFETY: as above; the input is only read.
     unsafe { linked::wy50_run_rows(page, page_len, rows, rows_len, state, input.as_ptr(), input.len(), reply.as_mut_ptr(), reply.len()) }
 }
 
-pub fn rebuild_rows(page: &[u16; CELLS], rows: &mut [u16; ROW_NUMBERS], state: State) -> u8 {
+pub fn rebuild_rows(page: &[u16], rows: &mut [u16; ROW_NUMBERS], state: State) -> u8 {
     // SAFETY: as above; the page is only read.
     unsafe { linked::wy50_rebuild_rows(page.as_ptr(), page.len(), rows.as_mut_ptr(), rows.len(), state) }
 }
 
-pub fn next_field(page: &[u16; CELLS], from: usize) -> RawField {
+pub fn next_field(page: &[u16], from: usize) -> RawField {
     // SAFETY: as above; the page is only read.
     unsafe { linked::wy50_next_field(page.as_ptr(), page.len(), from) }
 }
 
-pub fn field_text(page: &[u16; CELLS], start: usize, trim: bool, text: &mut [u8]) -> RawText {
+pub fn field_text(page: &[u16], start: usize, trim: bool, text: &mut [u8]) -> RawText {
     // SAFETY: as above.
     unsafe { linked::wy50_field_text(page.as_ptr(), page.len(), start, trim.into(), text.as_mut_ptr(), text.len()) }
 }
 
-pub fn row_text(page: &[u16; CELLS], row: usize, trim: bool, text: &mut [u8]) -> RawText {
+pub fn row_text(page: &[u16], row: usize, trim: bool, text: &mut [u8]) -> RawText {
     // SAFETY: as above.
     unsafe { linked::wy50_row_text(page.as_ptr(), page.len(), row, trim.into(), text.as_mut_ptr(), text.len()) }
+}
+
+pub fn convert(page: &[u16], state: State, target: &mut [u16]) -> RawConvert {
+    // SAFETY: as above, for two slices; the page is only read.
+    unsafe { linked::wy50_convert(page.as_ptr(), page.len(), state, target.as_mut_ptr(), target.len()) }
 }
 
 pub fn save(state: State, store: &mut [u8; STORE_BYTES]) -> RawSave {

@@ -2,9 +2,9 @@
 use std::collections::BTreeMap;
 use wy50::Command;
 use wy50::{
-    library_version, Answer, Attributes, CursorStyle, Features, Kind, Personality, Place, ProtectedLook, RawSending, Refusal, Scrolling, Sending,
-    SequenceKind, Terminal, CELLS, COLUMNS, KEYS, KEY_BYTES, LABELS, LABEL_BYTES, LONGEST_REPLY, LONGEST_TEXT, MESSAGE_BYTES, ROWS,
-    ROW_NUMBERS, STORE_BYTES, VERSION,
+    library_version, Answer, Attributes, CursorStyle, Features, Kind, Personality, Place, ProtectedLook, RawSending, Refusal, Scrolling,
+    Sending, SequenceKind, Terminal, CELLS, COLUMNS, KEYS, KEY_BYTES, LABELS, LABEL_BYTES, LONGEST_REPLY, LONGEST_TEXT, MESSAGE_BYTES,
+    ROWS, ROW_NUMBERS, STORE_BYTES, VERSION, WIDE_CELLS, WIDE_COLUMNS,
 };
 
 /// The header without its comments.
@@ -108,6 +108,8 @@ fn ours() -> BTreeMap<String, usize> {
         ("WY50_ROWS", ROWS),
         ("WY50_COLUMNS", COLUMNS),
         ("WY50_CELLS", CELLS),
+        ("WY50_WIDE_COLUMNS", WIDE_COLUMNS),
+        ("WY50_WIDE_CELLS", WIDE_CELLS),
         ("WY50_ROW_NUMBERS", ROW_NUMBERS),
         ("WY50_LONGEST_REPLY", LONGEST_REPLY),
         ("WY50_LONGEST_TEXT", LONGEST_TEXT),
@@ -239,7 +241,7 @@ fn of_a_terminal() {
     let mut state = *t.state();
     state.sequence.kind = 25;
     state.features[Features::SCROLLING] = b'9';
-    let t = Terminal::from_parts(*t.page(), state);
+    let t = Terminal::from_parts(t.page(), state).unwrap();
     assert_eq!((t.sequence(), t.features()), (None, None));
 }
 

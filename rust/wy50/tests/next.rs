@@ -91,7 +91,7 @@ fn each_refusal() {
 fn an_impossible_state_is_told() {
     let mut state = *Terminal::new().state();
     state.screen.cursor0 = CELLS as u16;
-    let mut bad = Terminal::from_parts([7; CELLS], state);
+    let mut bad = Terminal::from_parts(&[7; CELLS], state).unwrap();
     let before = bad.clone();
     assert_eq!(bad.next(b"A\x05", &mut [0; 9]), Next { event: Some(Event::BadCall), taken: 0, rest: b"A\x05" });
     assert!(bad == before);

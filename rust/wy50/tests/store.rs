@@ -35,6 +35,23 @@ fn what_a_restore_leaves() {
     assert_eq!((terminal.page(), terminal.cursor(), terminal.state().modes), (before.page(), before.cursor(), before.state().modes));
 }
 
+/// A wide terminal's stops beyond column 80 are not saved, and a restore leaves those that there are.
+#[test]
+fn stops_beyond_80() {
+    let mut wide = fed(b"\x1b=\x20\x28\x1b1\x1b`;");
+    wide.convert().unwrap();
+    let stopped = wide.feed(b"\x1ba1R100C\x1b1", &mut []);
+    assert_eq!((stopped.refused, wide.state().tabs[99]), (0, 1));
+    let mut store = Store::new();
+    assert_eq!(store.save(&wide), Ok(1));
+    let mut narrow = Terminal::new();
+    store.restore(&mut narrow, 1).unwrap();
+    assert_eq!((narrow.state().tabs[8], narrow.state().tabs[99], narrow.is_wide(), narrow.wishes_wide()), (1, 0, false, false));
+    store.save(&Terminal::new()).unwrap();
+    store.restore(&mut wide, 2).unwrap();
+    assert_eq!((wide.state().tabs[8], wide.state().tabs[99], wide.is_wide(), wide.wishes_wide()), (0, 1, true, true));
+}
+
 #[test]
 fn refusals() {
     let mut store = Store::new();
@@ -46,7 +63,7 @@ fn refusals() {
     assert_eq!((damaged.as_bytes(), damaged.is_sound()), (&bytes, false));
     let mut state = *Terminal::new().state();
     state.screen.split = 1;
-    let mut bad = Terminal::from_parts([0; wy50::CELLS], state);
+    let mut bad = Terminal::from_parts(&[0; wy50::CELLS], state).unwrap();
     assert_eq!((damaged.save(&bad), damaged.restore(&mut bad, 0)), (Err(Refusal::BadState), Err(Refusal::BadState)));
 }
 

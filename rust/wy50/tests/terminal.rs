@@ -1,7 +1,7 @@
 //! The wrapper against the rules: the bench list where it is short, the tail handed back, rows, cells, fields, answers, row lists, personalities, sends.
 use wy50::{
     Answer, Attributes, Cell, Kind, Personality, Place, Position, Replied, Row, Sending, State, Terminal, CELLS, COLUMNS, LONGEST_REPLY,
-    ROWS, ROW_NUMBERS,
+    ROWS, ROW_NUMBERS, WIDE_CELLS,
 };
 
 /// Feeds all of it; the reply of all of it.
@@ -14,8 +14,8 @@ fn fed(terminal: &mut Terminal, bytes: &[u8]) -> Vec<u8> {
 
 #[test]
 fn sizes() {
-    assert_eq!(std::mem::size_of::<State>(), 642);
-    assert_eq!(CELLS, ROWS * COLUMNS);
+    assert_eq!(std::mem::size_of::<State>(), 698);
+    assert_eq!((CELLS, WIDE_CELLS, LONGEST_REPLY), (1920, 3168, WIDE_CELLS + ROWS));
 }
 
 #[test]
@@ -86,7 +86,7 @@ fn message_labels_and_shifted_line() {
     });
     let mut state = *t.state();
     state.message.len = 255;
-    assert_eq!(Terminal::from_parts(*t.page(), state).message().len(), 46);
+    assert_eq!(Terminal::from_parts(t.page(), state).unwrap().message().len(), 46);
 }
 
 #[test]
@@ -164,7 +164,7 @@ fn a_sequence_and_a_send_answer_7() {
     assert!(t.sending().is_some());
     let mut state = *t.state();
     state.sequence.kind = 1;
-    let mut bad = Terminal::from_parts(*t.page(), state);
+    let mut bad = Terminal::from_parts(t.page(), state).unwrap();
     let before = bad.clone();
     assert_eq!((bad.feed(b"A", &mut [0; 9]).answer, bad.step(b'A', &mut [0; 9]).answer), (Answer::BadCall, Answer::BadCall));
     assert_eq!(bad.press(0x40, &mut [0; 9]).answer, Answer::BadCall);
@@ -174,7 +174,11 @@ fn a_sequence_and_a_send_answer_7() {
     for (command, kind, place) in short.into_iter().chain(text) {
         let mut state = *t.state();
         (state.sending.command, state.sending.kind, state.sending.place) = (command, kind, place);
-        assert_eq!(Terminal::from_parts(*t.page(), state).feed(b"", &mut [0; 9]).answer, Answer::BadCall, "{command} {kind} {place}");
+        assert_eq!(
+            Terminal::from_parts(t.page(), state).unwrap().feed(b"", &mut [0; 9]).answer,
+            Answer::BadCall,
+            "{command} {kind} {place}"
+        );
     }
 }
 
@@ -193,7 +197,7 @@ fn an_impossible_state_answers_7() {
     let t = Terminal::new();
     let mut state = *t.state();
     state.tabs[9] = 2;
-    let mut bad = Terminal::from_parts([7; CELLS], state);
+    let mut bad = Terminal::from_parts(&[7; CELLS], state).unwrap();
     let before = bad.clone();
     let fed = bad.feed(b"AB", &mut []);
     assert_eq!((fed.answer, fed.taken, fed.rest), (Answer::BadCall, 0, &b"AB"[..]));
@@ -266,18 +270,18 @@ fn texts_and_places() {
     assert_eq!((t.row_text(1).unwrap().len(), t.row_text(ROWS)), (0, None));
     assert_eq!(t.cursor_position(), Some(Position { row: 0, column: 13 }));
     fed(&mut t, b"\x1bx1\x2c\x1b}\x1f");
-    assert_eq!(t.cursor_position(), Position::of(t.cursor()));
+    assert_eq!(t.cursor_position(), t.position_of(t.cursor()));
     for cell in 0..CELLS {
-        let place = Position::of(cell).unwrap();
-        assert_eq!((place.row, place.column, place.cell()), (cell / COLUMNS, cell % COLUMNS, Some(cell)));
+        let place = t.position_of(cell).unwrap();
+        assert_eq!((place.row, place.column, t.cell_at(place)), (cell / COLUMNS, cell % COLUMNS, Some(cell)));
     }
     assert_eq!(
-        (Position::of(CELLS), Position { row: 0, column: COLUMNS }.cell(), Position { row: ROWS, column: 0 }.cell()),
+        (t.position_of(CELLS), t.cell_at(Position { row: 0, column: COLUMNS }), t.cell_at(Position { row: ROWS, column: 0 })),
         (None, None, None)
     );
     let mut state = *t.state();
     (state.screen.active, state.screen.cursor0) = (0, 1920);
-    assert_eq!(Terminal::from_parts(*t.page(), state).cursor_position(), None);
+    assert_eq!(Terminal::from_parts(t.page(), state).unwrap().cursor_position(), None);
 }
 
 #[test]
@@ -332,7 +336,7 @@ fn a_row_list_changes_no_result_and_is_kept() {
 fn a_row_list_at_any_time() {
     let mut t = Terminal::new();
     fed(&mut t, b"\x1b,\x1b=\x37\x6f\x1bT\x1b&");
-    let t = Terminal::from_parts(*t.page(), *t.state()).with_row_list();
+    let t = Terminal::from_parts(t.page(), *t.state()).unwrap().with_row_list();
     let mut last = [0; ROW_NUMBERS];
     last[46..].copy_from_slice(&[1, 80]);
     assert_eq!(t.row_list(), Some(&last));
@@ -345,7 +349,7 @@ fn a_row_list_at_any_time() {
 fn an_impossible_state_has_no_row_list() {
     let mut state = *Terminal::new().state();
     state.screen.cursor0 = CELLS as u16;
-    let mut bad = Terminal::from_parts([0; CELLS], state).with_row_list();
+    let mut bad = Terminal::from_parts(&[0; CELLS], state).unwrap().with_row_list();
     assert_eq!(bad.row_list(), None);
     assert_eq!((bad.feed(b"A", &mut []).answer, bad.step(b'A', &mut []).answer), (Answer::BadCall, Answer::BadCall));
 }

@@ -13,7 +13,7 @@ mod workloads;
 
 use peers::{
     after, feed, floor_parts, play, proved_parts, Counter, Floor, Independent, Independent60, Libvterm, Listed, Page, Peer, Proved,
-    Proved60, SendFloor, Sender, ShiftFloor, READ,
+    Proved60, SendFloor, Sender, ShiftFloor, NARROW_REPLY, READ,
 };
 use std::{
     fmt::Write,
@@ -487,7 +487,7 @@ fn sends_table(out: &mut String, row: &Row) {
     line!(out);
     line!(
         out,
-        "A read asks for one of each, and their replies are taken before the next; ESC 7 replies {LONGEST_REPLY} bytes, the most there are."
+        "A read asks for one of each, and their replies are taken before the next; ESC 7 replies {NARROW_REPLY} bytes, the most there are."
     );
     line!(out, "libvterm does not send its page. All replies are the same, byte by byte.");
     line!(out);

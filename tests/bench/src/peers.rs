@@ -5,10 +5,12 @@ use std::{
     ffi::{c_char, c_int, c_void},
     ops::Range,
 };
-use wy50::{Personality, Terminal, CELLS, COLUMNS, LONGEST_REPLY, ROWS};
+use wy50::{Personality, Terminal, CELLS, COLUMNS, ROWS};
 
 /// Bytes of a read, and of the reply room.
 pub const READ: usize = 4096;
+/// No reply of a narrow page is longer.
+pub const NARROW_REPLY: usize = 1944;
 
 pub type Page = [u16; CELLS];
 
@@ -62,7 +64,7 @@ impl Peer for Proved {
     }
 
     fn page(&self) -> Page {
-        *self.terminal.page()
+        self.terminal.page().try_into().expect("80 columns")
     }
 }
 
@@ -313,7 +315,7 @@ impl SendFloor {
 
 impl Sender for SendFloor {
     fn reply_to(&mut self, bytes: &[u8]) -> &[u8] {
-        assert!(bytes.len() / 2 * LONGEST_REPLY <= READ);
+        assert!(bytes.len() / 2 * NARROW_REPLY <= READ);
         // SAFETY: the page has 1,920 cells, the pointer and the count are those of one slice, and there is room for a longest reply to every
         // two bytes, which is all that they can ask for.
         let count = unsafe { floor_send(self.page.as_ptr(), bytes.as_ptr(), bytes.len(), self.reply.as_mut_ptr()) };
