@@ -1,9 +1,10 @@
 /* Runs a program on a 24 by 80 pseudo-terminal with TERM=wy50, feeds what it writes to the terminal, writes the replies back, and prints the
  * page at the end.
  *
- *     host_pty [-6] [-l] [-s KEYS].. [-q MILLISECONDS] PROGRAM [ARGUMENT]..
+ *     host_pty [-6] [-w] [-l] [-s KEYS].. [-q MILLISECONDS] PROGRAM [ARGUMENT]..
  *
  *     -6               a WY-60, with TERM=wy60; what has an attribute is listed below the page
+ *     -w               132 columns from the start, with TERM=wy50-w or wy60-w
  *     -l               follow live on this ANSI display, attributes as they are, guarded cells dim; what is typed goes to the program, Ctrl-] ends
  *     -s KEYS          once the program is quiet, send it these keys; may come more than once. \r \e \b \t \\ and \xHH are read as in C
  *     -q MILLISECONDS  how long quiet is (300)
@@ -11,10 +12,13 @@
  * Without an option it follows live if it stands on a display itself. With -s or -q it kills the program when it has been quiet for a while
  * after the last keys.
  *
+ * A program that wishes for the other width (ESC ` ; for 132 columns, ESC ` : for 80, as tput init sends them) is given it, and the pseudo-terminal
+ * its size. Where narrowing would lose a cell beyond column 80 the page stays wide, and that is said at the end.
+ *
  * The status is the program's, 128 and the signal's number if a signal ended it, 0 if host_pty did; 127 if the program cannot be started.
  *
  * Real programs choose a character set to draw lines with, which these rules leave out, and letters would stand for lines: examples/terminfo
- * writes entries wy50 and wy60 without it, so that they draw + - |. TERMINFO=DIR host_pty PROGRAM uses those.
+ * writes entries wy50, wy60, wy50-w and wy60-w without it, so that they draw + - |. TERMINFO=DIR host_pty PROGRAM uses those.
  */
 #define _DEFAULT_SOURCE
 #include "wy50.h"
@@ -27,15 +31,32 @@
 #include <stdio.h>
 #include <stdlib.h>
 #include <string.h>
+#include <sys/ioctl.h>
 #include <sys/wait.h>
 #include <termios.h>
 #include <unistd.h>
 
 enum { END_KEY = 0x1d };
 
-static uint16_t page[WY50_CELLS], shown[WY50_CELLS];
+/* A page for each width; the state says which of them is the terminal's. */
+static uint16_t pages[2][WY50_WIDE_CELLS], shown[WY50_WIDE_CELLS];
 static wy50_state state;
-static size_t fed, refused;
+static size_t fed, refused, kept_wide;
+
+static uint16_t *page(void)
+{
+    return pages[state.screen.wide];
+}
+
+static unsigned columns(int wide)
+{
+    return wide ? WY50_WIDE_COLUMNS : WY50_COLUMNS;
+}
+
+static unsigned width(void)
+{
+    return columns(state.screen.wide);
+}
 
 static void put(int to, const uint8_t *bytes, size_t n)
 {
@@ -50,12 +71,45 @@ static void put(int to, const uint8_t *bytes, size_t n)
     }
 }
 
+static struct winsize size(void)
+{
+    struct winsize s = {WY50_ROWS, 0, 0, 0};
+    s.ws_col = (unsigned short)width();
+    return s;
+}
+
+/* Takes the other width if it is wished for and nothing is lost; whether it did. */
+static int follow_wish(void)
+{
+    int to = state.wish;
+    wy50_convert_result r;
+    if (to == state.screen.wide)
+        return 0;
+    r = wy50_convert(page(), WY50_ROWS * width(), state, pages[to], WY50_ROWS * columns(to));
+    if (r.answer == WY50_BAD_CALL)
+        abort();
+    kept_wide += r.answer == WY50_BARRED;
+    state = r.state;
+    return r.answer == WY50_DONE;
+}
+
+/* The code after ESC ` comes alone, so that a wish is followed at once: what comes after it is meant for that width. */
+static size_t some(const uint8_t *bytes, size_t n)
+{
+    const uint8_t *feature = memchr(bytes, '`', n);
+    if (state.sequence.kind == WY50_SET_FEATURE)
+        return n > 0;
+    return feature ? (size_t)(feature - bytes) + 1 : n;
+}
+
 /* Host bytes; replies go back to the program, 64 bytes at a time. */
 static void feed(int program, const uint8_t *bytes, size_t n)
 {
     uint8_t reply[64];
     while (n > 0 || state.sending.command != 0) {
-        wy50_run_result r = wy50_run(page, WY50_CELLS, state, bytes, n, reply, sizeof reply);
+        size_t count = some(bytes, n);
+        int wishes = state.sequence.kind == WY50_SET_FEATURE && count > 0 && (*bytes == ':' || *bytes == ';');
+        wy50_run_result r = wy50_run(page(), WY50_ROWS * width(), state, bytes, count, reply, sizeof reply);
         if (r.answer == WY50_BAD_CALL)
             abort();
         state = r.state;
@@ -64,6 +118,10 @@ static void feed(int program, const uint8_t *bytes, size_t n)
         put(program, reply, r.replied);
         bytes += r.taken;
         n -= r.taken;
+        if (wishes && follow_wish()) {
+            struct winsize s = size();
+            ioctl(program, TIOCSWINSZ, &s);
+        }
     }
 }
 
@@ -96,20 +154,31 @@ static void show_cell(uint16_t v, int guarded)
         fputs("\033[0m", stdout);
 }
 
-/* Draws the cells that have changed. A cell's bit 15 in `shown` says that it is guarded; no written cell has it. */
+/* Draws the cells that have changed, all of them after a change of width. A cell's bit 15 in `shown` says that it is guarded; no written cell has it.
+ * What is beyond a display of fewer columns is not drawn. */
 static void show(void)
 {
-    unsigned i, at = cursor();
-    for (i = 0; i < WY50_CELLS; i++) {
-        int guarded = state.modes.protect && wy50_cell_protected(page[i]);
-        uint16_t now = (uint16_t)(page[i] | (guarded ? 32768 : 0));
-        if (now != shown[i]) {
-            printf("\033[%u;%uH", i / WY50_COLUMNS + 1, i % WY50_COLUMNS + 1);
-            show_cell(page[i], guarded);
+    static unsigned shown_width;
+    const uint16_t *cells = page();
+    unsigned i, at = cursor(), w = width(), most = w;
+    struct winsize display;
+    if (ioctl(1, TIOCGWINSZ, &display) == 0 && display.ws_col > 0 && display.ws_col < w)
+        most = display.ws_col;
+    if (w != shown_width) {
+        fputs("\033[0m\033[2J", stdout);
+        memset(shown, 0, sizeof shown);
+        shown_width = w;
+    }
+    for (i = 0; i < WY50_ROWS * w; i++) {
+        int guarded = state.modes.protect && wy50_cell_protected(cells[i]);
+        uint16_t now = (uint16_t)(cells[i] | (guarded ? 32768 : 0));
+        if (now != shown[i] && i % w < most) {
+            printf("\033[%u;%uH", i / w + 1, i % w + 1);
+            show_cell(cells[i], guarded);
             shown[i] = now;
         }
     }
-    printf("\033[%u;%uH\033[?25%c", at / WY50_COLUMNS + 1, at % WY50_COLUMNS + 1, state.features[WY50_CURSOR_SHOWN] == '1' ? 'h' : 'l');
+    printf("\033[%u;%uH\033[?25%c", at / w + 1, at % w + 1, state.features[WY50_CURSOR_SHOWN] == '1' ? 'h' : 'l');
     fflush(stdout);
 }
 
@@ -117,8 +186,8 @@ static void print_page(void)
 {
     unsigned row, column;
     for (row = 0; row < WY50_ROWS; row++) {
-        unsigned end = WY50_COLUMNS;
-        const uint16_t *cells = page + row * WY50_COLUMNS;
+        unsigned end = width();
+        const uint16_t *cells = page() + row * width();
         while (end > 0 && wy50_cell_sent(cells[end - 1]) == ' ')
             end--;
         for (column = 0; column < end; column++)
@@ -133,10 +202,10 @@ static void print_attributes(void)
 {
     unsigned row, from, to;
     for (row = 0; row < WY50_ROWS; row++)
-        for (from = 0; from < WY50_COLUMNS; from = to) {
-            const uint16_t *cells = page + row * WY50_COLUMNS;
+        for (from = 0; from < width(); from = to) {
+            const uint16_t *cells = page() + row * width();
             int i, look = wy50_cell_attribute(cells[from]), told = 0;
-            for (to = from + 1; to < WY50_COLUMNS && wy50_cell_attribute(cells[to]) == look; to++)
+            for (to = from + 1; to < width() && wy50_cell_attribute(cells[to]) == look; to++)
                 ;
             if (look == 0)
                 continue;
@@ -174,17 +243,17 @@ static size_t keys(char *s)
 
 static void usage(void)
 {
-    fputs("usage: host_pty [-6] [-l] [-s KEYS].. [-q MILLISECONDS] PROGRAM [ARGUMENT]..\n", stderr);
+    fputs("usage: host_pty [-6] [-w] [-l] [-s KEYS].. [-q MILLISECONDS] PROGRAM [ARGUMENT]..\n", stderr);
     exit(2);
 }
 
 /* Starts the program on a pseudo-terminal; -1 if it cannot be started. The pipe closes at its start, or says why there is none. */
 static pid_t start(int *program, const char *term, char **words)
 {
-    struct winsize size = {WY50_ROWS, WY50_COLUMNS, 0, 0};
+    struct winsize s = size();
     int said[2], why = 0;
     pid_t child;
-    if (pipe(said) < 0 || (child = forkpty(program, NULL, NULL, &size)) < 0) {
+    if (pipe(said) < 0 || (child = forkpty(program, NULL, NULL, &s)) < 0) {
         perror("host_pty: no pseudo-terminal");
         exit(1);
     }
@@ -251,14 +320,17 @@ static int play(int program, int live, char **scripts, int count, int quiet)
 
 int main(int argc, char **argv)
 {
+    static const char *const terms[2][2] = {{"wy50", "wy50-w"}, {"wy60", "wy60-w"}};
     struct termios before;
     char *scripts[64];
-    int option, program, ended, status = 0, personality = WY50_PERSONALITY_50, live = 0, count = 0, quiet = -1, raw = 0;
+    int option, program, ended, status = 0, personality = WY50_PERSONALITY_50, wide = 0, live = 0, count = 0, quiet = -1, raw = 0;
     pid_t child;
 
-    while ((option = getopt(argc, argv, "+6ls:q:")) != -1) {
+    while ((option = getopt(argc, argv, "+6wls:q:")) != -1) {
         if (option == '6')
             personality = WY50_PERSONALITY_60;
+        else if (option == 'w')
+            wide = 1;
         else if (option == 'l')
             live = 1;
         else if (option == 's' && count < 64)
@@ -275,8 +347,10 @@ int main(int argc, char **argv)
     if (quiet < 0 && isatty(0) && isatty(1))
         live = 1;
 
-    state = wy50_power_on(page, WY50_CELLS, (uint8_t)personality).state;
-    child = start(&program, personality == WY50_PERSONALITY_60 ? "wy60" : "wy50", argv + optind);
+    state = wy50_power_on(pages[0], WY50_CELLS, (uint8_t)personality).state;
+    state.wish = (uint16_t)wide;
+    follow_wish();
+    child = start(&program, terms[personality == WY50_PERSONALITY_60][wide], argv + optind);
     if (child < 0)
         return 127;
     if (live) {
@@ -285,8 +359,7 @@ int main(int argc, char **argv)
             cfmakeraw(&now);
             raw = tcsetattr(0, TCSANOW, &now) == 0;
         }
-        fputs("\033[0m\033[2J", stdout);
-        memset(shown, 0, sizeof shown);
+        show();
     }
     ended = play(program, live, scripts, count, quiet);
     if (raw)
@@ -295,7 +368,9 @@ int main(int argc, char **argv)
         fputs("\033[?25h\033[2J\033[H", stdout);
     print_page();
     print_attributes();
-    fprintf(stderr, "host_pty: %zu bytes, %zu refused, cursor at row %u column %u\n", fed, refused, cursor() / WY50_COLUMNS + 1, cursor() % WY50_COLUMNS + 1);
+    fprintf(stderr, "host_pty: %zu bytes, %zu refused, cursor at row %u column %u\n", fed, refused, cursor() / width() + 1, cursor() % width() + 1);
+    if (kept_wide > 0)
+        fprintf(stderr, "host_pty: wishes for 80 columns refused, since cells beyond them would be lost: %zu\n", kept_wide);
     if (!ended)
         kill(-child, SIGKILL);
     waitpid(child, &status, 0);
