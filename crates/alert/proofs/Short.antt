@@ -1,5 +1,6 @@
 -- What members are sent has its room.
 --     short     no message is longer: 211 bytes, and 17 for each byte of the longest reply
+--     whole     the statement of specs/Message
 -- Assumes nothing.
 use mathlib.Core.Path.{_≡_, refl, ap}
 use mathlib.Core.Bool.{Bool, true, false}
@@ -24,8 +25,10 @@ use Rattle.counter.proofs.Fewest.{joined-onto}
 use Rattle.counter.proofs.Marks.{pieces-length}
 use Rattle.counter.proofs.Counting.{some-byte}
 use Rattle.counter.proofs.Replies.{asking-fits}
+use Rattle.counter.proofs.Questions.{ask-cases}
+use Rattle.rules.proofs.Rows.{columns-width, width-range}
 use Rattle.alert.specs.Room.{decimalOf, countOf}
-use Rattle.alert.specs.Message.{modeNote, isShown, pieceLine, pieceLines, countLine, toldLine, sent, replyRoom, replyOf, lastOf, message}
+use Rattle.alert.specs.Message.{modeNote, isShown, pieceLine, pieceLines, countLine, toldLine, sent, replyRoom, Whole, replyOf, lastOf, message}
 
 pick-most : (t : Bool) (x y : List ℕ) (n : ℕ) → length x ≤ n → length y ≤ n → length (pick t x y) ≤ n
 pick-most true x y n a b = a
@@ -125,3 +128,6 @@ unfolding message
 short p s first all last =
     let e = lastOf all last (replyOf p s) in
     omega (arith, sent-short (s .core .modes .protect) (askRule p s first e replyRoom) (replyOf p s) first e, asking-fits p s replyRoom)
+
+pub whole : Whole
+whole p s g r = ask-cases p s 1 1 replyRoom .enough g r (omega (arith, width-range (columns-width (s .core .screen .wide))))

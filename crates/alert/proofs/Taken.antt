@@ -1,5 +1,6 @@
 -- Every byte of a stream is taken.
---     each-taken     the statement of specs/Watch
+--     came-good, came-length     page and state are good, and the page has the length of its width
+--     each-taken                 the statement of specs/Watch
 -- Assumes nothing.
 use mathlib.Core.Path.{_≡_, refl, sym, ap, subst, _∙_}
 use mathlib.Core.Bool.{Bool, true, false, false≢true}
@@ -11,19 +12,21 @@ use lib.ListN.{length, length-take, length-drop}
 use borrow.Author.Tests.{lt-ltb, eqb-false, ne-eqb}
 use Rattle.rules.specs.declared.State.{State}
 use Rattle.rules.specs.declared.Sending.{Sending}
-use Rattle.rules.specs.Row.{columns}
-use Rattle.rules.specs.State.{widthOf, sends, withSending}
-use Rattle.rules.specs.Possible.{powerOn, good}
+use Rattle.rules.specs.Cell.{pick}
+use Rattle.rules.specs.State.{pageLength, sends, withSending}
+use Rattle.rules.specs.Possible.{good}
 use Rattle.rules.specs.Send.{Spot, places, bytesOf, sentFrom, leftFrom}
 use Rattle.rules.specs.Step.{goesOn, stepRule}
-use Rattle.rules.specs.Calls.{behind, repeated, runInside, runRule, powerOnRule}
+use Rattle.rules.specs.Calls.{behind, repeated, runInside, runRule}
+use Rattle.rules.proofs.Rows.{columns-width, width-range}
 use Rattle.rules.proofs.Screens.{screen-inside}
 use Rattle.rules.proofs.Sends.{places-small, bytes-beyond, places-left, some-left, ok-good, sent-bound}
-use Rattle.rules.proofs.Kept.{good-parts, possible-parts, step-good, run-good, powerOn-good}
+use Rattle.rules.proofs.Kept.{good-parts, possible-parts, step-good, run-good}
 use Rattle.rules.proofs.Bound.{step-taken}
 use Rattle.rules.proofs.Left.{step-good-most}
-use Rattle.alert.specs.Watch.{Watch, watch, stepped, resumed, finished, mostTimes, watched, watchedAll, EachTaken}
-use Rattle.alert.proofs.Watching.{on-state, finish-step, over-still}
+use Rattle.alert.specs.Watch.{Watch, watch, stepped, resumed, finished, mostTimes, watched, watchedAll, starting, Came, EachTaken}
+use Rattle.alert.proofs.Starting.{starts}
+use Rattle.alert.proofs.Watching.{finish-step, over-still}
 
 abbrev Good : Watch → Type 0
 Good x = good (x .page) (x .state) ≡ true
@@ -42,8 +45,8 @@ module _ (p : List ℕ) (s : State) (g : good p s ≡ true) where
   bytes = bytesOf (places p (s .core) (s .sending))
 
   -- no reply is longer
-  most : length bytes ≤ 1944
-  unfolding sentFrom columns
+  most : length bytes ≤ 3192
+  unfolding sentFrom
   most =
       let w = possible-parts s (good-parts p s g .1) in
       let i = screen-inside (s .core .screen) (w .core .screen) in
@@ -52,7 +55,7 @@ module _ (p : List ℕ) (s : State) (g : good p s ≡ true) where
         arith,
         length-take (length bytes) bytes,
         sent-bound p (s .core) i (s .sending) k (length bytes),
-        ap columns (w .narrow),
+        width-range (columns-width (s .core .screen .wide)),
       )
 
   module _ (n : ℕ) (u : sends (s .sending) ≡ true) where
@@ -78,6 +81,42 @@ module _ (p : List ℕ) (s : State) (g : good p s ≡ true) where
           some,
         )
 
+module _ (n : ℕ) where
+  resumed-good : (x : Watch) → Good x → Good (resumed n x)
+  unfolding resumed
+  resumed-good x g = run-good (x .page) (x .state) [] n g
+
+  stepped-good : (x : Watch) (b : ℕ) → Good x → Good (stepped n x b)
+  unfolding stepped
+  stepped-good x b g = step-good (x .page) (x .state) b n g
+
+  either-good : (t : Bool) (x y : Watch) → Good x → Good y → Good (pick t x y)
+  either-good true x y a b = a
+  either-good false x y a b = b
+
+  finished-good : (k : ℕ) (x : Watch) → Good x → Good (finished n k x)
+  unfolding finished
+  finished-good zero x g = g
+  finished-good (suc k) x g =
+      either-good (sends (x .state .sending)) (finished n k (resumed n x)) x (finished-good k (resumed n x) (resumed-good x g)) g
+
+  watched-good : (x : Watch) (b : ℕ) → Good x → Good (watched n x b)
+  unfolding watched
+  watched-good x b g = finished-good mostTimes (stepped n x b) (stepped-good x b g)
+
+  all-good : (l : List ℕ) (x : Watch) → Good x → Good (watchedAll n x l)
+  unfolding watchedAll
+  all-good [] x g = g
+  all-good (b ∷ l) x g = all-good l (watched n x b) (watched-good x b g)
+
+pub came-good : {page drawn : List ℕ} {s : State} → Came page drawn s → good page s ≡ true
+came-good c =
+    let x = starting (c .wide) (c .personality) (c .kept) in
+    subst (λ (y : Watch). Good y) (sym (c .fed .is)) (all-good (c .room) (c .fed .bytes) x (starts (c .wide) (c .personality) .fine))
+
+pub came-length : {page drawn : List ℕ} {s : State} → Came page drawn s → length page ≡ pageLength (s .core .screen)
+came-length {page} {s = s} c = good-parts page s (came-good c) .0
+
 module _ (n : ℕ) (h : 0 < n) where
   left-less : (x : Watch) → Good x → sends (x .state .sending) ≡ true → left (resumed n x) < left x
   unfolding resumed
@@ -85,16 +124,12 @@ module _ (n : ℕ) (h : 0 < n) where
       let r = ran (x .page) (x .state) g n u h in
       rw (r .0, r .1) (fewer (x .page) (x .state) g n u h)
 
-  resumed-good : (x : Watch) → Good x → Good (resumed n x)
-  unfolding resumed
-  resumed-good x g = run-good (x .page) (x .state) [] n g
-
   finish-next : (k : ℕ) (x : Watch) → Good x → left x ≤ suc k → (Good (resumed n x) → left (resumed n x) ≤ k → Ready (finished n k (resumed n x)))
       → Ready (finished n (suc k) x)
   finish-next k x g m y = by (sends (x .state .sending)) refl
     where
       by : (t : Bool) → sends (x .state .sending) ≡ t → Ready (finished n (suc k) x)
-      by true u = rw (finish-step n k x u) (y (resumed-good x g) (omega (arith, left-less x g u)))
+      by true u = rw (finish-step n k x u) (y (resumed-good n x g) (omega (arith, left-less x g u)))
       by false u = rw (over-still n (suc k) x u) (record { is-good = g; over = u })
 
   finish-last : (x : Watch) → Good x → left x ≤ 0 → Ready x
@@ -109,14 +144,10 @@ module _ (n : ℕ) (h : 0 < n) where
   finish-ready zero x g m = finish-last x g m
   finish-ready (suc k) x g m = finish-next k x g m (finish-ready k (resumed n x))
 
-  stepped-good : (x : Watch) (b : ℕ) → Good x → Good (stepped n x b)
-  unfolding stepped
-  stepped-good x b g = step-good (x .page) (x .state) b n g
-
   byte-ready : (x : Watch) (b : ℕ) → Ready x → Ready (watched n x b)
   unfolding watched
   byte-ready x b r =
-      let g = stepped-good x b (r .is-good) in
+      let g = stepped-good n x b (r .is-good) in
       finish-ready mostTimes (stepped n x b) g (most (stepped n x b .page) (stepped n x b .state) g)
 
   all-ready : (l : List ℕ) (x : Watch) → Ready x → Ready (watchedAll n x l)
@@ -139,7 +170,6 @@ module _ (n : ℕ) (h : 0 < n) where
       ∙ lt-ltb (stepRule p s b n .answer) 6 (omega (arith, step-good-most p s b n (r .is-good) (r .over), a))
 
 pub each-taken : EachTaken
-unfolding powerOn
-each-taken m lent drawn bytes b n e h =
-    let g = subst (λ (s : State). good (powerOnRule m lent .page) s ≡ true) (on-state m lent) (powerOn-good m lent e) in
-    ready-taken n h _ b (all-ready n h bytes (watch (powerOnRule m lent .page) drawn (powerOn m)) (record { is-good = g; over = refl }))
+each-taken wide m drawn bytes b n h =
+    let x = starts wide m in
+    ready-taken n h _ b (all-ready n h bytes (starting wide m drawn) (record { is-good = x .fine; over = x .quiet }))

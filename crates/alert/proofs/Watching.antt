@@ -1,5 +1,5 @@
 -- Laws of the host stream.
---     on-state, obeyed                        power-on, and one byte
+--     obeyed                                  one byte
 --     Finishing, finish-begin, finish-on, finish-over, finish-none     the loop over what is left of a send
 --     finish-step, over-still                 one turn of it
 --     Watching, watch-begin, watch-on, watch-done     the loop over bytes: the bytes to come bring about what all of them do
@@ -11,27 +11,15 @@ use mathlib.Core.List.{List, [], _∷_, _++_}
 use Prim.Native.Nat.{ℕ, zero, suc, _+_, _-_, _≤_, _<_}
 use native.Mathlib.Omega.{arith}
 use native.Mathlib.Numerals.{add-one}
-use lib.Dec.{eqb}
 use lib.ListN.{length, getD, drop, drop-of-length-le}
 use lib.Seq.{drop-cons}
 use Rattle.rules.specs.declared.Personality.{Personality}
 use Rattle.rules.specs.declared.State.{State}
 use Rattle.rules.specs.Cell.{pick}
-use Rattle.rules.specs.Row.{narrowCells}
 use Rattle.rules.specs.State.{sends}
-use Rattle.rules.specs.Possible.{powerOn, blank}
 use Rattle.rules.specs.Step.{Outcome, stepRule}
-use Rattle.rules.specs.Calls.{runRule, powerOnRule}
-use Rattle.alert.specs.Watch.{Took, Ended, goesOn, Watch, watch, watchedAs, stepped, resumed, finished, mostTimes, watched, watchedAll, FedBy, Fed, Came}
-
-pub on-state : (m : Personality) (p : List ℕ) → (powerOnRule m p) .state ≡ powerOn m
-unfolding powerOnRule
-on-state m p = by-test (eqb (length p) narrowCells)
-  where
-    by-test : (t : Bool) → (pick {A = Outcome} t (record { answer = 0; taken = false; state = powerOn m; page = blank; reply = [] })
-        (record { answer = 7; taken = false; state = powerOn m; page = p; reply = [] })) .state ≡ powerOn m
-    by-test true = refl
-    by-test false = refl
+use Rattle.rules.specs.Calls.{runRule}
+use Rattle.alert.specs.Watch.{startOn, Took, Ended, goesOn, Watch, watch, watchedAs, stepped, resumed, finished, mostTimes, watched, watchedAll, FedBy, Fed, Came}
 
 as-watched : (o : Outcome) (p d : List ℕ) (s : State) {p′ d′ : List ℕ} {t : State} {was is : Bool} → t ≡ o .state → p′ ≡ o .page
     → was ≡ s .core .modes .protect → is ≡ t .core .modes .protect → d′ ≡ pick (goesOn was is) p′ d → watch p′ d′ t ≡ watchedAs o (watch p d s)
@@ -126,6 +114,6 @@ fed-more {n} {m} {x} {y} e a b = record {
       ∙ sym (watched-append n x (a .bytes) (b .bytes));
 }
 
-pub came : (m : Personality) (lent : List ℕ) {first kept page drawn : List ℕ} {n : ℕ} {s t : State} → s ≡ powerOn m → first ≡ (powerOnRule m lent) .page
+pub came : (wide : Bool) (m : Personality) {first kept page drawn : List ℕ} {n : ℕ} {s t : State} → s ≡ startOn wide m .state → first ≡ startOn wide m .target
     → Fed n (watch first kept s) (watch page drawn t) → Came page drawn t
-came m lent {kept = kept} {n = n} es ep f = record { personality = m; lent = lent; kept = kept; room = n; fed = rw ep at (rw es at f) }
+came wide m {kept = kept} {n = n} es ep f = record { wide = wide; personality = m; kept = kept; room = n; fed = rw ep at (rw es at f) }

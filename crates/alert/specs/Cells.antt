@@ -1,9 +1,14 @@
 -- What the functions over cells promise.
-use Prim.Native.Nat.{ℕ, _+_, _≤_, _<_}
+use Prim.Native.Nat.{ℕ, _+_, _*_, _≤_, _<_}
 use mathlib.Core.Path.{_≡_}
 use mathlib.Core.Bool.{Bool, true}
 use mathlib.Core.List.{List}
-use lib.ListN.{length, getD}
+use lib.ListN.{length, getD, take, drop}
+use Rattle.rules.specs.Row.{columns}
+
+-- row r of a page, from 0
+abbrev pub rowOn : Bool → List ℕ → ℕ → List ℕ
+rowOn wide p r = take (columns wide) (drop (r * columns wide) p)
 
 -- r says whether two lists are the same
 pub record Same (x y : List ℕ) (r : Bool) : Type 0 where

@@ -1,12 +1,13 @@
 -- What members are sent, as it is told: the pieces of the terminal's own reply to ESC 5, and the units and text parts of the whole.
 use Prim.Native.Nat.{ℕ, suc}
 use mathlib.Core.Path.{_≡_}
-use mathlib.Core.Bool.{Bool}
+use mathlib.Core.Bool.{Bool, true, false}
 use mathlib.Core.List.{List, [], _∷_, _++_}
 use lib.Dec.{leb}
 use lib.ListN.{length}
 use Rattle.rules.specs.declared.State.{State}
 use Rattle.rules.specs.Cell.{pick, both}
+use Rattle.rules.specs.Possible.{good}
 use Rattle.rules.specs.Noninterference.{Alike}
 use Rattle.counter.specs.declared.Counted.{Counted}
 use Rattle.counter.specs.declared.Counted.the-variants as Counted
@@ -14,7 +15,7 @@ use Rattle.counter.specs.declared.Told.{Told}
 use Rattle.counter.specs.declared.Told.the-variants as Told
 use Rattle.counter.specs.Words.{words}
 use Rattle.counter.specs.Pieces.{pieces}
-use Rattle.counter.specs.Ask.{asking, askRule}
+use Rattle.counter.specs.Ask.{isReady, asking, isCut, askRule}
 use Rattle.alert.specs.Room.{decimalOf, countOf}
 
 -- whether protect mode is off: nothing is guarded then, and the marks hold all the same
@@ -54,9 +55,13 @@ unfoldable pub sent : Bool → Told → List ℕ → ℕ → ℕ → List ℕ
 sent on t r first last =
     words "\nWhat members are sent, from the reply to ESC 5\n" ++ modeNote on ++ pieceLines first last 1 (pieces r) ++ toldLine t
 
--- the room for the reply: the longest that there is
+-- the room for the reply: the longest that there is, that of a wide page
 abbrev pub replyRoom : ℕ
-replyRoom = 1944
+replyRoom = 3192
+
+-- at either width it is enough: no reply is cut
+abbrev pub Whole : Type 0
+Whole = (p : List ℕ) (s : State) → good p s ≡ true → isReady s ≡ true → isCut (asking p s replyRoom) ≡ false
 
 abbrev pub replyOf : List ℕ → State → List ℕ
 replyOf p s = (asking p s replyRoom) .reply

@@ -1,16 +1,30 @@
--- The bytes of a host, one by one: the page and the state that they leave, and the page as it was when protect mode last went on.
+-- Where a stream starts, on a narrow or a wide page; the bytes of a host, one by one: the page and the state that they leave, and the page as it was when
+-- protect mode last went on.
 use Prim.Native.Nat.{ℕ, zero, suc, _<_}
 use mathlib.Core.Path.{_≡_}
-use mathlib.Core.Bool.{Bool, true, not}
+use mathlib.Core.Bool.{Bool, true, false, not}
 use mathlib.Core.List.{List, [], _∷_}
-use lib.ListN.{length}
+use lib.ListN.{replicate}
 use Rattle.rules.specs.declared.Personality.{Personality}
 use Rattle.rules.specs.declared.State.{State}
 use Rattle.rules.specs.Cell.{pick, both}
-use Rattle.rules.specs.State.{sends}
-use Rattle.rules.specs.Possible.{powerOn}
+use Rattle.rules.specs.Row.{columns, wideCells}
+use Rattle.rules.specs.State.{widthOf, sends}
+use Rattle.rules.specs.Possible.{powerOn, blank, good}
 use Rattle.rules.specs.Step.{Outcome, stepRule}
-use Rattle.rules.specs.Calls.{Ran, runRule, powerOnRule}
+use Rattle.rules.specs.Calls.{Ran, runRule}
+use Rattle.rules.specs.Convert.{Turned, unturned, convertRule}
+
+-- the page and the state after the power-on of a personality, or after the conversion of these to a wide page
+unfoldable pub startOn : Bool → Personality → Turned
+startOn wide m = pick wide (convertRule blank (powerOn m) (replicate wideCells 0)) (unturned 0 blank (powerOn m))
+
+-- it is never refused, and leaves a page and a state of that width, with no send under way
+pub record Starts (wide : Bool) (m : Personality) : Type 0 where
+  pub answer : startOn wide m .answer ≡ 0
+  pub fine : good (startOn wide m .target) (startOn wide m .state) ≡ true
+  pub width : widthOf (startOn wide m .state .core .screen) ≡ columns wide
+  pub quiet : sends (startOn wide m .state .sending) ≡ false
 
 -- the page and the state after a step are those of its outcome
 pub record Took (o : Outcome) (s : State) (p : List ℕ) : Type 0 where
@@ -54,7 +68,7 @@ finished n (suc k) x = let r = finished n k (resumed n x) in pick (sends (x .sta
 
 -- no reply is longer, and each time at least a byte is sent
 abbrev pub mostTimes : ℕ
-mostTimes = 1944
+mostTimes = 3192
 
 -- one byte, and all that it has the terminal send
 unfoldable pub watched : ℕ → Watch → ℕ → Watch
@@ -73,17 +87,20 @@ pub record Fed (n : ℕ) (x y : Watch) : Type 0 where
   pub bytes : List ℕ
   pub is : y ≡ watchedAll n x bytes
 
--- some bytes from the power-on of a personality leave this page and this state, and `drawn` is the page as it was when protect mode last went on
+-- no byte has come yet
+abbrev pub starting : Bool → Personality → List ℕ → Watch
+starting wide m drawn = watch (startOn wide m .target) drawn (startOn wide m .state)
+
+-- some bytes from the start of a personality at a width leave this page and this state, and `drawn` is the page as it was when protect mode last went on
 pub record Came (page drawn : List ℕ) (s : State) : Type 0 where
+  pub wide : Bool
   pub personality : Personality
-  pub lent : List ℕ
   pub kept : List ℕ
   pub room : ℕ
-  pub fed : Fed room (watch ((powerOnRule personality lent) .page) kept (powerOn personality)) (watch page drawn s)
+  pub fed : Fed room (starting wide personality kept) (watch page drawn s)
 
--- every byte is taken: whatever bytes came before it from the power-on, with any reply room but 0, no send is under way when it comes
+-- every byte is taken: whatever bytes came before it from the start, with any reply room but 0, no send is under way when it comes
 abbrev pub EachTaken : Type 0
 EachTaken =
-    (m : Personality) (lent drawn bytes : List ℕ) (b n : ℕ) → length lent ≡ 1920 → 0 < n
-    → (stepRule ((watchedAll n (watch ((powerOnRule m lent) .page) drawn (powerOn m)) bytes) .page)
-    ((watchedAll n (watch ((powerOnRule m lent) .page) drawn (powerOn m)) bytes) .state) b n) .taken ≡ true
+    (wide : Bool) (m : Personality) (drawn bytes : List ℕ) (b n : ℕ) → 0 < n
+    → (stepRule ((watchedAll n (starting wide m drawn) bytes) .page) ((watchedAll n (starting wide m drawn) bytes) .state) b n) .taken ≡ true

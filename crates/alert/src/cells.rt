@@ -1,7 +1,9 @@
-// Lists of cells, and a text without its trailing spaces.
+// Lists of cells, the rows of a page, and a text without its trailing spaces.
 ghost use mathlib.Core.Path.{_≡_};
+ghost use Prim.Native.Nat.{_*_, _≤_, _<_};
 ghost use lib.ListN.{length};
-ghost use Rattle.alert.specs.Cells.{Same, Trimmed};
+ghost use Rattle.rules.specs.Row.{height, columns};
+ghost use Rattle.alert.specs.Cells.{rowOn, Same, Trimmed};
 
 // Copies all cells.
 pub fn copy(from: &[u16], to: &mut [u16])
@@ -30,6 +32,21 @@ pub fn same(a: &[u16], b: &[u16]) -> bool
         i += 1;
     }
     true
+}
+
+// A row of a page, from 0.
+pub fn row(page: &[u16], wide: bool, r: usize) -> &[u16]
+    requires { ⌜ (length (now page) ≡ height * columns wide) × (r < height) ⌝ }
+    ensures { λ t. ⌜ (now t ≡ rowOn wide (now (page .entry)) r) × (length (now t) ≤ 132) ⌝ }
+{
+    if wide {
+        let a = r * 132;
+        let e = a + 132;
+        return &page[a..e];
+    }
+    let a = r * 80;
+    let e = a + 80;
+    &page[a..e]
 }
 
 // The length of a text without its trailing spaces.

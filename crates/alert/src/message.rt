@@ -164,7 +164,7 @@ pub fn message(
 ) -> usize
     ensures { λ r. ⌜ (now (page .exit) ≡ now (page .entry)) × Puts (messageOf (now (page .entry)) state first all last) 0 (now (room .entry)) r (now (room .exit)) ⌝ }
 {
-    let mut reply = [0u8; 1944];
+    let mut reply = [0u8; 3192];
     let a = count_alert(page, state, 1, 1, &mut reply);
     let n = a.replied;
     let end = last_of(all, last, &reply[..n]);

@@ -1,4 +1,4 @@
-// The command line: alert [-6] [--first N] [--last N] [FILE].
+// The command line: alert [-6] [-w] [--first N] [--last N] [FILE].
 use check::same;
 
 // What the next argument is: anything, or the number of an option.
@@ -13,10 +13,11 @@ const NONE: usize = 0xffff_ffff_ffff_ffff;
 
 const LIMIT: usize = 0x1000_0000_0000_0000;
 
-// A WY-60 or a WY-50. The pieces wanted: from `first` on to `last`, or all. `file` is the argument that names the file, 0 where none does. `bad` is
+// A WY-60 or a WY-50, a wide page or a narrow one. The pieces wanted: from `first` on to `last`, or all. `file` is the argument that names the file, 0 where none does. `bad` is
 // a command line of another form.
 pub struct Options {
     pub wy60: bool,
+    pub wide: bool,
     pub first: usize,
     pub last: usize,
     pub all: bool,
@@ -98,6 +99,10 @@ fn take(o: Options, i: usize, word: &[u8]) -> Options {
         t.wy60 = true;
         return t;
     }
+    if same(word, b"-w") {
+        t.wide = true;
+        return t;
+    }
     if same(word, b"--first") {
         t.awaits = FIRST;
         return t;
@@ -132,6 +137,7 @@ fn all_of(o: Options, count: usize) -> Options {
 pub fn read() -> Options {
     let none = Options {
         wy60: false,
+        wide: false,
         first: 1,
         last: 0,
         all: true,

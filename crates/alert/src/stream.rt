@@ -1,15 +1,17 @@
 // The bytes of the host, one by one to the terminal, and what came of them. A reply that does not fit the room begins, and goes on before the next
 // byte.
 ghost use mathlib.Core.Path.{_≡_};
+ghost use mathlib.Core.Bool.{true};
 ghost use mathlib.Core.List.{List, []};
-ghost use Prim.Native.Nat.{ℕ};
+ghost use Prim.Native.Nat.{ℕ, _*_};
 ghost use lib.ListN.{length};
 ghost use Rattle.rules.specs.Cell.{pick};
+ghost use Rattle.rules.specs.Row.{height, columns, narrowCells, wideCells};
 ghost use Rattle.rules.specs.State.{sends as sending};
-ghost use Rattle.rules.specs.Possible.{powerOn};
+ghost use Rattle.rules.specs.Possible.{powerOn, blank};
 ghost use Rattle.rules.specs.Step.{stepRule};
-ghost use Rattle.rules.specs.Calls.{powerOnRule, runRule};
-ghost use Rattle.alert.specs.Watch.{Took, Ended, goesOn, watch, finished, mostTimes, watched, FedBy, Fed, Came};
+ghost use Rattle.rules.specs.Calls.{runRule};
+ghost use Rattle.alert.specs.Watch.{startOn, Took, Ended, goesOn, watch, finished, mostTimes, watched, FedBy, Fed, Came};
 use crate::cells::copy;
 use crate::cells::same;
 use rules::Answer;
@@ -18,8 +20,8 @@ use rules::State;
 use state::sending::is_sending;
 use std::num::wrapping_add_u64;
 
-// No reply is longer.
-const LONGEST: usize = 1944;
+// No reply is longer: that of a wide page.
+const LONGEST: usize = 3192;
 
 // The bytes refused, by answer: 1 to 4 in this order, and the rest.
 pub struct Refusals {
@@ -44,12 +46,40 @@ pub struct Played {
     pub failed: bool,
 }
 
-// Power-on.
-fn start(page: &mut [u16], personality: Personality) -> Played
-    ensures { λ r. ⌜ (r .state ≡ powerOn personality) × (now (page .exit) ≡ (powerOnRule personality (now (page .entry))) .page) ⌝ }
+// Power-on, on a narrow page.
+fn start_narrow(page: &mut [u16], personality: Personality) -> State
+    requires { ⌜ length (now page) ≡ narrowCells ⌝ }
+    ensures { λ r. ⌜ (r ≡ powerOn personality) × (now (page .exit) ≡ blank) ⌝ }
 {
     let on = terminal::power_on(page, personality);
-    let state = on.state;
+    on.state
+}
+
+// Power-on, and the conversion to the other width. It is never refused: a blank page loses nothing, and nothing is sent.
+fn start_wide(page: &mut [u16], personality: Personality) -> State
+    requires { ⌜ length (now page) ≡ wideCells ⌝ }
+    ensures { λ r. ⌜ (r ≡ (startOn true personality) .state) × (now (page .exit) ≡ (startOn true personality) .target) ⌝ }
+{
+    let mut narrow = [0u16; 1920];
+    let state = start_narrow(&mut narrow, personality);
+    let there = terminal::convert(&narrow, state, page);
+    there.state
+}
+
+fn start(page: &mut [u16], wide: bool, personality: Personality) -> State
+    requires { ⌜ length (now page) ≡ height * columns wide ⌝ }
+    ensures { λ r. ⌜ (r ≡ (startOn wide personality) .state) × (now (page .exit) ≡ (startOn wide personality) .target) ⌝ }
+{
+    if wide {
+        return start_wide(page, personality);
+    }
+    start_narrow(page, personality)
+}
+
+// No byte has come yet.
+fn begun(state: State) -> Played
+    ensures { λ r. ⌜ r .state ≡ state ⌝ }
+{
     let none = Refusals {
         high: 0,
         unknown: 0,
@@ -338,10 +368,11 @@ fn pieces(
     p
 }
 
-// The whole stream, from the power-on of a personality. `before` is for the comparison of pages, and `drawn` comes back as the page was when protect mode last
-// went on; the log comes back with the first bytes of the replies.
+// The whole stream, from the power-on of a personality, on a wide page or a narrow one. `before` is for the comparison of pages, and `drawn` comes back
+// as the page was when protect mode last went on; the log comes back with the first bytes of the replies.
 pub fn play(
     fd: i32,
+    wide: bool,
     personality: Personality,
     page: &mut [u16],
     before: &mut [u16],
@@ -349,9 +380,10 @@ pub fn play(
     room: &mut [u8],
     log: &mut [u8],
 ) -> Played
-    requires { ⌜ (length (now page) ≡ length (now before)) × (length (now page) ≡ length (now drawn)) ⌝ }
+    requires { ⌜ (length (now page) ≡ height * columns wide) × ((length (now page) ≡ length (now before)) × (length (now page) ≡ length (now drawn))) ⌝ }
     ensures { λ r. ⌜ Came (now (page .exit)) (now (drawn .exit)) (r .state) ⌝ }
 {
-    let p = start(page, personality);
+    let state = start(page, wide, personality);
+    let p = begun(state);
     pieces(fd, page, before, drawn, p, room, log)
 }

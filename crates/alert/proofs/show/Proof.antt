@@ -1,4 +1,4 @@
--- `alert::show` is safe and ends. The pages that it shows are those that the stream left.
+-- `alert::show` is safe and ends.
 use denote.Ref.{now}
 use borrow.Author.Needs.{needs}
 use Rattle.alert.proofs.show.Statement.{statement}
@@ -22,14 +22,16 @@ show-spec =
     (λ c κs. search needs)
     -- show-requires-2
     (λ c κs. c .before .before .before .before .before .before .before .before .before .before .before .before .before .before .before .before .before .before .before .pre .0)
+    -- wish-requires
+    (λ c κs. search needs)
     -- sequence-requires
     (λ c κs. search needs)
     -- show-guarded-requires
-    (λ c κs. let k = c .before .before .before .before .before .before .before .before .before .before .before .before .before .before .before .before .before .before .before .before .before .before .pre in (k .0, (k .1 .0, k .1 .1)))
+    (λ c κs. let k = c .before .before .before .before .before .before .before .before .before .before .before .before .before .before .before .before .before .before .before .before .before .before .before .pre in (k .0, (k .1 .0, k .1 .1)))
     -- refused-requires
     (λ c κs. search needs)
     -- show-message-requires
-    (λ c κs. (now (c .before .before .before .before .before .before .before .before .before .before .before .before .before .before .before .before .before .before .before .before .before .before .before .before .before .args .drawn), c .before .before .before .before .before .before .before .before .before .before .before .before .before .before .before .before .before .before .before .before .before .before .before .before .before .pre .1 .1))
+    (λ c κs. (now (c .before .before .before .before .before .before .before .before .before .before .before .before .before .before .before .before .before .before .before .before .before .before .before .before .before .before .args .drawn), c .before .before .before .before .before .before .before .before .before .before .before .before .before .before .before .before .before .before .before .before .before .before .before .before .before .before .pre .1 .1))
     -- replies-requires
     (λ c κs. search needs)
     -- same-length

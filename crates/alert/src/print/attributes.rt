@@ -1,7 +1,9 @@
 // The attributes of a WY-60: the one that is remembered, and those of the cells, where they are not normal.
 ghost use mathlib.Core.Path.{_≡_};
-ghost use Prim.Native.Nat.{_≤_, _<_};
+ghost use Prim.Native.Nat.{_*_, _≤_, _<_};
 ghost use lib.ListN.{length};
+ghost use Rattle.rules.specs.Row.{height, columns};
+use crate::cells;
 use crate::print::out;
 use page::cell::NORMAL;
 use page::cell::attribute_of;
@@ -40,7 +42,7 @@ pub fn remembered(a: u8) {
 
 // Where the cells end that have the attribute of the one at `from`.
 fn run_end(cells: &[u16], from: usize) -> usize
-    requires { ⌜ (from < length (now cells)) × (length (now cells) ≤ 80) ⌝ }
+    requires { ⌜ (from < length (now cells)) × (length (now cells) ≤ 132) ⌝ }
     ensures { λ r. ⌜ (from < r) × (r ≤ length (now (cells .entry))) ⌝ }
 {
     let a = attribute_of(cells[from]);
@@ -70,7 +72,7 @@ fn run(row: u64, first: u64, last: u64, a: u8) {
 }
 
 fn row(cells: &[u16], r: u64)
-    requires { ⌜ length (now cells) ≤ 80 ⌝ }
+    requires { ⌜ length (now cells) ≤ 132 ⌝ }
 {
     let mut i = 0;
     while i < cells.len() {
@@ -92,8 +94,8 @@ fn is_normal(cells: &[u16]) -> bool {
     true
 }
 
-pub fn show(page: &[u16])
-    requires { ⌜ length (now page) ≡ 1920 ⌝ }
+pub fn show(page: &[u16], wide: bool)
+    requires { ⌜ length (now page) ≡ height * columns wide ⌝ }
 {
     if is_normal(page) {
         return;
@@ -101,9 +103,7 @@ pub fn show(page: &[u16])
     out::text(b"Attributes\n");
     let mut r = 0;
     while r < 24 {
-        let a = r * 80;
-        let e = a + 80;
-        row(&page[a..e], r as u64 + 1);
+        row(cells::row(page, wide, r), r as u64 + 1);
         r += 1;
     }
 }

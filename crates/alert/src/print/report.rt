@@ -10,6 +10,8 @@ use page::cell::is_guarded;
 use rules::Modes;
 use rules::Pending;
 use rules::Screen;
+use state::width::column_of;
+use state::width::row_of;
 use std::num::wrapping_add_u64;
 
 pub fn heading(name: &[u8], bytes: u64) {
@@ -20,13 +22,13 @@ pub fn heading(name: &[u8], bytes: u64) {
 }
 
 // The active cursor, a cell of the page.
-pub fn cursor_of(screen: Screen) -> usize
+pub fn cursor_of(screen: Screen) -> u16
     ensures { λ r. ⌜ r ≡ cursorOf screen ⌝ }
 {
     if screen.active == 0 {
-        return screen.cursor0 as usize;
+        return screen.cursor0;
     }
-    screen.cursor1 as usize
+    screen.cursor1
 }
 
 fn split(screen: Screen) {
@@ -51,15 +53,15 @@ fn is_guarded_at(page: &[u16], protect: bool, at: usize) -> bool {
 }
 
 // A cell of the page by its row and column.
-fn cell_place(at: u64) {
-    out::place(at / 80 + 1, at % 80 + 1);
+fn cell_place(wide: bool, at: u16) {
+    out::place(row_of(wide, at) as u64 + 1, column_of(wide, at) as u64 + 1);
 }
 
 pub fn place(page: &[u16], protect: bool, screen: Screen) {
     let at = cursor_of(screen);
     out::text(b"\nCursor    ");
-    cell_place(at as u64);
-    if is_guarded_at(page, protect, at) {
+    cell_place(screen.wide, at);
+    if is_guarded_at(page, protect, at as usize) {
         out::text(b", on a guarded cell");
     }
     out::text(b"\n");
@@ -90,6 +92,18 @@ pub fn modes(m: Modes) {
         out::text(b"none is on");
     }
     out::text(b"\n");
+}
+
+// The wish, where it is not for a page of this width.
+pub fn wish(wide: bool, wished: bool) {
+    if wide == wished {
+        return;
+    }
+    if wished {
+        out::text(b"Wish      a wide page: alert -w shows one\n");
+        return;
+    }
+    out::text(b"Wish      a narrow page: alert without -w shows one\n");
 }
 
 // A sequence that the stream leaves unfinished.

@@ -1,8 +1,8 @@
 -- `alert::stream::play` meets its contract.
+use mathlib.Core.Path.{_∙_}
 use Rattle.alert.proofs.Watching.{came}
 use native.Mathlib.Omega.{arith}
 use borrow.Author.Needs.{needs}
-use denote.Ref.{now}
 use Rattle.alert.proofs.stream.play.Statement.{statement}
 use Rattle.alert.proofs.stream.play.Tie as tie
 
@@ -11,40 +11,20 @@ play-spec =
     tie.close
     (tie.spec
     -- start-requires
+    (λ c κs. c .before .before .before .before .before .before .pre .0)
+    -- begun-requires
     (λ c κs. search needs)
     -- pieces-requires
-    (λ c κs.
-    let k = c .before .before .before .before .before .before .before .before .before .before .before .before .before .before .pre in
-    let start′ = c .before .before .before .before .before .before .before .start in
-    omega (arith, start′ .kept, k))
+    (λ c κs. omega (arith, c .before .before .before .before .before .before .before .before .start .kept, c .before .before .before .before .before .before .before .before .before .before .before .before .before .before .before .pre .1))
     -- same-length
-    (λ c.
-    let start′ = c .before .before .before .before .before .before .before .before .before .before .before .before .before .before .before .before .before .before .start in
-    let pieces′ = c .before .before .before .before .before .before .before .before .before .before .pieces in
-    omega (arith, start′ .kept, pieces′ .kept))
+    (λ c. omega (arith, c .before .before .before .before .before .before .before .before .before .before .before .before .before .before .before .before .before .before .before .start .kept, c .before .before .before .before .before .before .before .before .before .before .pieces .kept))
     -- same-length-2
-    (λ c.
-    let start′ = c .before .before .before .before .before .before .before .before .before .before .before .before .before .before .before .before .before .before .start in
-    let pieces′ = c .before .before .before .before .before .before .before .before .before .before .pieces in
-    omega (arith, start′ .kept, pieces′ .kept))
+    (λ c. omega (arith, c .before .before .before .before .before .before .before .before .before .before .before .before .before .before .before .before .before .before .before .start .kept, c .before .before .before .before .before .before .before .before .before .before .pieces .kept))
     -- same-length-3
-    (λ c.
-    let start′ = c .before .before .before .before .before .before .before .before .before .before .before .before .before .before .before .before .before .before .start in
-    let pieces′ = c .before .before .before .before .before .before .before .before .before .before .pieces in
-    omega (arith, start′ .kept, pieces′ .kept))
+    (λ c. omega (arith, c .before .before .before .before .before .before .before .before .before .before .before .before .before .before .before .before .before .before .before .start .kept, c .before .before .before .before .before .before .before .before .before .before .pieces .kept))
     -- same-length-4
-    (λ c.
-    let start′ = c .before .before .before .before .before .before .before .before .before .before .before .before .before .before .before .before .before .before .start in
-    let pieces′ = c .before .before .before .before .before .before .before .before .before .before .pieces in
-    omega (arith, start′ .kept, pieces′ .kept))
+    (λ c. omega (arith, c .before .before .before .before .before .before .before .before .before .before .before .before .before .before .before .before .before .before .before .start .kept, c .before .before .before .before .before .before .before .before .before .before .pieces .kept))
     -- same-length-5
-    (λ c.
-    let start′ = c .before .before .before .before .before .before .before .before .before .before .before .before .before .before .before .before .before .before .start in
-    let pieces′ = c .before .before .before .before .before .before .before .before .before .before .pieces in
-    omega (arith, start′ .kept, pieces′ .kept))
+    (λ c. omega (arith, c .before .before .before .before .before .before .before .before .before .before .before .before .before .before .before .before .before .before .before .start .kept, c .before .before .before .before .before .before .before .before .before .before .pieces .kept))
     -- returns
-    (λ c.
-    let x = c .before .before .before .before .before .before .before .before .before .before .before .before .before .before .before .before .before .before .before .before .before .before .before .before .before .args in
-    let start′ = c .before .before .before .before .before .before .before .before .before .before .before .before .before .before .before .before .before .before .start in
-    let pieces′ = c .before .before .before .before .before .before .before .before .before .before .pieces in
-    came (x .personality) (now (x .page)) (start′ .ensures .0) (start′ .ensures .1) (pieces′ .ensures)))
+    (λ c. came (c .before .before .before .before .before .before .before .before .before .before .before .before .before .before .before .before .before .before .before .before .before .before .before .before .before .before .args .wide) (c .before .before .before .before .before .before .before .before .before .before .before .before .before .before .before .before .before .before .before .before .before .before .before .before .before .before .args .personality) (c .before .before .before .before .before .before .before .before .before .before .before .before .before .before .before .before .begun .ensures ∙ c .before .before .before .before .before .before .before .before .before .before .before .before .before .before .before .before .before .before .before .start .ensures .0) (c .before .before .before .before .before .before .before .before .before .before .before .before .before .before .before .before .before .before .before .start .ensures .1) (c .before .before .before .before .before .before .before .before .before .before .pieces .ensures)))

@@ -6,10 +6,10 @@ use Rattle.alert.proofs.print.attributes.show.Statement.{statement}
 use Rattle.alert.proofs.print.attributes.show.Tie as tie
 
 abbrev Inv-loop : tie.InvT-loop
-Inv-loop page r₀ r = r ≤ 24
+Inv-loop page wide r₀ r = r ≤ 24
 
 abbrev μ-loop : tie.MeasureT-loop
-μ-loop page r₀ r = 24 - r
+μ-loop page wide r₀ r = 24 - r
 
 pub show-spec : {M : Type 1} → statement M
 show-spec =
@@ -27,21 +27,11 @@ show-spec =
     (λ c κs. search needs)
     -- loop-holds
     (λ c. search needs)
-    -- mul-a
-    (λ c. search needs)
-    -- add-e
-    (λ c. search needs)
-    -- mul-row
-    (λ c. search needs)
-    -- sub-row
-    (λ c. search needs)
-    -- part-row-start
-    (λ c. search needs)
-    -- part-row-end
-    (λ c. search needs)
+    -- row-requires
+    (λ c κs. search needs)
     -- add-row
     (λ c. search needs)
-    -- row-requires
+    -- row-requires-2
     (λ c κs. search needs)
     -- add-r
     (λ c. search needs)

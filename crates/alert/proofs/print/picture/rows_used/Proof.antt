@@ -5,10 +5,10 @@ use Rattle.alert.proofs.print.picture.rows_used.Statement.{statement}
 use Rattle.alert.proofs.print.picture.rows_used.Tie as tie
 
 abbrev Inv-loop : tie.InvT-loop
-Inv-loop page protect cursor n₀ n = n ≤ 24
+Inv-loop page wide protect cursor n₀ n = n ≤ 24
 
 abbrev μ-loop : tie.MeasureT-loop
-μ-loop page protect cursor n₀ n = n
+μ-loop page wide protect cursor n₀ n = n
 
 pub rows-used-spec : {M : Type 1} → statement M
 rows-used-spec =
@@ -18,22 +18,10 @@ rows-used-spec =
     μ-loop
     -- loop-holds
     (λ c. search needs)
-    -- mul-a
+    -- sub-r
     (λ c. search needs)
-    -- sub-a
-    (λ c. search needs)
-    -- mul-e
-    (λ c. search needs)
-    -- mul-is-empty
-    (λ c. search needs)
-    -- sub-is-empty
-    (λ c. search needs)
-    -- part-is-empty-start
-    (λ c. search needs)
-    -- part-is-empty-end
-    (λ c. search needs)
-    -- sub-cursor-in
-    (λ c. search needs)
+    -- row-requires
+    (λ c κs. search needs)
     -- cursor-in-requires
     (λ c κs. search needs)
     -- is-empty-requires

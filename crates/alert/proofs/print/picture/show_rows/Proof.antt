@@ -5,10 +5,10 @@ use Rattle.alert.proofs.print.picture.show_rows.Statement.{statement}
 use Rattle.alert.proofs.print.picture.show_rows.Tie as tie
 
 abbrev Inv-loop : tie.InvT-loop
-Inv-loop page protect cursor n r₀ r = r ≤ n
+Inv-loop page wide protect cursor n r₀ r = r ≤ n
 
 abbrev μ-loop : tie.MeasureT-loop
-μ-loop page protect cursor n r₀ r = n - r
+μ-loop page wide protect cursor n r₀ r = n - r
 
 pub show-rows-spec : {M : Type 1} → statement M
 show-rows-spec =
@@ -18,18 +18,8 @@ show-rows-spec =
     μ-loop
     -- loop-holds
     (λ c. search needs)
-    -- mul-a
-    (λ c. search needs)
-    -- add-e
-    (λ c. search needs)
-    -- mul-show-row
-    (λ c. search needs)
-    -- sub-show-row
-    (λ c. search needs)
-    -- part-show-row-start
-    (λ c. search needs)
-    -- part-show-row-end
-    (λ c. search needs)
+    -- row-requires
+    (λ c κs. search needs)
     -- add-show-row
     (λ c. search needs)
     -- cursor-in-requires

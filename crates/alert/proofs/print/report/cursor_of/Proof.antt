@@ -1,5 +1,4 @@
 -- `alert::print::report::cursor_of` meets its contract.
-use borrow.Author.Needs.{needs}
 use borrow.Author.Tests.{eq-eqb, ne-eqb}
 use Rattle.rules.specs.State.{cursorOf}
 use Rattle.alert.proofs.print.report.cursor_of.Statement.{statement}
@@ -7,19 +6,15 @@ use Rattle.alert.proofs.print.report.cursor_of.Tie as tie
 
 returns : tie.Need-returns
 unfolding cursorOf
-returns c = simp (eq-eqb _ _ (c .before .if1 .taken))
+returns c = simp (eq-eqb _ _ (c .if1 .taken))
 
 returns-2 : tie.Need-returns-2
 unfolding cursorOf
-returns-2 c = simp (ne-eqb _ _ (c .before .if1 .left))
+returns-2 c = simp (ne-eqb _ _ (c .if1 .left))
 
 pub cursor-of-spec : {M : Type 1} → statement M
 cursor-of-spec = tie.close (tie.spec
-    -- cast-result
-    (λ c. search needs)
     -- returns
     returns
-    -- cast-result-2
-    (λ c. search needs)
     -- returns-2
     returns-2)
