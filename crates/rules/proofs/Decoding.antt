@@ -10,7 +10,7 @@ use native.Mathlib.Nat.{pow-le-pow-right}
 use native.Mathlib.Numerals.{add-one}
 use lib.Dec.{ltb, leb, eqb}
 use lib.ListN.{set}
-use borrow.Author.Tests.{lt-ltb, le-leb, leb-true, ltb-true}
+use borrow.Author.Tests.{lt-ltb, le-leb, leb-true, ltb-true, ltb-false, eqb-true}
 use Rattle.rules.specs.declared.Slot.{Slot}
 use Rattle.rules.specs.declared.Pending.{Pending}
 use Rattle.rules.specs.declared.Pending.the-variants as Pending
@@ -27,7 +27,7 @@ use Rattle.rules.specs.Slot.{slotOk, slotEnd, slotMost, slotLow, isText,
 use Rattle.rules.specs.Possible.{pendingOk}
 use Rattle.rules.specs.Decode.{lookup, controls, escapes, idleRule, escapeRule, judged, featureRule, fieldRule, splitRule, digitRule, decimalRowRule, decimalColumnRule, slotRule, textRule, spoiltRule, argumentRule, decodeRule}
 use Rattle.rules.proofs.Tests.{pick-if, both-parts, both-true, among-parts}
-use Rattle.rules.proofs.Good.{settingOk, contentsOk, clearOk, commandOk}
+use Rattle.rules.proofs.Good.{settingOk, storeOk, fillOk, clearOk, commandOk}
 use Rattle.rules.proofs.Texts.{text-begun, text-grown}
 
 -- g are the bytes gathered
@@ -53,11 +53,11 @@ looked-up f (r ∷ t) other b e h =
     pick-if (λ (d : Decoded). f d ≡ true) (eqb b (r .0)) (λ z. p .0) (λ z. looked-up f t other b (p .1) h)
 
 controls-ok : (g : List ℕ) → entriesOk (decodedOk g) controls ≡ true
-unfolding entriesOk decodedOk commandOk clearOk contentsOk pendingOk
+unfolding entriesOk decodedOk commandOk clearOk fillOk pendingOk
 controls-ok g = refl
 
 escapes-ok : (g : List ℕ) → entriesOk (decodedOk g) escapes ≡ true
-unfolding entriesOk decodedOk commandOk clearOk contentsOk settingOk pendingOk slotOk textOk slotMost allText
+unfolding entriesOk decodedOk commandOk clearOk fillOk settingOk pendingOk slotOk textOk slotMost allText
 escapes-ok g = refl
 
 -- ---- the rules of the single sequences
@@ -76,10 +76,10 @@ module _ (g : List ℕ) where
   judged-ok false d h = refl
 
   idle-ok : (b : ℕ) → decodedOk g (idleRule b) ≡ true
-  unfolding idleRule decodedOk commandOk contentsOk
+  unfolding idleRule decodedOk commandOk storeOk
   idle-ok b =
       pick-if (Ok g) (ltb b 0x20) (λ e. looked-up (decodedOk g) controls _ b (controls-ok g) refl)
-      (λ e. pick-if (Ok g) (ltb b 0x7f) (λ z. lt-ltb b 128 (omega (arith, ltb-true b 0x7f z))) (λ z. refl))
+      (λ e. pick-if (Ok g) (ltb b 0x7f) (λ z. both-true (le-leb 0x20 b (ltb-false b 0x20 e)) z) (λ z. refl))
 
   escape-ok : (b : ℕ) → decodedOk g (escapeRule b) ≡ true
   unfolding escapeRule decodedOk
@@ -151,21 +151,22 @@ module _ (g : List ℕ) where
       let w = both-parts (ltb n (slotMost x)) (isText (slotLow x) b) t in
       both-true (r .0) (text-grown (slotLow x) (slotMost x) n g b (r .1) (ltb-true n (slotMost x) (w .0)) (w .1))) (λ t. r .0))
 
--- attr is below 80h, as text and as an attribute
-attribute-contents-ok : (a : ℕ) → a < 128 → contentsOk (attributeContents a) ≡ true
-unfolding attributeContents contentsOk
-attribute-contents-ok a h = pick-if (λ (k : Contents). contentsOk k ≡ true) (eqb a 0x20) (λ e. lt-ltb a 128 h) (λ e. lt-ltb a 128 h)
+-- attr as text and as an attribute
+attribute-contents-ok : (a : ℕ) → isAttribute a ≡ true → fillOk (attributeContents a) ≡ true
+unfolding isAttribute attributeContents fillOk
+attribute-contents-ok a h =
+    pick-if (λ (k : Contents). fillOk k ≡ true) (eqb a 0x20) (λ e. let z = eqb-true a 0x20 e in rw z) (λ e. rw e at h)
 
 argument-ok : (g : List ℕ) (a : Argument) (b : ℕ) → b < 128 → decodedOk g (argumentRule a b) ≡ true
-unfolding argumentRule decodedOk pendingOk commandOk clearOk contentsOk
+unfolding argumentRule decodedOk pendingOk commandOk storeOk clearOk fillOk
 argument-ok g Argument.Address b h = lt-ltb b _ (omega arith)
 argument-ok g Argument.Segment b h = lt-ltb b _ (omega arith)
 argument-ok g Argument.Split b h = split-ok g b
 argument-ok g Argument.SplitRow b h = refl
 argument-ok g Argument.Attribute b h = judged-ok g (isAttribute b) _ (λ z. z)
-argument-ok g Argument.Graphic b h = judged-ok g (among 0x30 16 b) _ (λ z. lt-ltb b 128 h)
-argument-ok g Argument.FillAttribute b h = judged-ok g (isAttribute b) _ (λ z. attribute-contents-ok b h)
-argument-ok g Argument.FillCode b h = judged-ok g (either (eqb b 0) (among 0x20 95 b)) _ (λ z. lt-ltb b 128 h)
+argument-ok g Argument.Graphic b h = judged-ok g (among 0x30 16 b) _ (λ z. z)
+argument-ok g Argument.FillAttribute b h = judged-ok g (isAttribute b) _ (λ z. attribute-contents-ok b z)
+argument-ok g Argument.FillCode b h = judged-ok g (either (eqb b 0) (among 0x20 95 b)) _ (λ z. z)
 argument-ok g Argument.Feature b h = feature-ok g b
 argument-ok g Argument.FieldAttribute b h = lt-ltb b _ (omega arith)
 argument-ok g Argument.Slot b h = slot-ok g b

@@ -45,7 +45,7 @@ use Rattle.rules.specs.Cell.{pick, both, either, among, null, space, pro
 use Rattle.rules.specs.Row.{columnOf, rowStart}
 use Rattle.rules.specs.State.{number, widthOf, pageLength, segmentTop, segmentBottom, segmentStart, segmentEnd, cursorOf, activated, withScreen, withModes, withAttribute, withProtect, withMode, Inside}
 use Rattle.rules.specs.Possible.{screenOk, rememberedOk}
-use Rattle.rules.specs.Arguments.{isAttribute, attributeOf, featurePlace}
+use Rattle.rules.specs.Arguments.{isFlags, isAttribute, attributeOf, featurePlace}
 use Rattle.rules.specs.Plan.{refusing, unlessWide, plain, writingTwo, settling, replying, changing, unlessGuarded, scrolls, atTop, reversePlan, downPlan, tabCell, backTabCell, addressPlan, movePlan, unsplitScreen, splitScreen, activate, isSegment, windowPlan, storing, advancing, storePlan, takesCell, attributePlan, rowEditPlan, editPlan, clearPlan, settingPlan, sendPlan, clearAll, excludedPlan, planRule}
 use Rattle.rules.specs.Good.{GoodWrite, GoodSend, GoodLand, GoodPlan}
 use Rattle.rules.proofs.Tests.{pick-if, both-parts, both-true, among-parts}
@@ -63,7 +63,7 @@ changeOk w (SetupChange.Feature n f) = both (ltb n 5) (eqb (featurePlace f) n)
 changeOk w SetupChange.HideLine = true
 changeOk w (SetupChange.Wish b) = true
 
--- a setting that makes such a change; contents whose code is below 80h; and a command of such
+-- a setting that makes such a change
 unfoldable pub settingOk : Setting → Bool
 settingOk (Setting.Tab b) = true
 settingOk Setting.ClearTabs = true
@@ -72,22 +72,29 @@ settingOk (Setting.Feature f) = ltb (featurePlace f) 5
 settingOk Setting.HideLine = true
 settingOk (Setting.Wish b) = true
 
-unfoldable pub contentsOk : Contents → Bool
-contentsOk (Contents.Text c) = ltb c 128
-contentsOk (Contents.Attribute c) = ltb c 128
-contentsOk (Contents.Graphic c) = ltb c 128
+-- contents that are stored, text or a graphic, and such as clearing writes: text, nulls or attributes
+unfoldable pub storeOk : Contents → Bool
+storeOk (Contents.Text c) = among 0x20 95 c
+storeOk (Contents.Attribute c) = false
+storeOk (Contents.Graphic c) = among 0x30 16 c
+
+unfoldable pub fillOk : Contents → Bool
+fillOk (Contents.Text c) = either (eqb c 0) (among 0x20 95 c)
+fillOk (Contents.Attribute c) = isFlags c
+fillOk (Contents.Graphic c) = false
 
 unfoldable pub clearOk : Clear → Bool
-clearOk (Clear.Row k) = contentsOk k
-clearOk (Clear.Rest k) = contentsOk k
-clearOk (Clear.Segment k) = contentsOk k
+clearOk (Clear.Row k) = fillOk k
+clearOk (Clear.Rest k) = fillOk k
+clearOk (Clear.Segment k) = fillOk k
 clearOk Clear.Column = true
 
+-- a command with such arguments
 unfoldable pub commandOk : Command → Bool
 commandOk Command.Nothing = true
 commandOk (Command.Go m) = true
 commandOk (Command.Window x) = true
-commandOk (Command.Store k) = contentsOk k
+commandOk (Command.Store k) = storeOk k
 commandOk (Command.Attribute a) = isAttribute a
 commandOk (Command.Edit x) = true
 commandOk (Command.Clear x) = clearOk x

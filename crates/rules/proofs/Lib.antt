@@ -37,6 +37,8 @@ pub mod KeyStore
 pub mod ShiftedLine
 pub mod Numbers
 pub mod PageNumbers
+pub mod CellReach
+pub mod WritableCases
 pub mod Personalities
 pub mod Fields
 pub mod FieldCases

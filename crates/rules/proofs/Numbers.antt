@@ -1,16 +1,18 @@
--- The numbers that plans write: from a possible core each has the bit worth 32768 at 0 and an attribute that the personality remembers.
+-- The numbers that plans write: from a possible core each is writable.
 --     plan-numbers                          of every plan
+--     kinds                                 the cases of a writable number
 --     normal-50                             in WY-50 such a number has no flag
 --     reads-as-before, attribute-flags      the clauses of specs/Personalities that speak of single numbers
 --     remembered-below, normal-remembered   the attributes remembered are below 31, and normal is one
 -- Assumes nothing.
-use mathlib.Core.Path.{_≡_, refl, sym, ap, _∙_}
-use mathlib.Core.Bool.{Bool, true, false}
+use mathlib.Core.Path.{_≡_, refl, sym, _∙_}
+use mathlib.Core.Bool.{Bool, true, false, false≢true}
+use mathlib.Core.Logic.{_⊎_, inl, inr, ⊎-elim}
 use mathlib.Core.List.{List}
 use Prim.Native.Nat.{ℕ, _+_, _*_, _/_, _%_, _<_, _≤_}
 use native.Mathlib.Omega.{arith}
 use lib.Dec.{ltb, eqb}
-use borrow.Author.Tests.{lt-ltb, ltb-true, ltb-false, eqb-true, eqb-false, ne-eqb}
+use borrow.Author.Tests.{lt-ltb, ltb-true, ltb-false, eq-eqb, eqb-true, eqb-false, ne-eqb}
 use Rattle.rules.specs.declared.Screen.{Screen}
 use Rattle.rules.specs.declared.Core.{Core}
 use Rattle.rules.specs.declared.Plan.{Plan}
@@ -35,14 +37,15 @@ use Rattle.rules.specs.declared.Excluded.the-variants as Excluded
 use Rattle.rules.specs.declared.Command.{Command}
 use Rattle.rules.specs.declared.Command.the-variants as Command
 use Rattle.rules.specs.declared.Write.{Write}
-use Rattle.rules.specs.Cell.{pick, both, either, among, kind, attribute, normal, written, isDim, isUnderscore, isReverse, isBlink, isBlank}
+use Rattle.rules.specs.declared.Write.the-variants as Write
+use Rattle.rules.specs.Cell.{pick, both, either, among, code, kind, attribute, cell, written, null, space, protectedSpace, isDim, isUnderscore, isReverse, isBlink, isBlank}
 use Rattle.rules.specs.Possible.{rememberedOk}
-use Rattle.rules.specs.Arguments.{isAttribute, attributeContents}
+use Rattle.rules.specs.Arguments.{isFlags, isAttribute, attributeContents}
 use Rattle.rules.specs.Plan.{unlessGuarded, unlessWide, reversePlan, downPlan, addressPlan, movePlan, activate, windowPlan, storing, advancing, storePlan, takesCell, attributePlan, rowEditPlan, editPlan, clearPlan, settingPlan, sendPlan, excludedPlan, planRule}
-use Rattle.rules.specs.Numbers.{numberOk, writeOk, PlanNumbers}
+use Rattle.rules.specs.Writable.{isStored, isAttributeCell, writable}
 use Rattle.rules.specs.Personalities.{ReadsAsBefore, NoFlags}
-use Rattle.rules.proofs.Tests.{pick-if, both-parts, both-true, among-parts}
-use Rattle.rules.proofs.Good.{contentsOk, clearOk, commandOk}
+use Rattle.rules.proofs.Tests.{pick-if, both-parts, both-true, either-parts, either-first, either-second, among-parts}
+use Rattle.rules.proofs.Good.{storeOk, fillOk, clearOk, commandOk}
 
 -- ---- single numbers
 
@@ -68,43 +71,144 @@ normal-remembered Personality.Wy50 = refl
 normal-remembered Personality.Wy60 = refl
 
 -- the parts of a written number
-record Read (v a : ℕ) : Type 0 where
+record Read (v c k a : ℕ) : Type 0 where
   small : v < 32768
+  code-is : code v ≡ c
+  kind-is : v / 256 % 4 ≡ k
   flags : attribute v ≡ a
 
-read-written : (k : Contents) (p : Bool) (a : ℕ) → contentsOk k ≡ true → a < 31 → Read (written k p a) a
-unfolding contentsOk
-read-written (Contents.Text c) true a e h = let l = ltb-true c 128 e in record { small = omega arith; flags = omega arith }
-read-written (Contents.Text c) false a e h = let l = ltb-true c 128 e in record { small = omega arith; flags = omega arith }
-read-written (Contents.Attribute c) true a e h = let l = ltb-true c 128 e in record { small = omega arith; flags = omega arith }
-read-written (Contents.Attribute c) false a e h = let l = ltb-true c 128 e in record { small = omega arith; flags = omega arith }
-read-written (Contents.Graphic c) true a e h = let l = ltb-true c 128 e in record { small = omega arith; flags = omega arith }
-read-written (Contents.Graphic c) false a e h = let l = ltb-true c 128 e in record { small = omega arith; flags = omega arith }
+read-cell : (c : ℕ) (p : Bool) (k a : ℕ) → c < 128 → k < 4 → a < 31 → Read (cell c p k a) c k a
+read-cell c true k a h l n = record { small = omega arith; code-is = omega arith; kind-is = omega arith; flags = omega arith }
+read-cell c false k a h l n = record { small = omega arith; code-is = omega arith; kind-is = omega arith; flags = omega arith }
 
-written-ok : (m : Personality) (k : Contents) (p : Bool) (a : ℕ) → contentsOk k ≡ true → rememberedOk m a ≡ true → numberOk m (written k p a) ≡ true
-unfolding numberOk
-written-ok m k p a e h =
-    let r = read-written k p a e (remembered-below m a h) in
-    both-true (lt-ltb (written k p a) 32768 (r .small)) (ap (rememberedOk m) (r .flags) ∙ h)
+pub null-ok : (m : Personality) → writable m null ≡ true
+unfolding writable
+null-ok m = refl
 
--- an attribute's code is below 80h
-attribute-below : (a : ℕ) → isAttribute a ≡ true → a < 128
-unfolding isAttribute
-attribute-below a e = by (eqb a 0x20) refl e
+-- ---- what commands write is writable
+
+-- text and graphics, with an attribute that is remembered
+stored-is : {v c a : ℕ} (m : Personality) (k : ℕ) → Read v c k a → rememberedOk m a ≡ true
+    → either (both (eqb k 0) (among 0x20 95 c)) (both (eqb k 2) (among 0x30 16 c)) ≡ true → writable m v ≡ true
+unfolding writable isStored
+stored-is {v} {c} {a} m k r h e =
+    let f : rememberedOk m (attribute v) ≡ true = rw (r .flags) h in
+    let c : either (both (eqb (v / 256 % 4) 0) (among 0x20 95 (code v))) (both (eqb (v / 256 % 4) 2) (among 0x30 16 (code v))) ≡ true =
+    rw (r .kind-is, r .code-is) e in
+    either-second (eqb v null) (either-first (isAttributeCell m v) (both-true (lt-ltb v 32768 (r .small)) (both-true f c)))
+
+pub stored-ok : (m : Personality) (k : Contents) (p : Bool) (a : ℕ) → storeOk k ≡ true → rememberedOk m a ≡ true → writable m (written k p a) ≡ true
+unfolding storeOk
+stored-ok m (Contents.Text c) p a e h =
+    let r = among-parts 0x20 95 c e in
+    stored-is m 0 (read-cell c p 0 a (omega arith) (omega arith) (remembered-below m a h)) h (either-first _ e)
+stored-ok m (Contents.Attribute c) p a e h = absurd (false≢true e)
+stored-ok m (Contents.Graphic c) p a e h =
+    let r = among-parts 0x30 16 c e in
+    stored-is m 2 (read-cell c p 2 a (omega arith) (omega arith) (remembered-below m a h)) h e
+
+-- normal text
+text-ok : (m : Personality) (c : ℕ) (p : Bool) → among 0x20 95 c ≡ true → writable m (written (Contents.Text c) p 0) ≡ true
+unfolding storeOk
+text-ok m c p e = stored-ok m (Contents.Text c) p 0 e (normal-remembered m)
+
+pub space-ok : (m : Personality) → writable m space ≡ true
+space-ok m = text-ok m 0x20 false refl
+
+pub protected-space-ok : (m : Personality) → writable m protectedSpace ≡ true
+protected-space-ok m = text-ok m 0x20 true refl
+
+-- a code of flags is below 80h, and no space
+pub flags-code : (a : ℕ) → isFlags a ≡ true → (a < 128) × (eqb a 0x20 ≡ false)
+flags-code a e =
+    ⊎-elim (λ h. let r = among-parts 0x30 16 a h in (omega arith, ne-eqb a 0x20 (omega arith)))
+    (λ h. let r = among-parts 0x70 15 a h in (omega arith, ne-eqb a 0x20 (omega arith))) (either-parts (among 0x30 16 a) (among 0x70 15 a) e)
+
+-- an attribute cell: ESC ! writes it unprotected, and in WY-50 ESC G as write-protect mode says
+attribute-free : (m : Personality) (c : ℕ) → isFlags c ≡ true → writable m (written (Contents.Attribute c) false 0) ≡ true
+unfolding writable isAttributeCell
+attribute-free Personality.Wy50 c e =
+    let h = flags-code c e .0 in
+    let r = read-cell c false 1 0 h (omega arith) (omega arith) in
+    let q : cell c false 1 0 / 256 ≡ 1 = omega arith in
+    let f : isFlags (code (cell c false 1 0)) ≡ true = rw (r .code-is) e in
+    either-second (eqb (cell c false 1 0) null) (either-second (isStored Personality.Wy50 (cell c false 1 0)) (both-true (eq-eqb _ 1 q) f))
+attribute-free Personality.Wy60 c e =
+    let h = flags-code c e .0 in
+    let r = read-cell c false 1 0 h (omega arith) (omega arith) in
+    let q : cell c false 1 0 / 128 ≡ 2 = omega arith in
+    let f : isFlags (code (cell c false 1 0)) ≡ true = rw (r .code-is) e in
+    either-second (eqb (cell c false 1 0) null) (either-second (isStored Personality.Wy60 (cell c false 1 0)) (both-true (eq-eqb _ 2 q) f))
+
+attribute-50 : (p : Bool) (c : ℕ) → isFlags c ≡ true → writable Personality.Wy50 (written (Contents.Attribute c) p 0) ≡ true
+unfolding writable isAttributeCell
+attribute-50 false c e = attribute-free Personality.Wy50 c e
+attribute-50 true c e =
+    let h = flags-code c e .0 in
+    let r = read-cell c true 1 0 h (omega arith) (omega arith) in
+    let q : cell c true 1 0 / 256 ≡ 1 = omega arith in
+    let f : isFlags (code (cell c true 1 0)) ≡ true = rw (r .code-is) e in
+    either-second (eqb (cell c true 1 0) null) (either-second (isStored Personality.Wy50 (cell c true 1 0)) (both-true (eq-eqb _ 1 q) f))
+
+pub filled-ok : (m : Personality) (k : Contents) → fillOk k ≡ true → writable m (written k false 0) ≡ true
+unfolding fillOk
+filled-ok m (Contents.Text c) e =
+    ⊎-elim (λ h. let z = eqb-true c 0 h in rw z (null-ok m)) (text-ok m c false)
+    (either-parts (eqb c 0) (among 0x20 95 c) e)
+filled-ok m (Contents.Attribute c) e = attribute-free m c e
+filled-ok m (Contents.Graphic c) e = absurd (false≢true e)
+
+-- a code of ESC G that takes a cell
+taken-ok : (m : Personality) (p : Bool) (a : ℕ) → isAttribute a ≡ true → takesCell m a ≡ true → writable m (written (attributeContents a) p 0) ≡ true
+unfolding isAttribute attributeContents takesCell
+taken-ok m p a e t =
+    pick-if (λ (k : Contents). writable m (written k p 0) ≡ true) (eqb a 0x20)
+    (λ h. let z = eqb-true a 0x20 h in rw z (text-ok m 0x20 p refl))
+    (λ h. other m t h (rw h at e))
   where
-    rest : (s : Bool) → among 0x30 16 a ≡ s → either s (among 0x70 15 a) ≡ true → a < 128
-    rest true h e = omega (arith, among-parts 0x30 16 a h)
-    rest false h e = omega (arith, among-parts 0x70 15 a e)
+    other : (m : Personality) → takesCell m a ≡ true → eqb a 0x20 ≡ false → isFlags a ≡ true → writable m (written (Contents.Attribute a) p 0) ≡ true
+    other Personality.Wy50 t h e = attribute-50 p a e
+    other Personality.Wy60 t h e = absurd (false≢true (sym h ∙ t))
 
-    by : (s : Bool) → eqb a 0x20 ≡ s → either s (either (among 0x30 16 a) (among 0x70 15 a)) ≡ true → a < 128
-    by true h e = omega (arith, eqb-true a 0x20 h)
-    by false h e = rest (among 0x30 16 a) refl e
+-- ---- the cases of a writable number
 
-attribute-contents : (a : ℕ) → isAttribute a ≡ true → contentsOk (attributeContents a) ≡ true
-unfolding attributeContents contentsOk
-attribute-contents a h =
-    let l = lt-ltb a 128 (attribute-below a h) in
-    pick-if (λ (k : Contents). contentsOk k ≡ true) (eqb a 0x20) (λ e. l) (λ e. l)
+pub data Kinds (m : Personality) (v : ℕ) : Type 0 where
+  is-null : v ≡ 0 → Kinds m v
+  is-text : v < 32768 → rememberedOk m (attribute v) ≡ true → v / 256 % 4 ≡ 0 → among 0x20 95 (code v) ≡ true → Kinds m v
+  is-graphic : v < 32768 → rememberedOk m (attribute v) ≡ true → v / 256 % 4 ≡ 2 → among 0x30 16 (code v) ≡ true → Kinds m v
+  is-free : v / 128 ≡ 2 → isFlags (code v) ≡ true → Kinds m v
+  is-marked : m ≡ Personality.Wy50 → v / 128 ≡ 3 → isFlags (code v) ≡ true → Kinds m v
+
+stored-kinds : (m : Personality) (v : ℕ) → isStored m v ≡ true → Kinds m v
+unfolding isStored
+stored-kinds m v e =
+    let r = both-parts (ltb v 32768) _ e in
+    let k = both-parts (rememberedOk m (attribute v)) _ (r .1) in
+    ⊎-elim (λ h. let x = both-parts (eqb (v / 256 % 4) 0) _ h in is-text (ltb-true v 32768 (r .0)) (k .0) (eqb-true _ 0 (x .0)) (x .1))
+    (λ h. let x = both-parts (eqb (v / 256 % 4) 2) _ h in is-graphic (ltb-true v 32768 (r .0)) (k .0) (eqb-true _ 2 (x .0)) (x .1))
+    (either-parts (both (eqb (v / 256 % 4) 0) (among 0x20 95 (code v))) (both (eqb (v / 256 % 4) 2) (among 0x30 16 (code v))) (k .1))
+
+attribute-kinds : (m : Personality) (v : ℕ) → isAttributeCell m v ≡ true → Kinds m v
+unfolding isAttributeCell
+attribute-kinds Personality.Wy50 v e =
+    let r = both-parts (eqb (v / 256) 1) (isFlags (code v)) e in
+    let q = eqb-true (v / 256) 1 (r .0) in
+    ⊎-elim (λ h. is-marked refl (omega (arith, ltb-false (v / 128) 3 h)) (r .1)) (λ h. is-free (omega (arith, ltb-true (v / 128) 3 h)) (r .1))
+    (split (ltb (v / 128) 3))
+  where
+    split : (t : Bool) → (t ≡ false) ⊎ (t ≡ true)
+    split true = inr refl
+    split false = inl refl
+attribute-kinds Personality.Wy60 v e =
+    let r = both-parts (eqb (v / 128) 2) (isFlags (code v)) e in
+    is-free (eqb-true (v / 128) 2 (r .0)) (r .1)
+
+pub kinds : (m : Personality) (v : ℕ) → writable m v ≡ true → Kinds m v
+unfolding writable
+kinds m v e =
+    ⊎-elim (λ h. is-null (eqb-true v 0 h))
+    (λ h. ⊎-elim (stored-kinds m v) (attribute-kinds m v) (either-parts (isStored m v) (isAttributeCell m v) h))
+    (either-parts (eqb v null) (either (isStored m v) (isAttributeCell m v)) e)
 
 -- the attribute is made of the five flags
 five : (q : ℕ) → q % 32 ≡ 16 * (q / 2 / 2 / 2 / 2 % 2) + 8 * (q / 2 / 2 / 2 % 2) + 4 * (q / 2 / 2 % 2) + 2 * (q / 2 % 2) + q % 2
@@ -123,7 +227,7 @@ five q = half q ∙ rw (half8 (q / 2), half4 (q / 2 / 2), half2 (q / 2 / 2 / 2))
     half2 q = omega arith
 
 -- the weight of a flag
-bit : (q n : ℕ) → pick (eqb (q % 2) 1) n 0 ≡ n * (q % 2)
+pub bit : (q n : ℕ) → pick (eqb (q % 2) 1) n 0 ≡ n * (q % 2)
 bit q n = by (eqb (q % 2) 1) refl
   where
     by : (t : Bool) → eqb (q % 2) 1 ≡ t → pick t n 0 ≡ n * (q % 2)
@@ -150,13 +254,21 @@ attribute-flags v =
     d = omega arith
 
 -- in WY-50 no flag is set
-pub normal-50 : (v : ℕ) → numberOk Personality.Wy50 v ≡ true → (v < 1024) × NoFlags v
-unfolding numberOk rememberedOk
+below-1024 : (v : ℕ) → v < 32768 → attribute v ≡ 0 → v < 1024
+below-1024 v l e = let q : v / 1024 % 32 ≡ v / 1024 = omega arith in omega arith
+
+small-50 : (v : ℕ) → Kinds Personality.Wy50 v → v < 1024
+unfolding rememberedOk
+small-50 v (is-null e) = omega arith
+small-50 v (is-text l a k c) = below-1024 v l (eqb-true (attribute v) 0 a)
+small-50 v (is-graphic l a k c) = below-1024 v l (eqb-true (attribute v) 0 a)
+small-50 v (is-free k c) = omega arith
+small-50 v (is-marked e k c) = omega arith
+
+pub normal-50 : (v : ℕ) → writable Personality.Wy50 v ≡ true → (v < 1024) × NoFlags v
 normal-50 v e =
-    let r = both-parts (ltb v 32768) (eqb (attribute v) 0) e in
-    let l = ltb-true v 32768 (r .0) in
-    let z = eqb-true (attribute v) 0 (r .1) in (
-      omega arith,
+    let l = small-50 v (kinds Personality.Wy50 v e) in (
+      l,
       record {
         dim = ne-eqb (v / 16384 % 2) 1 (omega arith);
         underscore = ne-eqb (v / 8192 % 2) 1 (omega arith);
@@ -168,6 +280,19 @@ normal-50 v e =
 
 -- ---- plans
 
+-- the number that a write puts into cells is writable
+unfoldable pub writeOk : Personality → Write → Bool
+writeOk m Write.Nothing = true
+writeOk m (Write.Fill a e v) = writable m v
+writeOk m (Write.FillAll a e v) = writable m v
+writeOk m (Write.Column top bottom c v) = writable m v
+writeOk m (Write.Edit right at v) = writable m v
+writeOk m (Write.Rows down top bottom) = writable m space
+
+pub record PlanNumbers (m : Personality) (x : Plan) : Type 0 where
+  pub first : writeOk m (x .first) ≡ true
+  pub second : writeOk m (x .second) ≡ true
+
 pick-numbers : {m : Personality} (t : Bool) {x y : Plan} → PlanNumbers m x → PlanNumbers m y → PlanNumbers m (pick t x y)
 pick-numbers true a b = a
 pick-numbers false a b = b
@@ -175,7 +300,7 @@ pick-numbers false a b = b
 plan-of : {m : Personality} (x : Plan) → writeOk m (x .first) ≡ true → writeOk m (x .second) ≡ true → PlanNumbers m x
 plan-of x a b = record { first = a; second = b }
 
-ruleset forms = (pick-numbers, plan-of, normal-remembered)
+ruleset forms = (pick-numbers, plan-of, null-ok, space-ok, protected-space-ok)
 
 module _ (g tabs : List Bool) (c : Core) (ok : rememberedOk (c .personality) (c .attribute) ≡ true) where
   unless-guarded : {x : Plan} → PlanNumbers (c .personality) x → PlanNumbers (c .personality) (unlessGuarded g c x)
@@ -187,7 +312,7 @@ module _ (g tabs : List Bool) (c : Core) (ok : rememberedOk (c .personality) (c 
   address x base most row column = search forms
 
   move : (m : Move) → PlanNumbers (c .personality) (movePlan g tabs c m)
-  unfolding movePlan reversePlan downPlan writeOk numberOk
+  unfolding movePlan reversePlan downPlan writeOk
   move Move.Back = search forms
   move Move.Right = search forms
   move Move.Return = search forms
@@ -211,33 +336,31 @@ module _ (g tabs : List Bool) (c : Core) (ok : rememberedOk (c .personality) (c 
   window (Window.Place n r k) = search (forms, address)
 
   advance : (w : Write) → writeOk (c .personality) w ≡ true → PlanNumbers (c .personality) (advancing c w)
-  unfolding advancing writeOk numberOk
+  unfolding advancing writeOk
   advance w e = search forms
 
-  store : (k : Contents) (a : ℕ) → contentsOk k ≡ true → rememberedOk (c .personality) a ≡ true → PlanNumbers (c .personality) (storePlan g c k a)
+  store : (k : Contents) (a : ℕ) → writable (c .personality) (written k (c .modes .mark) a) ≡ true → PlanNumbers (c .personality) (storePlan g c k a)
   unfolding storePlan storing writeOk
-  store k a e h =
-      let v = written-ok (c .personality) k (c .modes .mark) a e h in
-      unless-guarded (advance _ (pick-if (λ (w : Write). writeOk (c .personality) w ≡ true) (c .modes .insert) (λ u. v) (λ u. v)))
+  store k a v = unless-guarded (advance _ (pick-if (λ (w : Write). writeOk (c .personality) w ≡ true) (c .modes .insert) (λ u. v) (λ u. v)))
 
   attributes : (a : ℕ) → isAttribute a ≡ true → PlanNumbers (c .personality) (attributePlan g c a)
   unfolding attributePlan writeOk
   attributes a e =
-      pick-numbers (takesCell (c .personality) a) (store (attributeContents a) 0 (attribute-contents a e) (normal-remembered (c .personality)))
-      (plan-of _ refl refl)
+      pick-if (PlanNumbers (c .personality)) (takesCell (c .personality) a)
+      (λ t. store (attributeContents a) 0 (taken-ok (c .personality) (c .modes .mark) a e t)) (λ t. plan-of _ refl refl)
 
   edit : (x : Edit) → PlanNumbers (c .personality) (editPlan g c x)
-  unfolding editPlan rowEditPlan writeOk numberOk
+  unfolding editPlan rowEditPlan writeOk
   edit Edit.InsertCell = unless-guarded (search forms)
   edit Edit.DeleteCell = unless-guarded (search forms)
   edit Edit.InsertRow = search forms
   edit Edit.DeleteRow = search forms
 
   clear : (x : Clear) → clearOk x ≡ true → PlanNumbers (c .personality) (clearPlan c x)
-  unfolding clearPlan clearOk writeOk numberOk
-  clear (Clear.Row k) e = plan-of _ (written-ok (c .personality) k false 0 e (normal-remembered (c .personality))) refl
-  clear (Clear.Rest k) e = plan-of _ (written-ok (c .personality) k false 0 e (normal-remembered (c .personality))) refl
-  clear (Clear.Segment k) e = plan-of _ (written-ok (c .personality) k false 0 e (normal-remembered (c .personality))) refl
+  unfolding clearPlan clearOk writeOk
+  clear (Clear.Row k) e = plan-of _ (filled-ok (c .personality) k e) refl
+  clear (Clear.Rest k) e = plan-of _ (filled-ok (c .personality) k e) refl
+  clear (Clear.Segment k) e = plan-of _ (filled-ok (c .personality) k e) refl
   clear Clear.Column e = search forms
 
   setting : (x : Setting) → PlanNumbers (c .personality) (settingPlan c x)
@@ -265,7 +388,7 @@ module _ (g tabs : List Bool) (c : Core) (ok : rememberedOk (c .personality) (c 
   send Send.OpenSegment = search forms
 
   excluded : (x : Excluded) → PlanNumbers (c .personality) (excludedPlan c x)
-  unfolding excludedPlan writeOk numberOk
+  unfolding excludedPlan writeOk
   excluded Excluded.ProtectOff = search forms
   excluded Excluded.ClearNulls = search forms
   excluded Excluded.ClearSpaces = search forms
@@ -279,7 +402,7 @@ module _ (g tabs : List Bool) (c : Core) (ok : rememberedOk (c .personality) (c 
   plan-numbers Command.Nothing e = search forms
   plan-numbers (Command.Go m) e = move m
   plan-numbers (Command.Window x) e = window x
-  plan-numbers (Command.Store k) e = store k (c .attribute) e ok
+  plan-numbers (Command.Store k) e = store k (c .attribute) (stored-ok (c .personality) k (c .modes .mark) (c .attribute) e ok)
   plan-numbers (Command.Attribute a) e = attributes a e
   plan-numbers (Command.Edit x) e = edit x
   plan-numbers (Command.Clear x) e = clear x e

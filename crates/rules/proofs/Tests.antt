@@ -6,7 +6,7 @@ use mathlib.Core.Logic.{_⊎_, inl, inr}
 use Prim.Native.Nat.{ℕ, _+_, _≤_, _<_}
 use lib.Dec.{leb, ltb}
 use borrow.Author.Tests.{leb-true, ltb-true, lt-ltb, le-leb, eq-eqb}
-use Rattle.rules.specs.Cell.{pick, both, among}
+use Rattle.rules.specs.Cell.{pick, both, either, among}
 
 -- a choice has what each of its sides has, each with what the test says
 pub pick-if : {A : Type 0} (P : A → Type 0) (t : Bool) {a b : A} → (t ≡ true → P a) → (t ≡ false → P b) → P (pick t a b)
@@ -23,6 +23,17 @@ both-parts false b e = absurd (false≢true e)
 
 pub both-true : {a b : Bool} → a ≡ true → b ≡ true → both a b ≡ true
 both-true e f = rw (e, f)
+
+pub either-parts : (a b : Bool) → either a b ≡ true → (a ≡ true) ⊎ (b ≡ true)
+either-parts true b e = inl refl
+either-parts false b e = inr e
+
+pub either-first : {a : Bool} (b : Bool) → a ≡ true → either a b ≡ true
+either-first b e = rw e
+
+pub either-second : (a : Bool) {b : Bool} → b ≡ true → either a b ≡ true
+either-second true e = refl
+either-second false e = e
 
 pub among-parts : (first n v : ℕ) → among first n v ≡ true → (first ≤ v) × (v < first + n)
 among-parts first n v e =

@@ -6,9 +6,13 @@ use Rattle.rules.specs.declared.Contents.{Contents}
 use Rattle.rules.specs.declared.Contents.the-variants as Contents
 use Rattle.rules.specs.Cell.{pick, either, among}
 
--- attr of ESC G, ESC ! and ESC A: 20h, 30h to 3Fh or 70h to 7Eh
+-- a code of flags: 30h to 3Fh or 70h to 7Eh
+abbrev pub isFlags : ℕ → Bool
+isFlags a = either (among 0x30 16 a) (among 0x70 15 a)
+
+-- attr of ESC G, ESC ! and ESC A: 20h or a code of flags
 unfoldable pub isAttribute : ℕ → Bool
-isAttribute a = either (eqb a 0x20) (either (among 0x30 16 a) (among 0x70 15 a))
+isAttribute a = either (eqb a 0x20) (isFlags a)
 
 -- what a cell of it holds: attr 20h is a text space
 unfoldable pub attributeContents : ℕ → Contents

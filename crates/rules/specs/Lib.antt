@@ -48,5 +48,7 @@ pub mod Wide
 pub mod Convert
 pub mod ConvertCases
 pub mod ShiftedLine
-pub mod Numbers
+pub mod Writable
+pub mod CellReach
+pub mod WritableCases
 pub mod Personalities
