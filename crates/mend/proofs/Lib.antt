@@ -1,0 +1,5 @@
+pub mod Judging
+pub mod Mending
+pub mod Call
+pub mod Theorems
+pub mod Cases

@@ -1,0 +1,22 @@
+-- `mend::row_number` meets its contract.
+use mathlib.Core.Logic.{⊎-elim}
+use borrow.Author.Needs.{needs}
+use Rattle.mend.proofs.row_number.Statement.{statement}
+use Rattle.mend.proofs.row_number.Tie as tie
+
+pub row-number-spec : {M : Type 1} → statement M
+row-number-spec =
+    tie.close
+    (tie.spec
+    -- add-result
+    (λ c. search needs)
+    -- cast-result
+    (λ c. search needs)
+    -- add-result-2
+    (λ c. search needs)
+    -- cast-result-2
+    (λ c. search needs)
+    -- returns
+    (λ c. rw (c .if1 .taken))
+    -- returns-2
+    (λ c. ⊎-elim (λ e. rw e) (λ e. absurd (c .if1 .left e)) (c .before .pre .0)))
