@@ -5,6 +5,7 @@ mod RowCalls
 mod Next
 mod SavedCalls
 mod ConvertCalls
+mod MendCalls
 pub mod RoundTrip
 pub mod Kept
 pub mod Noninterference

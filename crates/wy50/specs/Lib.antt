@@ -5,3 +5,4 @@ pub mod Rows
 pub mod RowNoninterference
 pub mod Saved
 pub mod Converting
+pub mod Mending

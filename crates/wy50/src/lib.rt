@@ -13,8 +13,12 @@ ghost use Rattle.rules.specs.Cell.{code, protected, kind, attribute, sent};
 ghost use Rattle.wy50.specs.Raw.{flag};
 ghost use Rattle.wy50.specs.Rows.{rawStepRows, rawRunRows, Heard, rawRowsAfter, rawRebuildAnswer, rawRebuilt};
 ghost use Rattle.wy50.specs.Converting.{rawConvert, Turns};
+ghost use Rattle.mend.specs.Mend.{Gives};
+ghost use Rattle.wy50.specs.Mending.{rawMend};
 ghost use Rattle.wy50.specs.Saved.{saveNumbers, restoreNumber, rawSave, rawRestore, stateAfter};
 ghost use Rattle.wy50.specs.Promise.{rawPowerOn, rawStep, rawRun, rawPress, PoweredOn, Stepped, Completed, Sent};
+use mend::MendResult;
+use mend::mend;
 use pack::flag;
 use pack::pack;
 use raw::RawConvert;
@@ -393,6 +397,20 @@ pub extern "C" fn wy50_convert(page: &[u16], state: RawState, target: &mut [u16]
         answer: 0,
         state: pack(s),
     }
+}
+
+// Mends a saved page. Ruled out: one that takes a number that is no personality.
+#[no_mangle]
+pub extern "C" fn wy50_mend(page: &mut [u16], personality: u8, list: &mut [u16]) -> MendResult
+    ensures { λ r. ⌜ Gives (rawMend personality (now (page .entry)) (now (list .entry))) r (now (page .exit)) (now (list .exit)) ⌝ }
+{
+    if !is_personality(personality) {
+        return MendResult {
+            answer: 7,
+            needed: 0,
+        };
+    }
+    mend(page, personality_at(personality), list)
 }
 
 // Readers of a cell's number: its code, whether it is protected (0 or 1), its kind, its attribute, and what a send gives for it.
