@@ -5,6 +5,7 @@ mod bench;
 mod book;
 mod calls;
 mod counter;
+mod mending;
 mod moves;
 mod narrow;
 mod personalities;
@@ -47,5 +48,6 @@ pub fn script() -> Vec<u8> {
     book.setups();
     book.widths();
     book.wide_pages();
+    book.mending();
     book.text
 }

@@ -3,6 +3,7 @@
 mod addresses;
 mod counts;
 mod excursions;
+mod mending;
 mod personalities;
 mod phrases;
 mod rows;
@@ -119,8 +120,11 @@ impl Generator {
         if self.random.once_in(30) {
             return self.setup_call();
         }
-        if self.random.once_in(60) && !self.avoids_excluded {
-            return self.convert();
+        if self.random.once_in(45) && !self.avoids_excluded {
+            return match self.random.below(4) {
+                0 => self.mend(),
+                _ => self.convert(),
+            };
         }
         if self.tend_rows() {
             return self.rebuild();

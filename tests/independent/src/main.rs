@@ -4,6 +4,7 @@ mod compare;
 mod conformance;
 mod counter;
 mod generate;
+mod mending;
 mod pairs;
 mod program;
 mod random;

@@ -1,6 +1,7 @@
 //! The bench list and the transcript's example.
 
 mod counter;
+mod mending;
 mod narrow;
 mod personalities;
 mod rows;
@@ -258,6 +259,8 @@ fn bad_lines_are_named() {
         ("tab 131 1\ntab 132 1\n", 2),
         ("wide 1\nsending 1b37:u132\nsending 1b37:u80\n", 3),
         ("length 9\nnoise 1 127 64\nconvert 4000\nconvert 4001\n", 4),
+        ("mend 60 4000\nmend 50 4001\n", 2),
+        ("mend 50 0\nmend 55 0\n", 2),
         ("sending 1b3F:1\n", 1),
         ("rebuild\nliststep 1b\n", 2),
         ("pending 1b4600\n", 1),

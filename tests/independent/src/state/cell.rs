@@ -36,11 +36,28 @@ impl Cell {
         self.0 & Cell::PROTECTED != 0
     }
 
+    pub fn code(self) -> u8 {
+        (self.0 & 0x7F) as u8
+    }
+
+    /// 0 text, 1 attribute, 2 and 3 graphic.
+    pub fn kind(self) -> u16 {
+        self.0 >> 8 & 3
+    }
+
+    pub fn flags(self) -> Flags {
+        Flags((self.0 >> 10 & 31) as u8)
+    }
+
+    /// The bit worth 32768.
+    pub fn has_unread_bit(self) -> bool {
+        self.0 >> 15 != 0
+    }
+
     /// The byte this cell goes as when text is sent.
     pub fn sent(self) -> u8 {
-        let code = (self.0 & 0x7F) as u8;
-        let is_text = self.0 >> 8 & 3 == 0;
-        if is_text && (b' '..=b'~').contains(&code) {
+        let code = self.code();
+        if self.kind() == 0 && (b' '..=b'~').contains(&code) {
             code
         } else {
             b' '

@@ -3,11 +3,12 @@
 use super::line::Line;
 use super::set::set;
 use super::WIDEST_ROOM;
+use crate::mending::{mend, Mended, ENTRY_NUMBERS};
 use crate::setups::{self, STORE};
 use crate::state::{Cell, Personality};
 use crate::terminal::{Outcome, Terminal, ROW_NUMBERS};
 
-const CELL_FILLER: Cell = Cell(0xEEEE);
+pub const NUMBER_FILLER: u16 = 0xEEEE;
 
 /// A terminal, and what is lent to it beside the page.
 #[derive(Clone)]
@@ -31,7 +32,7 @@ impl Bench {
     /// Converts into a target of so many cells, which is the page on 0. Gives the
     /// answer, whether the old page is as it was, and the target.
     pub fn convert(&mut self, count: usize) -> (Outcome, bool, Vec<Cell>) {
-        let mut target = vec![CELL_FILLER; count];
+        let mut target = vec![Cell(NUMBER_FILLER); count];
         let old = self.terminal.page.clone();
         let outcome = self.terminal.convert(&mut target);
         let is_as_it_was = self.terminal.page == old;
@@ -39,6 +40,13 @@ impl Bench {
             self.terminal.page.clone_from(&target);
         }
         (outcome, is_as_it_was, target)
+    }
+
+    /// Mends the page with a list of so many entries, and gives the list too.
+    pub fn mend(&mut self, personality: Personality, entries: usize) -> (Mended, Vec<u16>) {
+        let mut list = vec![NUMBER_FILLER; entries * ENTRY_NUMBERS];
+        let mended = mend(&mut self.terminal.page, personality, &mut list);
+        (mended, list)
     }
 
     /// Obeys a line and says how many of its bytes were taken. None if the line
@@ -79,6 +87,13 @@ impl Bench {
             }
             Line::Convert(count) => {
                 let _ = self.convert(*count);
+                0
+            }
+            Line::Mend {
+                personality,
+                entries,
+            } => {
+                self.mend(*personality, *entries);
                 0
             }
             _ if line.is_output() => 0,

@@ -108,6 +108,10 @@ pub enum Line {
     Save,
     Restore(u16),
     Convert(usize),
+    Mend {
+        personality: Personality,
+        entries: usize,
+    },
 }
 
 impl Line {
@@ -128,6 +132,7 @@ impl Line {
                 | Line::Save
                 | Line::Restore(_)
                 | Line::Convert(_)
+                | Line::Mend { .. }
         )
     }
 

@@ -41,6 +41,20 @@ pub fn push_list(out: &mut Vec<u8>, numbers: impl Iterator<Item = u16>) {
     }
 }
 
+/// Numbers parted by colons, so many a group, the groups by commas; a dash if
+/// there are none.
+pub fn push_groups(out: &mut Vec<u8>, numbers: &[u16], size: usize) {
+    if numbers.is_empty() {
+        out.push(b'-');
+    }
+    for (place, &number) in numbers.iter().enumerate() {
+        if place > 0 {
+            out.push(if place % size == 0 { b',' } else { b':' });
+        }
+        push_number(out, number as usize);
+    }
+}
+
 pub fn push_sending(out: &mut Vec<u8>, sending: Option<Sending>) {
     let Some(Sending { command, place }) = sending else {
         return out.push(b'-');

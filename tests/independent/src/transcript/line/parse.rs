@@ -96,6 +96,10 @@ impl Line {
             "save" => Line::Save,
             "restore" => Line::Restore(number(words.next()?, 0xFFFF)? as u16),
             "convert" => Line::Convert(number(words.next()?, LONGEST_PAGE)?),
+            "mend" => Line::Mend {
+                personality: personality(words.next()?)?,
+                entries: number(words.next()?, LONGEST_LIST)?,
+            },
             "rebuild" => Line::Rebuild,
             "liststep" => Line::ListStep {
                 byte: hex_byte(words.next()?)?,

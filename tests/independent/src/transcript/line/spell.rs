@@ -73,6 +73,10 @@ impl Line {
             Line::Save => word(out, "save"),
             Line::Restore(number) => word(out, &format!("restore {number}")),
             Line::Convert(count) => word(out, &format!("convert {count}")),
+            Line::Mend {
+                personality,
+                entries,
+            } => word(out, &format!("mend {} {entries}", personality.digits())),
             Line::Rebuild => word(out, "rebuild"),
             Line::ListStep { byte, room } => word(out, &format!("liststep {byte:02x} {room}")),
             Line::ListRun { bytes, room } => {
