@@ -1,4 +1,4 @@
--- Laws of the loop that looks for a byte that is not EEh. Assumes nothing.
+-- Laws of the loop that looks for a number that is not v. Assumes nothing.
 use mathlib.Core.Path.{_≡_, refl, sym, _∙_}
 use mathlib.Core.Bool.{true, false}
 use mathlib.Core.List.{List}
@@ -10,24 +10,24 @@ use lib.Seq.{drop-cons}
 use borrow.Author.Tests.{eq-eqb, ne-eqb}
 use Rattle.replay.specs.Room.{isUntouched}
 
--- all is EEh before i
-pub record Looking (l : List ℕ) (i : ℕ) : Type 0 where
+-- all is v before i
+pub record Looking (v : ℕ) (l : List ℕ) (i : ℕ) : Type 0 where
   pub within : i ≤ length l
-  pub ahead : isUntouched l ≡ isUntouched (drop i l)
+  pub ahead : isUntouched v l ≡ isUntouched v (drop i l)
 
-pub look-start : (l : List ℕ) → Looking l 0
-look-start l = record { within = omega arith; ahead = refl }
+pub look-start : (v : ℕ) (l : List ℕ) → Looking v l 0
+look-start v l = record { within = omega arith; ahead = refl }
 
-module _ {l : List ℕ} {i : ℕ} (v : Looking l i) where
-  pub look-end : length l ≤ i → true ≡ isUntouched l
+module _ {v : ℕ} {l : List ℕ} {i : ℕ} (x : Looking v l i) where
+  pub look-end : length l ≤ i → true ≡ isUntouched v l
   unfolding isUntouched
-  look-end h = sym (v .ahead ∙ rw (drop-of-length-le l h))
+  look-end h = sym (x .ahead ∙ rw (drop-of-length-le l h))
 
   module _ (h : i < length l) where
-    pub look-other : (getD l i 0 ≡ 0xee → ⊥) → false ≡ isUntouched l
+    pub look-other : (getD l i 0 ≡ v → ⊥) → false ≡ isUntouched v l
     unfolding isUntouched
-    look-other n = sym (v .ahead ∙ rw (drop-cons l i 0 h, ne-eqb (getD l i 0) 0xee n))
+    look-other n = sym (x .ahead ∙ rw (drop-cons l i 0 h, ne-eqb (getD l i 0) v n))
 
-    pub look-on : getD l i 0 ≡ 0xee → Looking l (i + 1)
+    pub look-on : getD l i 0 ≡ v → Looking v l (i + 1)
     unfolding isUntouched
-    look-on e = record { within = omega arith; ahead = v .ahead ∙ rw (add-one, drop-cons l i 0 h, eq-eqb (getD l i 0) 0xee e) }
+    look-on e = record { within = omega arith; ahead = x .ahead ∙ rw (add-one, drop-cons l i 0 h, eq-eqb (getD l i 0) v e) }

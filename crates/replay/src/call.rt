@@ -50,7 +50,7 @@ pub fn ending(out: &mut [u8], at: usize, s: State, page: &[u16]) -> Called {
 
 // Whether every byte of a part of the room is still EEh.
 fn untouched(room: &[u8]) -> bool
-    ensures { λ r. ⌜ r ≡ isUntouched (now (room .entry)) ⌝ }
+    ensures { λ r. ⌜ r ≡ isUntouched 0xee (now (room .entry)) ⌝ }
 {
     let mut i = 0;
     while i < room.len() {
@@ -283,7 +283,7 @@ fn entry(count: usize, s: State, input: &[u8], page: &[u16], out: &mut [u8], at:
     ending(out, n1, s, page)
 }
 
-fn wide(v: u16) -> usize {
+pub fn wide(v: u16) -> usize {
     v as usize
 }
 

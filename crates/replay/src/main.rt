@@ -3,6 +3,7 @@ mod bounds;
 mod call;
 mod change;
 mod digest;
+mod mending;
 mod progress;
 mod script;
 mod send;

@@ -3,6 +3,7 @@ use crate::bounds::within;
 use crate::bounds::within_cells;
 use crate::call;
 use crate::change;
+use crate::mending;
 use crate::script::Call;
 use crate::script::Command;
 use crate::script::ListLine;
@@ -115,6 +116,7 @@ fn carry_out(
         Command::Pending => set_pending(s, line),
         Command::Sending => set_sending(s, line),
         Command::Convert(n) => convert(s, n, page, out),
+        Command::Mend(m, n) => mend(s, m, n, page, out),
         Command::Call(x, n) => obey_call(s, x, n, line, page, rows, out),
     }
 }
@@ -251,6 +253,27 @@ fn turned(s: Progress, done: bool, target: &[u16], page: &mut [u16]) -> Progress
     change::copy(target, page);
     let mut t = s;
     t.cells = target.len();
+    t
+}
+
+// The list is all EEEEh before the call.
+fn mend(s: Progress, m: Personality, n: usize, page: &mut [u16], out: &mut [u8]) -> Progress {
+    let mut list = [0xeeeeu16; 16000];
+    let size = within_cells(n, &list);
+    let cells = within_cells(s.cells, page);
+    let state = s.state;
+    let count = wrapping_add_usize(s.written, 1);
+    let mut t = s;
+    t.written = count;
+    t.at = mending::mend(
+        count,
+        state,
+        m,
+        &mut page[..cells],
+        &mut list[..size],
+        out,
+        s.at,
+    );
     t
 }
 

@@ -78,6 +78,8 @@ pub enum Command {
     Sending,
     // the length of the target
     Convert(usize),
+    // the length of the list, in numbers
+    Mend(Personality, usize),
     Call(Call, usize),
 }
 
@@ -238,7 +240,21 @@ fn three_words(line: &[u8]) -> Command {
     if same(word, b"label") {
         return given(i < 16, Command::Label(i));
     }
+    if same(word, b"mend") {
+        return mending(i, n);
+    }
     pair(word, i, n)
+}
+
+// A personality, and how many entries the list has.
+fn mending(p: usize, n: usize) -> Command {
+    if 4000 < n {
+        return Command::Bad;
+    }
+    if p == 50 {
+        return Command::Mend(Personality::Wy50, 4 * n);
+    }
+    given(p == 60, Command::Mend(Personality::Wy60, 4 * n))
 }
 
 // `step`, `press` or `liststep`, from 0: a byte, and the length of the room.

@@ -7,7 +7,7 @@ use Rattle.replay.proofs.call.untouched.Statement.{statement}
 use Rattle.replay.proofs.call.untouched.Tie as tie
 
 abbrev Inv-loop : tie.InvT-loop
-Inv-loop room i₀ i = Looking room i
+Inv-loop room i₀ i = Looking 0xee room i
 
 abbrev μ-loop : tie.MeasureT-loop
 μ-loop room i₀ i = length room - i
@@ -19,7 +19,7 @@ untouched-spec =
     Inv-loop
     μ-loop
     -- loop-holds
-    (λ c. look-start _)
+    (λ c. look-start 0xee _)
     -- shared-slice-read-if1
     (λ c. omega arith)
     -- returns
