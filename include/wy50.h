@@ -6,8 +6,8 @@
  * different threads.
  *
  * Every call returns, whatever numbers it is handed. It relies on this much of its caller: a pointer goes with a count of elements and points to
- * that many, so where the count is 0 it may be NULL; and the page, the target of a conversion, the row list, the input and the reply room do not
- * overlap.
+ * that many, so where the count is 0 it may be NULL; and the page, the target of a conversion, the row list, the list of a mending, the input and the
+ * reply room do not overlap.
  *
  * Start from wy50_power_on: a page and a state of one's own making may well be no terminal, and answer 7.
  *
@@ -60,7 +60,8 @@ enum {
     WY50_LABELS = 16,
     WY50_LABEL_BYTES = 8,
     WY50_MESSAGE_BYTES = 46,
-    WY50_STORE_BYTES = 8714 /* saved set-ups: the last number and eight places */
+    WY50_STORE_BYTES = 8714, /* saved set-ups: the last number and eight places */
+    WY50_ENTRY_NUMBERS = 4   /* an entry in the list of a mending: row, column, old number, new number */
 };
 
 /* What a call answers. */
@@ -72,16 +73,16 @@ enum {
     WY50_BARRED = 4,       /* a guarded cell or protect mode bars it; the sequence is cleared. Of a conversion: a cell would be lost; nothing changed */
                            /* 5 is unused: 32 keys of 8 bytes are never over 256 */
     WY50_NO_ROOM = 6,      /* the room is zero while a reply is due; of a key press also where its bytes do not fit, and during a send, as of a
-                              conversion; nothing changed, the byte may come again */
+                              conversion; nothing changed, the byte may come again. Of a mending: the list is too short; nothing changed */
     WY50_BAD_CALL = 7,     /* the page is not as long as the state's width has it, the state is not possible, or the row list is not the page's;
-                              nothing changed */
+                              nothing changed. Of a mending: the page has neither width's length, or there is no such personality */
     WY50_LOCKED = 8,       /* a key is pressed while the keyboard is locked; nothing changed */
     WY50_BAD_STORE = 9,    /* no saves could have left the store so; nothing changed */
     WY50_BAD_NUMBER = 10,  /* a number never saved, or overwritten since; nothing changed */
     WY50_FULL = 11         /* number 65,535 is used; nothing changed */
 };
 
-/* An answer in a few words, for a log. A number that is no answer has some too. Those of a conversion mean what is said there. */
+/* An answer in a few words, for a log. A number that is no answer has some too. Those of a conversion or a mending mean what is said there. */
 static inline const char *wy50_answer_name(uint8_t answer)
 {
     switch (answer) {
@@ -338,6 +339,11 @@ typedef struct wy50_convert_result {
     wy50_state state;
 } wy50_convert_result;
 
+typedef struct wy50_mend_result {
+    uint8_t answer;  /* 0, 6 or 7 */
+    uint16_t needed; /* how many entries the list needs: the cells that are damaged; 0 with 7 */
+} wy50_mend_result;
+
 /* Power-on: every cell 0, and the power-on state of that personality; page and wish are narrow. A page of another length than 1,920, a wide one too,
  * answers 7 and is left as it was; the state is given. So does a number that is no personality; the state is that of a WY-50. */
 wy50_power_on_result wy50_power_on(uint16_t *page, size_t page_len, uint8_t personality);
@@ -448,6 +454,24 @@ wy50_convert_result wy50_convert(const uint16_t *page, size_t page_len, wy50_sta
  * refused restore gives the state back as it came. Each call runs all eight set-ups through a terminal to be sure of the store. */
 wy50_save_result wy50_save(wy50_state state, uint8_t *store, size_t store_len);
 wy50_restore_result wy50_restore(wy50_state state, const uint8_t *store, size_t store_len, uint16_t number);
+
+/* Mends a saved page that may be damaged: each cell that a terminal of this personality could not have written becomes 0, an unprotected null, and no
+ * other cell changes. The page's length says its width; no state is looked at.
+ *
+ * A WY-50 writes 0; text of 20h to 7Eh, graphics of 30h to 3Fh and attribute cells of 30h to 3Fh and 70h to 7Eh, protected or not and without flags. A
+ * WY-60 writes 0; text and graphics, protected or not, with any flags but all five; attribute cells that are not protected, without flags.
+ *
+ * Each cell changed is an entry of WY50_ENTRY_NUMBERS numbers: its row and its column, both from 1, its old number and its new one, which is 0. The
+ * entries stand at the list's front in reading order, and what lies beyond them is not touched. list_len counts numbers: there is room for
+ * list_len / WY50_ENTRY_NUMBERS entries.
+ *
+ *     answer 0   mended, and needed entries are listed; 0 means that the page was not damaged
+ *     answer 6   the list has no room for needed entries
+ *     answer 7   the page is neither 1,920 nor 3,168 cells long, or the personality is neither 50 nor 60
+ *
+ * What is refused changes neither page nor list. NULL with 0 asks how many entries are needed, and a list of page_len entries is always long enough. A
+ * mended page needs no entries, and no more does one that a terminal of this personality left. A row list is to be rebuilt. */
+wy50_mend_result wy50_mend(uint16_t *page, size_t page_len, uint8_t personality, uint16_t *list, size_t list_len);
 
 /* What a cell's number says: its code, 0 to 127; whether it is protected, 0 or 1; its kind; its attribute, by its flags, 0 to 31; and the byte that
  * a send gives for it, which is the code of a text cell from 20h to 7Eh and 20h for any other cell. */

@@ -1,4 +1,4 @@
-/* Checks that NULL goes with a count of 0 in every call: page, target, row list, input and reply room, one by one and together. Each call gives what it gives
+/* Checks that NULL goes with a count of 0 in every call: page, target, row list, list of a mending, input and reply room, one by one and together. Each call gives what it gives
  * with another pointer and 0. As C++ the pointers are those of an empty std::vector. Prints one line for each part, and fails by its status. */
 #include "wy50.h"
 
@@ -136,6 +136,7 @@ static void no_page(void)
     wy50_save_result s;
     wy50_restore_result y;
     wy50_convert_result c;
+    wy50_mend_result m;
     memcpy(list, rows, sizeof list);
     memset(reply, 0x55, sizeof reply);
     x = wy50_step(NO_NUMBERS, 0, state, 5, reply, sizeof reply);
@@ -177,6 +178,16 @@ static void no_page(void)
     c = wy50_convert(page, WY50_CELLS, state, NO_NUMBERS, 0);
     CHECK(c.answer == WY50_BAD_CALL && same(&c.state, &state));
     CHECK(wy50_convert(NO_NUMBERS, 0, state, NO_NUMBERS, 0).answer == WY50_BAD_CALL);
+    m = wy50_mend(NO_NUMBERS, 0, WY50_PERSONALITY_50, NO_NUMBERS, 0);
+    CHECK(m.answer == WY50_BAD_CALL && m.needed == 0);
+    m = wy50_mend(NO_NUMBERS, 0, WY50_PERSONALITY_60, list, WY50_ROW_NUMBERS);
+    CHECK(m.answer == WY50_BAD_CALL && m.needed == 0 && memcmp(rows, list, sizeof list) == 0);
+    m = wy50_mend(page, WY50_CELLS, WY50_PERSONALITY_50, NO_NUMBERS, 0);
+    CHECK(m.answer == WY50_DONE && m.needed == 0);
+    wide[5] = 0x80;
+    m = wy50_mend(wide, WY50_WIDE_CELLS, WY50_PERSONALITY_60, NO_NUMBERS, 0);
+    CHECK(m.answer == WY50_NO_ROOM && m.needed == 1 && wide[5] == 0x80);
+    wide[5] = 0;
     CHECK(wy50_next_field(NO_NUMBERS, 0, 0).length == 0);
     CHECK(wy50_field_text(NO_NUMBERS, 0, 0, 1, NO_BYTES, 0).answer == WY50_BAD_CALL && wy50_row_text(NO_NUMBERS, 0, 0, 1, NO_BYTES, 0).answer == WY50_BAD_CALL);
     CHECK(wy50_row_text(page, WY50_CELLS, 0, 0, NO_BYTES, 0).answer == WY50_NO_ROOM);

@@ -1,4 +1,4 @@
-/* Calls the library with random pages of either width, states, bytes, rooms, row lists, stores and conversions, and checks what holds of every call.
+/* Calls the library with random pages of either width, states, bytes, rooms, row lists, stores, conversions and mendings, and checks what holds of every call.
  * Compiled with the address and undefined behaviour sanitizers. Each buffer lies against a page of memory that may not be touched, before it or behind it by turns, and has guard
  * bytes on its other side. One of no bytes is often NULL.
  *
@@ -14,9 +14,9 @@
 #include <time.h>
 #include <unistd.h>
 
-enum { MOST_ROOM = 3300, MOST_INPUT = 600, MOST_PAGE = 3300, MOST_ROWS = 60, MOST_STORE = 9000, GUARD = 64 };
+enum { MOST_ROOM = 3300, MOST_INPUT = 600, MOST_PAGE = 3300, MOST_ROWS = 60, MOST_STORE = 9000, MOST_LIST = 4 * MOST_PAGE, GUARD = 64 };
 
-static uint64_t seed, calls, bytes, turns, answered_7, replies, lists, wrong_lists, nulls, saves, widened, narrowed_pages;
+static uint64_t seed, calls, bytes, turns, answered_7, replies, lists, wrong_lists, nulls, saves, widened, narrowed_pages, mended_cells, unmended;
 
 static uint64_t next(void)
 {
@@ -563,6 +563,83 @@ static wy50_state converts(wy50_state last, wy50_state x, const uint16_t *page, 
     return r.state;
 }
 
+static buffer mend_buffer, list_buffer;
+
+/* Whether a terminal of this personality writes the number, by its parts. */
+static int writable(uint8_t personality, uint16_t cell)
+{
+    unsigned code = cell % 128, guarded = cell / 128 % 2, kind = cell / 256 % 4, flags = cell / 1024 % 32, top = cell / 32768;
+    int wy60 = personality == WY50_PERSONALITY_60;
+    if (top || flags == 31 || (flags && !wy60))
+        return 0;
+    if (kind == WY50_TEXT)
+        return (code == 0 && !guarded && !flags) || (code >= 0x20 && code < 0x7f);
+    if (kind == WY50_GRAPHIC)
+        return code / 16 == 3;
+    return kind == WY50_ATTRIBUTE && (code / 16 == 3 || (code / 16 == 7 && code != 0x7f)) && !(wy60 && (guarded || flags));
+}
+
+/* A mending of the page as it came, with some cells of other numbers, and a list that is often as long as it need be or just too short. */
+static void mends(const uint16_t *came, size_t cells)
+{
+    static uint16_t list_before[MOST_LIST];
+    size_t i, needed = 0, len, columns_of = cells / WY50_ROWS, spoilt = below(3) ? below(8) : below(cells + 1), kinds = below(3);
+    uint8_t personality = (uint8_t)(below(16) ? below(2) ? WY50_PERSONALITY_50 : WY50_PERSONALITY_60 : next());
+    int bad = (cells != WY50_CELLS && cells != WY50_WIDE_CELLS) || (personality != WY50_PERSONALITY_50 && personality != WY50_PERSONALITY_60);
+    uint16_t *page = (uint16_t *)place(&mend_buffer, cells * sizeof *page), *list;
+    wy50_mend_result r, again;
+    int answer;
+    for (i = 0; i < cells; i++)
+        page[i] = kinds == 0 ? came[i] : kinds == 1 ? (uint16_t)next() : (uint16_t)(below(4) ? 32 + below(95) : below(4) * 1024 + below(1024));
+    for (i = 0; i < spoilt && cells > 0; i++)
+        page[below(cells)] ^= (uint16_t)(1 << below(16));
+    copy(page_parts, page, cells * sizeof *page);
+    for (i = 0; i < cells; i++)
+        needed += !writable(personality, page[i]);
+    switch (below(4)) {
+    case 0:
+        len = below(MOST_LIST + 1);
+        break;
+    case 1:
+        len = below(12);
+        break;
+    default:
+        len = 4 * needed + below(9);
+        len = len < 4 ? 0 : len - 4;
+    }
+    len = len > MOST_LIST ? MOST_LIST : len;
+    list = (uint16_t *)place(&list_buffer, len * sizeof *list);
+    for (i = 0; i < len; i++)
+        list[i] = list_before[i] = (uint16_t)next();
+    answer = bad ? WY50_BAD_CALL : needed > len / 4 ? WY50_NO_ROOM : WY50_DONE;
+    if (answer == WY50_DONE) {
+        uint16_t *entry = list_before;
+        for (i = 0; i < cells; i++) {
+            if (!writable(personality, page_parts[i])) {
+                *entry++ = (uint16_t)(i / columns_of + 1);
+                *entry++ = (uint16_t)(i % columns_of + 1);
+                *entry++ = page_parts[i];
+                *entry++ = page_parts[i] = 0;
+            }
+        }
+    }
+    r = wy50_mend(page, cells, personality, list, len);
+    calls++;
+    expect(r.answer == answer, "a mending answers 7, 6 or 0 as it should");
+    expect(r.needed == (bad ? 0 : needed), "a mending counts the cells that are damaged");
+    expect(equal(page, page_parts, cells * sizeof *page), "a mending clears the damaged cells alone, and a refused one none");
+    expect(equal(list, list_before, len * sizeof *list), "a mending lists what it changed and leaves the list's rest, a refused one all of it");
+    untouched(&mend_buffer);
+    untouched(&list_buffer);
+    mended_cells += answer == WY50_DONE ? needed : 0;
+    unmended += answer == WY50_NO_ROOM;
+    answered_7 += answer == WY50_BAD_CALL;
+    if (answer == WY50_DONE) {
+        again = wy50_mend(page, cells, personality, NULL, 0);
+        expect(again.answer == WY50_DONE && again.needed == 0 && equal(page, page_parts, cells * sizeof *page), "mending twice is mending once");
+    }
+}
+
 static wy50_state turn(wy50_state last, uint16_t *kept)
 {
     wy50_state x = any_state(last);
@@ -659,6 +736,8 @@ static wy50_state turn(wy50_state last, uint16_t *kept)
     }
     if (below(8) == 0)
         last = kept_setups(last, x);
+    if (below(8) == 0)
+        mends(page, cells);
     untouched(&page_buffer);
     untouched(&reply_buffer);
     calls++;
@@ -685,6 +764,8 @@ int main(int argc, char **argv)
     rows_buffer = make(MOST_ROWS * sizeof *kept);
     store_buffer = make(MOST_STORE);
     target_buffer = make(MOST_PAGE * sizeof *kept);
+    mend_buffer = make(MOST_PAGE * sizeof *kept);
+    list_buffer = make(MOST_LIST * sizeof *kept);
     last = powered_on(kept);
     do {
         if (turns % 5000 == 0)
@@ -693,9 +774,9 @@ int main(int argc, char **argv)
         turns++;
         clock_gettime(CLOCK_MONOTONIC, &to);
     } while ((double)(to.tv_sec - from.tv_sec) + 1e-9 * (double)(to.tv_nsec - from.tv_nsec) < seconds);
-    printf("fuzz: nothing found in %.0f seconds: %llu turns (%llu answered 7), %llu row lists (%llu wrong), %llu NULLs, %llu saves, %llu pages widened and %llu narrowed, %llu calls, %llu host bytes, %llu reply bytes (seed %llu)\n",
+    printf("fuzz: nothing found in %.0f seconds: %llu turns (%llu answered 7), %llu row lists (%llu wrong), %llu NULLs, %llu saves, %llu pages widened and %llu narrowed, %llu cells mended (%llu lists too short), %llu calls, %llu host bytes, %llu reply bytes (seed %llu)\n",
         seconds, (unsigned long long)turns, (unsigned long long)answered_7, (unsigned long long)lists, (unsigned long long)wrong_lists,
-        (unsigned long long)nulls, (unsigned long long)saves, (unsigned long long)widened, (unsigned long long)narrowed_pages, (unsigned long long)calls, (unsigned long long)bytes, (unsigned long long)replies,
+        (unsigned long long)nulls, (unsigned long long)saves, (unsigned long long)widened, (unsigned long long)narrowed_pages, (unsigned long long)mended_cells, (unsigned long long)unmended, (unsigned long long)calls, (unsigned long long)bytes, (unsigned long long)replies,
         (unsigned long long)seed);
     return 0;
 }
