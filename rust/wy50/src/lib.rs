@@ -51,7 +51,7 @@
 //! # Ok::<(), wy50::Unconverted>(())
 //! ```
 //!
-//! A [`Store`] keeps the last eight set-ups.
+//! A [`Store`] keeps the last eight set-ups. A saved page that may be damaged is mended by [`mend`] before it is used.
 //!
 //! It links the proved library libwy50.a (see `build.rs`), which keeps nothing between calls and allocates nothing; neither does this crate.
 #![no_std]
@@ -63,6 +63,7 @@ mod cell;
 mod event;
 mod features;
 mod field;
+mod mend;
 mod page;
 mod personality;
 mod sending;
@@ -76,6 +77,7 @@ use core::fmt;
 pub use event::{Command, Event, Next};
 pub use features::{CursorStyle, Features, ProtectedLook, Scrolling};
 pub use field::{Field, Fields, Position, ProtectOff, Text};
+pub use mend::{mend, Mended, Unmended};
 use page::Page;
 pub use page::Unconverted;
 pub use personality::Personality;

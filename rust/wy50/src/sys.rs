@@ -1,6 +1,6 @@
 //! What crosses to the library: the structs of include/wy50.h and its calls. All members are numbers, so every bit pattern is a value.
 
-use crate::{KEYS, KEY_BYTES, LABELS, MESSAGE_BYTES, ROW_NUMBERS, STORE_BYTES, WIDE_COLUMNS};
+use crate::{Mended, KEYS, KEY_BYTES, LABELS, MESSAGE_BYTES, ROW_NUMBERS, STORE_BYTES, WIDE_COLUMNS};
 
 /// A function key or a key label: the first `len` of `bytes`.
 #[repr(C)]
@@ -170,6 +170,12 @@ pub struct RawConvert {
     pub state: State,
 }
 
+#[repr(C)]
+pub struct RawMend {
+    pub answer: u8,
+    pub needed: u16,
+}
+
 mod linked {
     use super::*;
 
@@ -224,6 +230,7 @@ mod linked {
         pub fn wy50_save(state: State, store: *mut u8, store_len: usize) -> RawSave;
         pub fn wy50_restore(state: State, store: *const u8, store_len: usize, number: u16) -> RawRestore;
         pub fn wy50_convert(page: *const u16, page_len: usize, state: State, target: *mut u16, target_len: usize) -> RawConvert;
+        pub fn wy50_mend(page: *mut u16, page_len: usize, personality: u8, list: *mut u16, list_len: usize) -> RawMend;
         pub safe fn wy50_cell_code(cell: u16) -> u8;
         pub safe fn wy50_cell_protected(cell: u16) -> u8;
         pub safe fn wy50_cell_kind(cell: u16) -> u8;
@@ -309,6 +316,12 @@ pub fn row_text(page: &[u16], row: usize, trim: bool, text: &mut [u8]) -> RawTex
 pub fn convert(page: &[u16], state: State, target: &mut [u16]) -> RawConvert {
     // SAFETY: as above, for two slices; the page is only read.
     unsafe { linked::wy50_convert(page.as_ptr(), page.len(), state, target.as_mut_ptr(), target.len()) }
+}
+
+pub fn mend(page: &mut [u16], personality: u8, list: &mut [Mended]) -> RawMend {
+    let (numbers, count) = (list.as_mut_ptr().cast(), size_of_val(list) / size_of::<u16>());
+    // SAFETY: as above, for two slices that are lent for writing; an entry is four numbers, without padding.
+    unsafe { linked::wy50_mend(page.as_mut_ptr(), page.len(), personality, numbers, count) }
 }
 
 pub fn save(state: State, store: &mut [u8; STORE_BYTES]) -> RawSave {

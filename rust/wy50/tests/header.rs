@@ -2,9 +2,9 @@
 use std::collections::BTreeMap;
 use wy50::Command;
 use wy50::{
-    library_version, Answer, Attributes, CursorStyle, Features, Kind, Personality, Place, ProtectedLook, RawSending, Refusal, Scrolling,
-    Sending, SequenceKind, Terminal, CELLS, COLUMNS, KEYS, KEY_BYTES, LABELS, LABEL_BYTES, LONGEST_REPLY, LONGEST_TEXT, MESSAGE_BYTES,
-    ROWS, ROW_NUMBERS, STORE_BYTES, VERSION, WIDE_CELLS, WIDE_COLUMNS,
+    library_version, Answer, Attributes, CursorStyle, Features, Kind, Mended, Personality, Place, ProtectedLook, RawSending, Refusal,
+    Scrolling, Sending, SequenceKind, Terminal, CELLS, COLUMNS, KEYS, KEY_BYTES, LABELS, LABEL_BYTES, LONGEST_REPLY, LONGEST_TEXT,
+    MESSAGE_BYTES, ROWS, ROW_NUMBERS, STORE_BYTES, VERSION, WIDE_CELLS, WIDE_COLUMNS,
 };
 
 /// The header without its comments.
@@ -119,6 +119,7 @@ fn ours() -> BTreeMap<String, usize> {
         ("WY50_LABEL_BYTES", LABEL_BYTES),
         ("WY50_MESSAGE_BYTES", MESSAGE_BYTES),
         ("WY50_STORE_BYTES", STORE_BYTES),
+        ("WY50_ENTRY_NUMBERS", size_of::<Mended>() / size_of::<u16>()),
         ("WY50_CURSOR_SHOWN", Features::CURSOR_SHOWN),
         ("WY50_CURSOR_STYLE", Features::CURSOR_STYLE),
         ("WY50_PROTECTED_LOOK", Features::PROTECTED_LOOK),
