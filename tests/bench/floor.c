@@ -1,4 +1,5 @@
-/* The floors: a loop that stores text and ends lines by 0Dh and 0Ah, one that shifts rows, one that sends cells, and one that counts text parts. */
+/* The floors: a loop that stores text and ends lines by 0Dh and 0Ah, one that shifts rows, one that sends cells, one that counts text parts, and one
+ * that mends a page. */
 #include <stdbool.h>
 #include <stddef.h>
 #include <stdint.h>
@@ -172,4 +173,37 @@ uint64_t floor_count(const uint8_t *text, size_t count)
         }
     }
     return units == 0 ? 0 : units <= 160 ? 1 : parts;
+}
+
+/* Whether a WY-60 writes the number. */
+static bool writable(uint16_t cell)
+{
+    unsigned code = cell & 0x7f;
+    if (cell >= 0x7c00)
+        return false;
+    switch (cell & 0x300) {
+    case 0:
+        return cell == 0 || (code >= 0x20 && code < 0x7f);
+    case 0x100:
+        return cell < 0x180 && (code >> 4 == 3 || (code >> 4 == 7 && code < 0x7f));
+    case 0x200:
+        return code >> 4 == 3;
+    default:
+        return false;
+    }
+}
+
+/* Row, column, old number and 0 of each cell cleared, in a list that is long enough; gives back how many they are. */
+size_t floor_mend(uint16_t *page, uint16_t *list)
+{
+    uint16_t *to = list;
+    for (size_t k = 0; k < CELLS; k++) {
+        if (!writable(page[k])) {
+            *to++ = (uint16_t)(k / COLUMNS + 1);
+            *to++ = (uint16_t)(k % COLUMNS + 1);
+            *to++ = page[k];
+            *to++ = page[k] = 0;
+        }
+    }
+    return (size_t)(to - list) / 4;
 }

@@ -1,6 +1,6 @@
 //! Times the proved terminal and the proved counter beside their peers, prints the tables, and writes them to the file that is named. It
-//! fails if the proved terminal and the independent implementation differ, or the counter and the plain loop, or if a row list makes a
-//! difference.
+//! fails if the proved terminal and the independent implementation differ, or the counter or the mending and its plain loop, or if a row list
+//! makes a difference.
 
 mod peers;
 #[allow(dead_code)]
@@ -12,8 +12,8 @@ mod terminal;
 mod workloads;
 
 use peers::{
-    after, feed, floor_parts, play, proved_parts, Counter, Floor, Independent, Independent60, Libvterm, Listed, Page, Peer, Proved,
-    Proved60, SendFloor, Sender, ShiftFloor, NARROW_REPLY, READ,
+    after, feed, floor_mended, floor_parts, play, proved_mend, proved_parts, Counter, Floor, Independent, Independent60, Libvterm, Listed,
+    Mender, Page, Peer, Proved, Proved60, SendFloor, Sender, ShiftFloor, NARROW_REPLY, READ,
 };
 use std::{
     fmt::Write,
@@ -21,8 +21,8 @@ use std::{
     process::{Command, ExitCode},
     time::Instant,
 };
-use workloads::{Shifts, Stream, Workload, ALERTS, LISTED, SENDS, SHIFTS, WORKLOADS};
-use wy50::{Answer, State, Store, Terminal, CELLS, LONGEST_REPLY};
+use workloads::{Saved, Shifts, Stream, Workload, ALERTS, LISTED, SAVED, SENDS, SHIFTS, WORKLOADS};
+use wy50::{Answer, Mended, State, Store, Terminal, CELLS, LONGEST_REPLY};
 
 const ROUNDS: usize = 5;
 const SIZE: usize = 20_000_000;
@@ -37,6 +37,8 @@ const ALERT_ROUNDS: usize = 50; // each is short
 const LIST_SIZE: usize = 100_000;
 const LIST_ROUNDS: usize = 50; // each is short
 const STORE_CALLS: usize = 1_000;
+const MEND_CALLS: usize = 200;
+const MEND_ROUNDS: usize = 50; // each is short
 
 /// Nanoseconds a byte, a row shift or a reply byte, where a peer has the workload.
 struct Row {
@@ -49,6 +51,13 @@ struct Row {
 
 /// Nanoseconds a byte of an alert.
 struct Counted {
+    proved: f64,
+    floor: f64,
+}
+
+/// Nanoseconds a cell of a page that is mended.
+struct MendRow {
+    name: &'static str,
     proved: f64,
     floor: f64,
 }
@@ -71,7 +80,7 @@ struct Single {
 
 fn main() -> ExitCode {
     let Some(path) = std::env::args().nth(1) else {
-        eprintln!("bench FILE: the tables go to FILE\nbench --scrolls, --sends, --counts, --lists: these alone, printed");
+        eprintln!("bench FILE: the tables go to FILE\nbench --scrolls, --sends, --counts, --lists, --mends: these alone, printed");
         return ExitCode::from(2);
     };
     let (made, alone) = match path.as_str() {
@@ -79,6 +88,7 @@ fn main() -> ExitCode {
         "--sends" => (sends_report(), true),
         "--counts" => (counts_report(), true),
         "--lists" => (lists_report(), true),
+        "--mends" => (mends_report(), true),
         _ => (report(), false),
     };
     match made {
@@ -102,6 +112,7 @@ fn report() -> Result<String, String> {
     let sends = send_row()?;
     let counted = counts()?;
     let lists = LISTED.iter().map(list_row).collect::<Result<Vec<_>, _>>()?;
+    let mends = SAVED.iter().map(mend_row).collect::<Result<Vec<_>, _>>()?;
     let growth = WORKLOADS.each_ref().map(grown);
     let singles = [
         single("step", Some(400.0), Terminal::new(), step),
@@ -119,6 +130,7 @@ fn report() -> Result<String, String> {
     sends_table(&mut out, &sends);
     counts_table(&mut out, &counted);
     lists_table(&mut out, &lists);
+    mends_table(&mut out, &mends);
     growth_table(&mut out, &growth);
     singles_table(&mut out, &singles);
     targets(&mut out, &rows, &shifts, &[sends], &singles, &[counted], &lists);
@@ -154,6 +166,13 @@ fn lists_report() -> Result<String, String> {
     let mut out = String::new();
     lists_table(&mut out, &lists);
     targets(&mut out, &[], &[], &[], &[], &[], &lists);
+    Ok(out)
+}
+
+fn mends_report() -> Result<String, String> {
+    let mends = SAVED.iter().map(mend_row).collect::<Result<Vec<_>, _>>()?;
+    let mut out = String::new();
+    mends_table(&mut out, &mends);
     Ok(out)
 }
 
@@ -306,6 +325,37 @@ fn list_row(workload: &Workload) -> Result<ListRow, String> {
         best(&mut independent, &stream, play::<Independent>, &page)?;
     }
     Ok(ListRow { name, with, without, independent })
+}
+
+/// Mendings of one page, the menders taking turns.
+fn mend_row(saved: &Saved) -> Result<MendRow, String> {
+    let page = saved.page();
+    let name = saved.name;
+    let [ours, plain] = [proved_mend, floor_mended].map(|mend: Mender| {
+        let (mut page, mut list) = (page, [Mended::default(); CELLS]);
+        let count = mend(&mut page, &mut list);
+        (count, page, list)
+    });
+    if ours != plain {
+        return Err(format!("{name}: the mended pages or their lists differ"));
+    }
+    let (mut proved, mut floor) = (f64::MAX, f64::MAX);
+    for _ in 0..MEND_ROUNDS {
+        proved = proved.min(timed_mends(&page, proved_mend));
+        floor = floor.min(timed_mends(&page, floor_mended));
+    }
+    Ok(MendRow { name, proved, floor })
+}
+
+fn timed_mends(page: &Page, mend: Mender) -> f64 {
+    let mut list = [Mended::default(); CELLS];
+    let start = Instant::now();
+    for _ in 0..MEND_CALLS {
+        let mut page = *black_box(page);
+        mend(&mut page, &mut list);
+        black_box((&page, &list));
+    }
+    start.elapsed().as_nanos() as f64 / (MEND_CALLS * CELLS) as f64
 }
 
 fn timed(stream: &[u8], play: fn(&[u8]) -> Page) -> (f64, Page) {
@@ -533,6 +583,28 @@ fn lists_table(out: &mut String, rows: &[ListRow]) {
     }
     line!(out);
     line!(out, "Counts, replies, pages and states are the same with a list and without one, and the list is the page's after every read.");
+    line!(out);
+}
+
+fn mends_table(out: &mut String, rows: &[MendRow]) {
+    line!(out, "## Mending");
+    line!(out);
+    line!(
+        out,
+        "Nanoseconds a cell of a saved page of {CELLS}, and in brackets how many times the proved call's that is. {MEND_CALLS} each, the best of {MEND_ROUNDS}:"
+    );
+    line!(out);
+    for saved in &SAVED {
+        line!(out, "- {}: {}", saved.name, saved.what);
+    }
+    line!(out);
+    line!(out, "| page | proved | C loop over the cells |");
+    line!(out, "|---|---|---|");
+    for row in rows {
+        line!(out, "| {} | {:.2} | {:.2} ({:.2}) |", row.name, row.proved, row.floor, row.floor / row.proved);
+    }
+    line!(out);
+    line!(out, "Pages and lists are the same, number by number. The C loop reads the page once, since its list is long enough; the call counts first.");
     line!(out);
 }
 

@@ -5,7 +5,7 @@ use std::{
     ffi::{c_char, c_int, c_void},
     ops::Range,
 };
-use wy50::{Personality, Terminal, CELLS, COLUMNS, ROWS};
+use wy50::{mend, Mended, Personality, Terminal, CELLS, COLUMNS, ROWS};
 
 /// Bytes of a read, and of the reply room.
 pub const READ: usize = 4096;
@@ -227,6 +227,7 @@ extern "C" {
     fn floor_shift(page: *mut u16, cursor: *mut Cursor, bytes: *const u8, count: usize);
     fn floor_send(page: *const u16, bytes: *const u8, count: usize, reply: *mut u8) -> usize;
     fn floor_count(text: *const u8, count: usize) -> u64;
+    fn floor_mend(page: *mut u16, list: *mut Mended) -> usize;
 }
 
 /// A text's parts, by one of the peers.
@@ -239,6 +240,18 @@ pub fn proved_parts(text: &[u8]) -> u64 {
 pub fn floor_parts(text: &[u8]) -> u64 {
     // SAFETY: the pointer and the count are those of one slice.
     unsafe { floor_count(text.as_ptr(), text.len()) }
+}
+
+/// A page mended as a WY-60's by one of the peers, the cells changed at the list's front; how many they are.
+pub type Mender = fn(&mut Page, &mut [Mended; CELLS]) -> usize;
+
+pub fn proved_mend(page: &mut Page, list: &mut [Mended; CELLS]) -> usize {
+    mend(page, Personality::Wy60, list).map_or(usize::MAX, <[Mended]>::len)
+}
+
+pub fn floor_mended(page: &mut Page, list: &mut [Mended; CELLS]) -> usize {
+    // SAFETY: the page has 1,920 cells, and the list an entry of four numbers for each.
+    unsafe { floor_mend(page.as_mut_ptr(), list.as_mut_ptr()) }
 }
 
 /// The floor of text, plain C.

@@ -1,5 +1,6 @@
 //! The host streams that are timed. Each is made of rounds, from a seed that does not change.
 
+use crate::peers::{play, Page, Proved60};
 use std::ops::Range;
 use wy50::{COLUMNS, ROWS};
 
@@ -225,6 +226,31 @@ impl Alerts {
             texts.push(text);
         }
         texts
+    }
+}
+
+/// A page that is mended, of a WY-60.
+pub struct Saved {
+    pub name: &'static str,
+    pub what: &'static str,
+    noise: bool,
+}
+
+pub const SAVED: [Saved; 2] = [
+    Saved { name: "clean", what: "lines of words with attributes, as a WY-60 leaves them: no cell to mend", noise: false },
+    Saved { name: "noise", what: "any number in each cell: nine in ten to mend", noise: true },
+];
+
+impl Saved {
+    pub fn page(&self) -> Page {
+        let mut writer = Writer::new();
+        if self.noise {
+            return std::array::from_fn(|_| writer.random.below(65_536) as u16);
+        }
+        for _ in 0..ROWS {
+            attributed(&mut writer);
+        }
+        play::<Proved60>(&writer.stream.wy50)
     }
 }
 
