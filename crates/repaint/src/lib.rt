@@ -1,9 +1,12 @@
 // Repainting a distant display: spans and bytes that bring it from the page that it shows to the page that it should show, and judges of both.
+mod feeding; // the judge of bytes
+
 ghost use mathlib.Core.Path.{_≡_};
 ghost use Prim.Native.Nat.{_+_, _<_, _≤_};
 ghost use lib.ListN.{length};
 ghost use Rattle.repaint.specs.Spans.{SpansVerdict, ListsVerdict};
 ghost use Rattle.repaint.specs.Pass.{pagesWidth, equal, fits, turned, finished};
+pub use feeding::judge_bytes;
 
 // Cells of one row: its row and its first column, counted from 1, and how many they are.
 #[repr(C)]
