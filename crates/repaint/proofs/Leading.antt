@@ -17,7 +17,7 @@ use borrow.Author.Tests.{leb-false, ltb-false, eqb-true, eqb-false, eq-eqb, ne-e
 use Rattle.rules.specs.declared.Core.{Core}
 use Rattle.rules.specs.declared.Personality.{Personality}
 use Rattle.rules.specs.declared.State.{State}
-use Rattle.rules.specs.Cell.{pick, both, among}
+use Rattle.rules.specs.Cell.{both, among, same}
 use Rattle.rules.specs.Row.{columns}
 use Rattle.rules.specs.State.{withScreen, sends}
 use Rattle.rules.specs.Possible.{powerOn, possible, good}
@@ -30,6 +30,7 @@ use Rattle.rules.specs.Slot.{textsOk, textOk, allText}
 use Rattle.rules.specs.Arguments.{isAttribute, featurePlace}
 use Rattle.rules.specs.declared.Personality.the-variants as Personality
 use Rattle.rules.proofs.Kept.{step-good, run-keeps, good-whole}
+use Rattle.rules.proofs.RowSteps.{same-is, same-refl}
 use Rattle.rules.proofs.Left.{step-good-most, step-unused}
 use Rattle.repaint.specs.declared.Verdict.{Verdict}
 use Rattle.repaint.specs.declared.Verdict.the-variants as Verdict
@@ -194,15 +195,25 @@ equal-lists (x ∷ a) (y ∷ b) e h =
     let t = equal-lists a b (omega arith) (λ j l. h (suc j) (omega arith)) in
     rw (k, t)
 
-module _ (m : Personality) (wide : Bool) (a b bytes : List ℕ) (size : length a ≡ 24 * columns wide) (alike : length a ≡ length b) where
+-- the loop over the cells and the comparison of the lists say the same
+equal-same : (a b : List ℕ) → length a ≡ length b → equal a b 0 (length b) ≡ same a b
+equal-same a b e = by (either-way (equal a b 0 (length b))) (either-way (same a b))
+  where
+    by : (equal a b 0 (length b) ≡ true) ⊎ (equal a b 0 (length b) ≡ false) → (same a b ≡ true) ⊎ (same a b ≡ false) → equal a b 0 (length b) ≡ same a b
+    by (inl t) s =
+        let q : a ≡ b = equal-lists a b e (λ i l. same-means a b 0 (length b) t .1 i (omega arith) l) in
+        t ∙ sym (ap (λ (z : List ℕ). same z b) q ∙ same-refl b)
+    by (inr t) (inl s) =
+        let q : a ≡ b = same-is a b s in
+        absurd (false≢true (sym t ∙ same-made a b 0 (length b) (omega arith) (λ i x y. ap (λ (z : List ℕ). getD z i 0) q)))
+    by (inr t) (inr s) = t ∙ sym s
+
+module _ (m : Personality) (wide : Bool) (a b bytes : List ℕ) (size : length a ≡ 24 * columns wide) where
   abbrev s : State
   s = powerOnAt wide m
 
   abbrev r : Ran
   r = runRule a s bytes 0
-
-  long : length (r .page) ≡ length b
-  long = run-keeps a s bytes 0 .size ∙ alike
 
   pub paints-leads : paints m wide a b bytes ≡ true → AcceptsBytes m wide a b bytes
   unfolding paints
@@ -210,7 +221,7 @@ module _ (m : Personality) (wide : Bool) (a b bytes : List ℕ) (size : length a
       let t = both-parts (clean r (length bytes)) _ e in
       let j = on-run wide m a bytes size in
       let k = subst (λ (x : Ran). Clean x (length bytes)) j (clean-parts r (length bytes) (t .0)) in
-      let q : r .page ≡ b = equal-lists (r .page) b long (λ i l. same-means (r .page) b 0 (length b) (t .1) .1 i (omega arith) l) in
+      let q : r .page ≡ b = same-is (r .page) b (t .1) in
       subst (λ (z : List ℕ). Leads z bytes a s) (sym (ap (λ (x : Ran). x .page) j) ∙ q) (leads-of bytes a s (on-good wide m a size) k)
 
   pub leads-paints : AcceptsBytes m wide a b bytes → paints m wide a b bytes ≡ true
@@ -220,7 +231,7 @@ module _ (m : Personality) (wide : Bool) (a b bytes : List ℕ) (size : length a
       let j = on-run wide m a bytes size in
       let c = clean-whole r (length bytes) (subst (λ (x : Ran). Clean x (length bytes)) (sym j) (k .0)) in
       let q : r .page ≡ b = ap (λ (x : Ran). x .page) j ∙ k .1 in
-      both-true c (same-made (r .page) b 0 (length b) (omega arith) (λ i x y. ap (λ (z : List ℕ). getD z i 0) q))
+      both-true c (ap (λ (z : List ℕ). same z b) q ∙ same-refl b)
 
 -- ---- the code
 
@@ -247,12 +258,12 @@ unfolding clean
 clean-made o l n k f en ek ef = rw (en, ek, ef)
 
 -- what the run leaves, and what is compared
-pub paints-made : (m : Personality) (wide : Bool) (a b bytes : List ℕ) {p q : List ℕ} {s : State} {room n k f : ℕ} {c e r : Bool}
+pub paints-made : (m : Personality) (wide : Bool) (a b bytes : List ℕ) {p q : List ℕ} {s : State} {room n k f : ℕ} {c e r : Bool} → length a ≡ length b
     → p ≡ a → s ≡ powerOnAt wide m → room ≡ 0
     → n ≡ runRule p s bytes room .answer → k ≡ runRule p s bytes room .taken → f ≡ runRule p s bytes room .refused → q ≡ runRule p s bytes room .page
     → c ≡ both (eqb n 0) (both (eqb k (length bytes)) (eqb f 0)) → e ≡ equal q b 0 (length b) → r ≡ both c e → r ≡ paints m wide a b bytes
 unfolding paints
-paints-made m wide a b bytes {p} {q} {s} {room} {n} {k} {f} {c} {e} {r} ep es er en ek ef eq ec ee err =
+paints-made m wide a b bytes {p} {q} {s} {room} {n} {k} {f} {c} {e} {r} alike ep es er en ek ef eq ec ee err =
     let o = runRule a (powerOnAt wide m) bytes 0 in
     let z : runRule p s bytes room ≡ o = rw (ep, es, er) in
     let n′ : n ≡ o .answer = en ∙ ap (λ (x : Ran). x .answer) z in
@@ -260,7 +271,8 @@ paints-made m wide a b bytes {p} {q} {s} {room} {n} {k} {f} {c} {e} {r} ep es er
     let f′ : f ≡ o .refused = ef ∙ ap (λ (x : Ran). x .refused) z in
     let q′ : q ≡ o .page = eq ∙ ap (λ (x : Ran). x .page) z in
     let c′ : c ≡ clean o (length bytes) = ec ∙ clean-made o (length bytes) n k f n′ k′ f′ in
-    err ∙ ap₂ both c′ (ee ∙ ap (λ (x : List ℕ). equal x b 0 (length b)) q′)
+    let long : length q ≡ length b = ap length q′ ∙ (run-keeps a (powerOnAt wide m) bytes 0 .size ∙ alike) in
+    err ∙ ap₂ both c′ (ee ∙ (equal-same q b long ∙ ap (λ (x : List ℕ). same x b) q′))
 
 -- the pages' width
 pub record At (wide : Bool) (a b : List ℕ) : Type 0 where
@@ -298,8 +310,8 @@ no-pages a b w e z = by (widths a b)
 
 module _ (m : Personality) (a b bytes : List ℕ) (w : ℕ) {r : Bool} (x : At (eqb w 132) a b) (e : r ≡ paints m (eqb w 132) a b bytes) where
   pub taken-verdict : r ≡ true → BytesVerdict m a b bytes Verdict.Accepted
-  taken-verdict t = BytesVerdict.accepted (eqb w 132) (x .pages) (paints-leads m (eqb w 132) a b bytes (x .size) (x .pages .alike) (sym e ∙ t))
+  taken-verdict t = BytesVerdict.accepted (eqb w 132) (x .pages) (paints-leads m (eqb w 132) a b bytes (x .size) (sym e ∙ t))
 
   pub left-verdict : r ≡ false → BytesVerdict m a b bytes Verdict.NotAccepted
   left-verdict t =
-      BytesVerdict.refused (eqb w 132) (x .pages) (λ l. false≢true (sym (sym e ∙ t) ∙ leads-paints m (eqb w 132) a b bytes (x .size) (x .pages .alike) l))
+      BytesVerdict.refused (eqb w 132) (x .pages) (λ l. false≢true (sym (sym e ∙ t) ∙ leads-paints m (eqb w 132) a b bytes (x .size) l))

@@ -1,3 +1,4 @@
 pub mod Passing
 pub mod Verdicts
 pub mod Leading
+pub mod Cases

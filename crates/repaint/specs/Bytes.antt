@@ -8,7 +8,7 @@ use lib.Dec.{eqb}
 use lib.ListN.{length}
 use Rattle.rules.specs.declared.Personality.{Personality}
 use Rattle.rules.specs.declared.State.{State}
-use Rattle.rules.specs.Cell.{both}
+use Rattle.rules.specs.Cell.{both, same}
 use Rattle.rules.specs.Row.{columns}
 use Rattle.rules.specs.State.{withScreen}
 use Rattle.rules.specs.Possible.{powerOn}
@@ -18,7 +18,6 @@ use Rattle.rules.specs.Calls.{Ran, runRule}
 use Rattle.repaint.specs.declared.Verdict.{Verdict}
 use Rattle.repaint.specs.declared.Verdict.the-variants as Verdict
 use Rattle.repaint.specs.Spans.{Pages}
-use Rattle.repaint.specs.Pass.{equal}
 
 -- "from power-on at the pages' width": a wide one is the power-on state as the conversion of A11 leaves it
 unfoldable pub powerOnAt : Bool → Personality → State
@@ -54,4 +53,4 @@ clean o n = both (eqb (o .answer) 0) (both (eqb (o .taken) n) (eqb (o .refused) 
 unfoldable pub paints : Personality → Bool → List ℕ → List ℕ → List ℕ → Bool
 paints m wide a b bytes =
     let o = runRule a (powerOnAt wide m) bytes 0 in
-    both (clean o (length bytes)) (equal (o .page) b 0 (length b))
+    both (clean o (length bytes)) (same (o .page) b)

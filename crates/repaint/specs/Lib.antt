@@ -1,3 +1,5 @@
 pub mod Spans
 pub mod Pass
 pub mod Bytes
+pub mod Proposal
+pub mod Cases

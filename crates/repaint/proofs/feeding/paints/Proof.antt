@@ -37,6 +37,6 @@ paints-spec =
     (λ c.
     let x = c .before .before .before .before .before .before .before .before .before .before .before .before .before .before .before .before .before .before .before .args in
     let t = c .before .before .before .before .before .before .before .run .ensures in
-    paints-made (x .personality) (x .wide) (now (x .before)) (now (x .after)) (now (x .bytes)) (c .before .before .before .before .before .before .before .before .before .before .before .before .before .copy-cells .ensures)
+    paints-made (x .personality) (x .wide) (now (x .before)) (now (x .after)) (now (x .bytes)) (c .before .before .before .before .before .before .before .before .before .before .before .before .before .before .before .before .before .before .before .pre .0 .1) (c .before .before .before .before .before .before .before .before .before .before .before .before .before .copy-cells .ensures)
     (c .before .before .before .before .before .before .before .before .before .before .power-on-at .ensures) refl (t .answer) (t .taken) (t .refused) (t .page) (c .before .before .before .is-clean .ensures)
     (c .before .same-cells .ensures) (c .and .ensures)))
