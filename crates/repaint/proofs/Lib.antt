@@ -2,3 +2,4 @@ pub mod Passing
 pub mod Verdicts
 pub mod Leading
 pub mod Cases
+pub mod Stretching
