@@ -3,3 +3,4 @@ pub mod Verdicts
 pub mod Leading
 pub mod Cases
 pub mod Stretching
+pub mod Painting
