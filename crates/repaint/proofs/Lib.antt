@@ -4,3 +4,4 @@ pub mod Leading
 pub mod Cases
 pub mod Stretching
 pub mod Painting
+pub mod Longest

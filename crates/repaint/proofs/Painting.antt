@@ -53,6 +53,7 @@ use Rattle.rules.proofs.Lengths.{length-applied}
 use Rattle.rules.proofs.Marks.{hit, around-here, length-guards, length-others, guard-at, open-at}
 use Rattle.repaint.specs.Bytes.{powerOnAt, Leads, end, byte, AcceptsBytes}
 use Rattle.repaint.specs.Proposal.{Stretch, stretch, endsRow, lengthened, differing, shownAs, attributeCode, cellBytes, cellsBytes, lastShown, startBytes, stretchBytes, stretchesBytes, isText, allText, served, stretches, paintBytes}
+use Rattle.repaint.specs.Theorems.{Served}
 use Rattle.repaint.proofs.Leading.{on-good}
 
 -- ---- bytes that lead from a page and a state to others
@@ -391,13 +392,6 @@ remembers-normal : (m : Personality) → rememberedOk m 0 ≡ true
 unfolding rememberedOk
 remembers-normal Personality.Wy50 = refl
 remembers-normal Personality.Wy60 = refl
-
-pub record Served (m : Personality) (a b : List ℕ) : Type 0 where
-  pub from : length a ≡ 1920
-  pub to : length b ≡ 1920
-  pub shown : allText m a ≡ true
-  pub wanted : allText m b ≡ true
-  pub last : getD a 1919 0 ≡ getD b 1919 0
 
 pub served-parts : (m : Personality) (a b : List ℕ) → served m a b ≡ true → Served m a b
 unfolding served

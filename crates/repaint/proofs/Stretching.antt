@@ -77,13 +77,13 @@ module _ (a b : List ℕ) (size : length a ≡ 1920) where
       (λ e. run-lengthened at y t h r)
 
   module _ (alike : length a ≡ length b) where
-    cell-differing : (at : ℕ) → at < 1920 → differing at (drop at a) (drop at b)
+    pub cell-differing : (at : ℕ) → at < 1920 → differing at (drop at a) (drop at b)
         ≡ pick (eqb (getD a at 0) (getD b at 0)) (differing (suc at) (drop (suc at) a) (drop (suc at) b))
         (lengthened at (getD b at 0) (differing (suc at) (drop (suc at) a) (drop (suc at) b)))
     unfolding differing
     cell-differing at h = rw (drop-cons a at 0 (omega (arith, size)), drop-cons b at 0 (omega (arith, size, alike)))
 
-    none-differing : (at : ℕ) → 1920 ≤ at → differing at (drop at a) (drop at b) ≡ []
+    pub none-differing : (at : ℕ) → 1920 ≤ at → differing at (drop at a) (drop at b) ≡ []
     unfolding differing
     none-differing at h = rw (drop-of-length-le a {i = at} (omega (arith, size)))
 
@@ -120,7 +120,7 @@ bytes-apart a at v t =
     omega (arith, length-append (c ++ []) r, length-append {A = ℕ} c [])
 
 -- the bytes that the cells from a place on can want: 4 for each, 4 more for each row, and 4 less in all, for the last cell is equal
-abbrev limit : ℕ → ℕ
+abbrev pub limit : ℕ → ℕ
 limit at = 324 * (23 - at / 80) + 4 * (80 - at % 80)
 
 limit-next : (at : ℕ) → suc at < 1920 → limit (suc at) + 4 ≤ limit at
@@ -149,15 +149,15 @@ limit-some : (at : ℕ) → suc at < 1920 → 8 ≤ limit at
 limit-some at h = omega arith
 
 -- a stretch begins at the cell
-unfoldable begins : ℕ → List Stretch → Bool
+unfoldable pub begins : ℕ → List Stretch → Bool
 begins at [] = false
 begins at (s ∷ l) = eqb (s .start) at
 
-record Few (at : ℕ) (t : List Stretch) : Type 0 where
-  all : 2 * length t ≤ 1920 - at + (1920 - at) % 2
-  later : begins at t ≡ false → 2 * length t ≤ 1920 - suc at + (1920 - suc at) % 2
-  bytes : (a : ℕ) → length (stretchesBytes a t) ≤ limit at
-  less : begins at t ≡ false → (a : ℕ) → length (stretchesBytes a t) + 4 ≤ limit at
+pub record Few (at : ℕ) (t : List Stretch) : Type 0 where
+  pub all : 2 * length t ≤ 1920 - at + (1920 - at) % 2
+  pub later : begins at t ≡ false → 2 * length t ≤ 1920 - suc at + (1920 - suc at) % 2
+  pub bytes : (a : ℕ) → length (stretchesBytes a t) ≤ limit at
+  pub less : begins at t ≡ false → (a : ℕ) → length (stretchesBytes a t) + 4 ≤ limit at
 
 few-none : (at : ℕ) → at < 1920 → Few at []
 unfolding stretchesBytes
@@ -208,7 +208,7 @@ few-lengthened at v (s ∷ l) h f =
     pick-if (Few at) (both (eqb (s .start) (suc at)) (not (endsRow at))) (λ e. few-joined at v s l h f) (λ e. few-apart at v s l h e f)
 
 -- a list of cells that ends before the page does
-few : (at : ℕ) (a b : List ℕ) → at + length a < 1920 → Few at (differing at a b)
+pub few : (at : ℕ) (a b : List ℕ) → at + length a < 1920 → Few at (differing at a b)
 unfolding differing
 few at [] b h = few-none at (omega arith)
 few at (x ∷ a) [] h = few-none at (omega arith)

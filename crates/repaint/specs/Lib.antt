@@ -2,4 +2,5 @@ pub mod Spans
 pub mod Pass
 pub mod Bytes
 pub mod Proposal
+pub mod Theorems
 pub mod Cases
