@@ -5,3 +5,4 @@ pub mod Cases
 pub mod Stretching
 pub mod Painting
 pub mod Longest
+pub mod Proposing

@@ -98,7 +98,7 @@ abbrev stateAt : List ℕ → Setup → Personality → ℕ → ℕ → Pending 
 stateAt g u m a i q = record { core = coreAt m a i q; sending = Sending.Nothing; gathered = g; setup = u }
 
 -- an open cell: settling stays there; with protect mode off each is
-settled-open : (g : List Bool) (first to i : ℕ) → i < to → to ≤ length g → getD g i false ≡ false → settled g first to i ≡ i
+pub settled-open : (g : List Bool) (first to i : ℕ) → i < to → to ≤ length g → getD g i false ≡ false → settled g first to i ≡ i
 settled-open g first to i h k e =
     let t : getD (others g) i false ≡ true = open-at g i (omega arith) ∙ ap not e in
     sym (around-here (others g) first to i (sym (hit (others g) i to h (omega (arith, length-others g)) refl t)) h)
