@@ -6,3 +6,4 @@ pub mod Stretching
 pub mod Painting
 pub mod Longest
 pub mod Proposing
+pub mod Forwards

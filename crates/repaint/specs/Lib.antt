@@ -4,3 +4,4 @@ pub mod Bytes
 pub mod Proposal
 pub mod Theorems
 pub mod Cases
+pub mod Forward

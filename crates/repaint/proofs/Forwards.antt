@@ -1,0 +1,213 @@
+-- The forward reading of the stretches: an equal cell is passed, and a stretch is one.
+--     turn                       one stretch or none, and those from beyond it
+--     reach-none, reach-stop, reach-turn, reach-go     a turn of the loop that looks for a stretch's end
+--     put-none, put-then, put-one, put-done            numbers put one after the other
+-- Assumes nothing.
+use mathlib.Core.Path.{_≡_, refl, sym, ap, ap₂, _∙_}
+use mathlib.Core.Bool.{Bool, true, false, not}
+use mathlib.Core.List.{List, [], _∷_, _++_}
+use mathlib.Core.Logic.{_⊎_, inl, inr}
+use Prim.Native.Nat.{ℕ, suc, _+_, _-_, _%_, _<_, _≤_}
+use native.Mathlib.Numerals.{add-one}
+use native.Mathlib.Omega.{arith}
+use lib.Dec.{eqb, leb, ltb}
+use lib.ListN.{length, getD, take, drop, set, drop-of-length-le, length-append}
+use lib.Seq.{drop-cons, drop-drop, sets}
+use borrow.Author.Tests.{eqb-true, eq-eqb, ne-eqb}
+use Rattle.rules.specs.declared.Personality.{Personality}
+use Rattle.rules.specs.Cell.{pick, both}
+use Rattle.rules.proofs.Tests.{pick-if, either-way}
+use Rattle.repaint.specs.Proposal.{Stretch, stretch, endsRow, lengthened, differing, isText, allText, served}
+use Rattle.repaint.specs.Forward.{reach, stretchesFrom, oneOf, beyond, Put}
+
+spans-equal : (at x y : ℕ) (a b : List ℕ) → eqb x y ≡ true → differing at (x ∷ a) (y ∷ b) ≡ differing (suc at) a b
+unfolding differing
+spans-equal at x y a b e = rw e
+
+-- stretches from a later cell on: the differing cell stays alone
+first-later : (at v k : ℕ) (a b : List ℕ) → suc at < k → lengthened at v (differing k a b) ≡ stretch at (v ∷ []) ∷ differing k a b
+unfolding differing
+first-later at v k [] b h = unfold lengthened in refl
+first-later at v k (x ∷ a) [] h = unfold lengthened in refl
+first-later at v k (x ∷ a) (y ∷ b) h =
+    pick-if (λ (t : List Stretch). lengthened at v t ≡ stretch at (v ∷ []) ∷ t) (eqb x y) (λ e. first-later at v (suc k) a b (omega arith))
+    (λ e. apart at v k y (differing (suc k) a b) h)
+  where
+    alone : (at v k : ℕ) (c : List ℕ) (l : List Stretch) → suc at < k → lengthened at v (stretch k c ∷ l) ≡ stretch at (v ∷ []) ∷ (stretch k c ∷ l)
+    alone at v k c l h = unfold lengthened in rw (ne-eqb k (suc at) (λ z. omega arith))
+
+    apart : (at v k y : ℕ) (t : List Stretch) → suc at < k → lengthened at v (lengthened k y t) ≡ stretch at (v ∷ []) ∷ lengthened k y t
+    apart at v k y [] h = unfold lengthened in alone at v k (y ∷ []) [] h
+    apart at v k y (s ∷ l) h =
+        unfold lengthened in pick-if (λ (t : List Stretch). lengthened at v t ≡ stretch at (v ∷ []) ∷ t)
+        (both (eqb (s .start) (suc k)) (not (endsRow k))) (λ e. alone at v k (y ∷ s .cells) l h) (λ e. alone at v k (y ∷ []) (s ∷ l) h)
+
+-- at its row's end too
+row-alone : (at v : ℕ) (t : List Stretch) → endsRow at ≡ true → lengthened at v t ≡ stretch at (v ∷ []) ∷ t
+unfolding lengthened
+row-alone at v [] e = refl
+row-alone at v (s ∷ l) e = rw e (by (eqb (s .start) (suc at)))
+  where
+    by : (t : Bool) → pick (both t false) (stretch at (v ∷ s .cells) ∷ l) (stretch at (v ∷ []) ∷ (s ∷ l)) ≡ stretch at (v ∷ []) ∷ (s ∷ l)
+    by true = refl
+    by false = refl
+
+-- before the stretch that begins at the next cell of its row
+joins : (at v : ℕ) (c : List ℕ) (l : List Stretch) → endsRow at ≡ false → lengthened at v (stretch (suc at) c ∷ l) ≡ stretch at (v ∷ c) ∷ l
+unfolding lengthened
+joins at v c l e = rw (e, eq-eqb (suc at) (suc at) refl)
+
+-- what follows a differing cell at `at`: m cells of its stretch
+abbrev Follows : (at v m : ℕ) (a b : List ℕ) → Type 0
+Follows at v m a b = lengthened at v (differing (suc at) a b) ≡ stretch at (v ∷ take m b) ∷ differing (suc at + m) (drop m a) (drop m b)
+
+none-follow : (at v : ℕ) (a b : List ℕ) → lengthened at v (differing (suc at) a b) ≡ stretch at (v ∷ []) ∷ differing (suc at) a b → Follows at v 0 a b
+none-follow at v a b e = let k : suc at + 0 ≡ suc at = omega arith in rw k e
+
+more-follow : (at v x y m : ℕ) (a b : List ℕ) → endsRow at ≡ false → eqb x y ≡ false → Follows (suc at) y m a b → Follows at v (suc m) (x ∷ a) (y ∷ b)
+unfolding differing
+more-follow at v x y m a b t e f =
+    let k : suc at + suc m ≡ suc (suc at) + m = omega arith in
+    rw (e, f, k) (joins at v (y ∷ take m b) _ t)
+
+follow : (at v : ℕ) (a b : List ℕ) → Follows at v (pick (endsRow at) 0 (reach (suc at) a b)) a b
+unfolding reach
+follow at v [] b =
+    pick-if (λ (m : ℕ). Follows at v m [] b) (endsRow at) (λ t. none-follow at v [] b (row-alone at v _ t)) (λ t. none-follow at v [] b (unfold lengthened differing in refl))
+follow at v (x ∷ a) [] =
+    pick-if (λ (m : ℕ). Follows at v m (x ∷ a) []) (endsRow at) (λ t. none-follow at v (x ∷ a) [] (row-alone at v _ t))
+    (λ t. none-follow at v (x ∷ a) [] (unfold lengthened differing in refl))
+follow at v (x ∷ a) (y ∷ b) =
+    let i = follow (suc at) y a b in
+    pick-if (λ (m : ℕ). Follows at v m (x ∷ a) (y ∷ b)) (endsRow at) (λ t. none-follow at v (x ∷ a) (y ∷ b) (row-alone at v _ t))
+    (λ t. pick-if (λ (m : ℕ). Follows at v m (x ∷ a) (y ∷ b)) (eqb x y)
+    (λ e. none-follow at v (x ∷ a) (y ∷ b) (rw (spans-equal (suc at) x y a b e) (first-later at v (suc (suc at)) a b (omega arith))))
+    (λ e. more-follow at v x y (pick (endsRow (suc at)) 0 (reach (suc (suc at)) a b)) a b t e i))
+
+-- a differing cell: its stretch, and those behind it
+spans-stretch : (at x y n : ℕ) (a b : List ℕ) → eqb x y ≡ false → n ≡ reach at (x ∷ a) (y ∷ b)
+    → differing at (x ∷ a) (y ∷ b) ≡ stretch at (take n (y ∷ b)) ∷ differing (at + n) (drop n (x ∷ a)) (drop n (y ∷ b))
+unfolding differing reach
+spans-stretch at x y n a b e f =
+    let m = pick (endsRow at) 0 (reach (suc at) a b) in
+    let g : n ≡ suc m = f ∙ rw e in
+    let k : at + suc m ≡ suc at + m = omega arith in
+    rw (g, e, k) (follow at y a b)
+
+stretched : (at x y : ℕ) (a b : List ℕ) {n : ℕ} → eqb x y ≡ false → n ≡ reach at (x ∷ a) (y ∷ b) → 0 < n
+unfolding reach
+stretched at x y a b e f = rw (f, e) (omega arith)
+
+-- ---- the loop that looks for the stretch's end
+
+module _ (a b : List ℕ) (i : ℕ) (size : length a ≡ length b) where
+  pub reach-none : length a ≤ i → reach i (drop i a) (drop i b) ≡ 0
+  unfolding reach
+  reach-none h = ap₂ (reach i) (drop-of-length-le a h) (drop-of-length-le b {i = i} (omega arith))
+
+  module _ (h : i < length a) where
+    opened : reach i (drop i a) (drop i b)
+        ≡ pick (eqb (getD a i 0) (getD b i 0)) 0 (suc (pick (eqb ((i + 1) % 80) 0) 0 (reach (i + 1) (drop (i + 1) a) (drop (i + 1) b))))
+    unfolding reach
+    opened = rw (add-one i, drop-cons a i 0 h, drop-cons b i 0 (omega arith))
+
+    pub reach-stop : getD a i 0 ≡ getD b i 0 → reach i (drop i a) (drop i b) ≡ 0
+    reach-stop e = opened ∙ rw (eq-eqb (getD a i 0) (getD b i 0) e)
+
+    pub reach-turn : (getD a i 0 ≡ getD b i 0 → ⊥) → (i + 1) % 80 ≡ 0 → reach i (drop i a) (drop i b) ≡ 1
+    reach-turn n e = opened ∙ rw (ne-eqb (getD a i 0) (getD b i 0) n, eq-eqb ((i + 1) % 80) 0 e)
+
+    pub reach-go : (getD a i 0 ≡ getD b i 0 → ⊥) → ((i + 1) % 80 ≡ 0 → ⊥)
+        → reach i (drop i a) (drop i b) ≡ suc (reach (i + 1) (drop (i + 1) a) (drop (i + 1) b))
+    reach-go n e = opened ∙ rw (ne-eqb (getD a i 0) (getD b i 0) n, ne-eqb ((i + 1) % 80) 0 e)
+
+-- ---- one stretch or none, and those from beyond it
+
+one-some : (at k : ℕ) (b : List ℕ) → 0 < k → oneOf at k b ≡ stretch at (take k (drop at b)) ∷ []
+unfolding oneOf
+one-some at k b h = rw (ne-eqb k 0 (λ e. omega arith))
+
+one-none : (at k : ℕ) (b : List ℕ) → k ≡ 0 → oneOf at k b ≡ []
+unfolding oneOf
+one-none at k b e = rw (eq-eqb k 0 e)
+
+pub turn : (a b : List ℕ) (at k : ℕ) → length a ≡ length b → at < length a → k ≡ reach at (drop at a) (drop at b)
+    → stretchesFrom a b at ≡ oneOf at k b ++ stretchesFrom a b (beyond at k)
+turn a b at k size h e = by (either-way (eqb (getD a at 0) (getD b at 0)))
+  where
+    by : (eqb (getD a at 0) (getD b at 0) ≡ true) ⊎ (eqb (getD a at 0) (getD b at 0) ≡ false)
+        → stretchesFrom a b at ≡ oneOf at k b ++ stretchesFrom a b (beyond at k)
+    by (inl z) =
+        let s : k ≡ 0 = e ∙ reach-stop a b at size h (eqb-true _ _ z) in
+        let d : differing at (drop at a) (drop at b) ≡ differing (at + 1) (drop (at + 1) a) (drop (at + 1) b) =
+        rw (add-one at, drop-cons a at 0 h, drop-cons b at 0 (omega arith)) (spans-equal at (getD a at 0) (getD b at 0) _ _ z) in
+        rw (one-none at k b s, eq-eqb k 0 s) d
+    by (inr z) =
+        let x = getD a at 0 in
+        let y = getD b at 0 in
+        let p = drop-cons a at 0 h in
+        let q = drop-cons b at 0 (omega arith) in
+        let g : k ≡ reach at (x ∷ drop (suc at) a) (y ∷ drop (suc at) b) = e ∙ ap₂ (reach at) p q in
+        let some : 0 < k = stretched at x y _ _ z g in
+        let d = spans-stretch at x y k (drop (suc at) a) (drop (suc at) b) z g in
+        let f : differing at (drop at a) (drop at b) ≡ stretch at (take k (drop at b)) ∷ differing (at + k) (drop k (drop at a)) (drop k (drop at b)) =
+        rw (p, q) d in
+        rw (one-some at k b some, ne-eqb k 0 (λ w. omega (arith, some, w))) (f ∙ rw (drop-drop k at a, drop-drop k at b))
+
+-- ---- numbers put one after the other
+
+sets-append : (r s : List ℕ) (n : ℕ) (w : List ℕ) → sets w n (r ++ s) ≡ sets (sets w n r) (n + length r) s
+sets-append [] s n w = let e : n + 0 ≡ n = omega arith in rw e
+sets-append (x ∷ r) s n w = let e : n + suc (length r) ≡ suc n + length r = omega arith in sets-append r s (suc n) (set w n x) ∙ rw e
+
+pub put-none : (n : ℕ) (w : List ℕ) → Put n [] w n w
+put-none n w = record { place = omega arith; room = refl }
+
+pub put-then : {n r s : ℕ} {a b w v z : List ℕ} → Put n a w r v → Put r b v s z → Put n (a ++ b) w s z
+put-then {n} {r} {s} {a} {b} {w} {v} {z} x y =
+    record { place = omega (arith, x .place, y .place, length-append a b); room = y .room ∙ rw (x .place, x .room) (sym (sets-append a b n w)) }
+
+pub put-one : (l : List ℕ) (i n m : ℕ) (w : List ℕ) → i < length l → m ≡ n + 1 → sets (set w n (getD l i 0)) m (drop (i + 1) l) ≡ sets w n (drop i l)
+put-one l i n m w h e = rw (e, add-one n, add-one i, drop-cons l i 0 h)
+
+pub put-done : {v : List ℕ} (l : List ℕ) (i n : ℕ) (w : List ℕ) → length l ≤ i → sets w n (drop i l) ≡ v → w ≡ v
+put-done l i n w h e = sym (ap (λ (t : List ℕ). sets w n t) (drop-of-length-le l h)) ∙ e
+
+-- ---- which pages are served
+
+text-next : (m : Personality) (p : List ℕ) (i : ℕ) → i < length p → allText m (drop i p) ≡ both (isText m (getD p i 0)) (allText m (drop (i + 1) p))
+unfolding allText
+text-next m p i h = rw (add-one i, drop-cons p i 0 h)
+
+pub text-stops : (m : Personality) (p : List ℕ) (i : ℕ) → i < length p → isText m (getD p i 0) ≡ false → allText m (drop i p) ≡ false
+text-stops m p i h e = text-next m p i h ∙ rw e
+
+pub text-goes : (m : Personality) (p : List ℕ) (i : ℕ) → i < length p → isText m (getD p i 0) ≡ true → allText m (drop (i + 1) p) ≡ allText m (drop i p)
+text-goes m p i h e = sym (text-next m p i h ∙ rw e)
+
+pub text-ends : (m : Personality) (p : List ℕ) (i : ℕ) → length p ≤ i → allText m (drop i p) ≡ true
+unfolding allText
+text-ends m p i h = rw (drop-of-length-le p {i = i} h)
+
+module _ (m : Personality) (a b : List ℕ) where
+  pub served-from : (length a ≡ 1920 → ⊥) → false ≡ served m a b
+  unfolding served
+  served-from n = rw (ne-eqb (length a) 1920 n)
+
+  module _ (ea : length a ≡ 1920) where
+    pub served-to : (length b ≡ 1920 → ⊥) → false ≡ served m a b
+    unfolding served
+    served-to n = rw (eq-eqb (length a) 1920 ea, ne-eqb (length b) 1920 n)
+
+    module _ (eb : length b ≡ 1920) where
+      pub served-shown : allText m a ≡ false → false ≡ served m a b
+      unfolding served
+      served-shown e = rw (eq-eqb (length a) 1920 ea, eq-eqb (length b) 1920 eb, e)
+
+      pub served-wanted : allText m a ≡ true → allText m b ≡ false → false ≡ served m a b
+      unfolding served
+      served-wanted e f = rw (eq-eqb (length a) 1920 ea, eq-eqb (length b) 1920 eb, e, f)
+
+      pub served-last : allText m a ≡ true → allText m b ≡ true → eqb (getD a 1919 0) (getD b 1919 0) ≡ served m a b
+      unfolding served
+      served-last e f = rw (eq-eqb (length a) 1920 ea, eq-eqb (length b) 1920 eb, e, f)
