@@ -3,21 +3,22 @@
 --     reach-none, reach-stop, reach-turn, reach-go     a turn of the loop that looks for a stretch's end
 --     put-none, put-then, put-one, put-done            numbers put one after the other
 -- Assumes nothing.
-use mathlib.Core.Path.{_≡_, refl, sym, ap, ap₂, _∙_}
+use mathlib.Core.Path.{_≡_, refl, sym, ap, ap₂, subst, _∙_}
 use mathlib.Core.Bool.{Bool, true, false, not}
 use mathlib.Core.List.{List, [], _∷_, _++_}
 use mathlib.Core.Logic.{_⊎_, inl, inr}
-use Prim.Native.Nat.{ℕ, suc, _+_, _-_, _%_, _<_, _≤_}
+use Prim.Native.Nat.{ℕ, suc, _+_, _-_, _/_, _%_, _<_, _≤_}
 use native.Mathlib.Numerals.{add-one}
 use native.Mathlib.Omega.{arith}
 use lib.Dec.{eqb, leb, ltb}
 use lib.ListN.{length, getD, take, drop, set, drop-of-length-le, length-append}
 use lib.Seq.{drop-cons, drop-drop, sets}
-use borrow.Author.Tests.{eqb-true, eq-eqb, ne-eqb}
+use borrow.Author.Tests.{eqb-true, eq-eqb, ne-eqb, lt-ltb, le-ltb}
 use Rattle.rules.specs.declared.Personality.{Personality}
-use Rattle.rules.specs.Cell.{pick, both}
+use Rattle.rules.specs.Cell.{pick, both, code}
+use Rattle.rules.specs.Possible.{rememberedOk}
 use Rattle.rules.proofs.Tests.{pick-if, either-way}
-use Rattle.repaint.specs.Proposal.{Stretch, stretch, endsRow, lengthened, differing, isText, allText, served}
+use Rattle.repaint.specs.Proposal.{Stretch, stretch, endsRow, lengthened, differing, attributeCode, cellBytes, isText, allText, served}
 use Rattle.repaint.specs.Forward.{reach, stretchesFrom, oneOf, beyond, Put}
 
 spans-equal : (at x y : ℕ) (a b : List ℕ) → eqb x y ≡ true → differing at (x ∷ a) (y ∷ b) ≡ differing (suc at) a b
@@ -211,3 +212,35 @@ module _ (m : Personality) (a b : List ℕ) where
       pub served-last : allText m a ≡ true → allText m b ≡ true → eqb (getD a 1919 0) (getD b 1919 0) ≡ served m a b
       unfolding served
       served-last e f = rw (eq-eqb (length a) 1920 ea, eq-eqb (length b) 1920 eb, e, f)
+
+-- ---- a cell's bytes
+
+pub text-made : (m : Personality) (v : ℕ) {r x y : Bool} → r ≡ both x y → x ≡ rememberedOk m (v / 1024) → y ≡ both (leb 0x20 (v % 1024)) (ltb (v % 1024) 0x7f)
+    → r ≡ isText m v
+unfolding isText
+text-made m v e f g = e ∙ ap₂ both f g
+
+pub code-low : (a : ℕ) → a < 16 → 0x30 + a ≡ attributeCode a
+unfolding attributeCode
+code-low a h = rw (lt-ltb a 16 h)
+
+pub code-high : (a : ℕ) → 16 ≤ a → 0x60 + a ≡ attributeCode a
+unfolding attributeCode
+code-high a h = rw (le-ltb a 16 h) (omega arith)
+
+module _ (a v : ℕ) where
+  pub cell-same : v / 1024 ≡ a → cellBytes a v ≡ code v ∷ []
+  unfolding cellBytes
+  cell-same e = rw (eq-eqb (v / 1024) a e)
+
+  pub cell-other : (v / 1024 ≡ a → ⊥) → cellBytes a v ≡ 0x1b ∷ 0x47 ∷ attributeCode (v / 1024) ∷ code v ∷ []
+  unfolding cellBytes
+  cell-other n = rw (ne-eqb (v / 1024) a n)
+
+  module _ {n r : ℕ} {w w′ : List ℕ} where
+    pub put-same : v / 1024 ≡ a → Put n (v % 128 ∷ []) w r w′ → Put n (cellBytes a v) w r w′
+    put-same e p = subst (λ (l : List ℕ). Put n l w r w′) (sym (cell-same e)) p
+
+    pub put-other : {x : ℕ} → (v / 1024 ≡ a → ⊥) → x ≡ attributeCode (v / 1024) → Put n (0x1b ∷ 0x47 ∷ x ∷ v % 128 ∷ []) w r w′ → Put n (cellBytes a v) w r w′
+    put-other e f p =
+        subst (λ (l : List ℕ). Put n l w r w′) (sym (cell-other e)) (subst (λ (y : ℕ). Put n (0x1b ∷ 0x47 ∷ y ∷ v % 128 ∷ []) w r w′) f p)

@@ -1,5 +1,6 @@
 // Repainting a distant display: spans and bytes that bring it from the page that it shows to the page that it should show, and judges of both.
 mod feeding; // the judge of bytes
+mod painter; // our own proposer
 
 ghost use mathlib.Core.Path.{_≡_};
 ghost use Prim.Native.Nat.{_+_, _<_, _≤_};

@@ -1,0 +1,127 @@
+// Our own proposer: the longest stretches of differing cells, and the bytes that paint them.
+ghost use mathlib.Core.Path.{_≡_};
+ghost use mathlib.Core.Bool.{true};
+ghost use Prim.Native.Nat.{_+_, _-_, _<_, _≤_};
+ghost use lib.Dec.{leb, ltb};
+ghost use lib.ListN.{length, take, drop};
+ghost use Rattle.rules.specs.Cell.{both};
+ghost use Rattle.rules.specs.Possible.{rememberedOk};
+ghost use Rattle.repaint.specs.Proposal.{attributeCode, cellBytes, cellsBytes, stretchesBytes, isText, allText, served};
+ghost use Rattle.repaint.specs.Forward.{reach, oneOf, beyond, shownAfter, Put, SpansPut};
+use rules::Personality;
+use state::logic::and;
+
+// An attribute that the personality remembers.
+fn is_remembered(personality: Personality, attribute: u16) -> bool
+    ensures { λ r. ⌜ r ≡ rememberedOk personality attribute ⌝ }
+{
+    match personality {
+        Personality::Wy50 => attribute == 0,
+        Personality::Wy60 => attribute < 31,
+    }
+}
+
+// Unprotected text of code 20h to 7Eh, written by the personality.
+fn is_text(personality: Personality, v: u16) -> bool
+    ensures { λ r. ⌜ r ≡ isText personality v ⌝ }
+{
+    let c = v % 1024;
+    let remembered = is_remembered(personality, v / 1024);
+    and(remembered, and(0x20 <= c, c < 0x7f))
+}
+
+fn is_all_text(personality: Personality, page: &[u16]) -> bool
+    requires { ⌜ length (now page) ≤ 3168 ⌝ }
+    ensures { λ r. ⌜ r ≡ allText personality (now (page .entry)) ⌝ }
+{
+    let mut i = 0;
+    while i < page.len() {
+        if !is_text(personality, page[i]) {
+            return false;
+        }
+        i += 1;
+    }
+    true
+}
+
+// Two pages that the proposer serves.
+fn is_served(personality: Personality, before: &[u16], after: &[u16]) -> bool
+    ensures { λ r. ⌜ r ≡ served personality (now (before .entry)) (now (after .entry)) ⌝ }
+{
+    if before.len() != 1920 {
+        return false;
+    }
+    if after.len() != 1920 {
+        return false;
+    }
+    if !is_all_text(personality, before) {
+        return false;
+    }
+    if !is_all_text(personality, after) {
+        return false;
+    }
+    before[1919] == after[1919]
+}
+
+// The end of the stretch of differing cells that begins at a cell.
+fn stretch_end(before: &[u16], after: &[u16], at: usize) -> usize
+    requires { ⌜ (length (now before) ≡ 1920) × ((length (now after) ≡ 1920) × (at ≤ 1920)) ⌝ }
+    ensures { λ r. ⌜ r ≡ at + reach at (drop at (now (before .entry))) (drop at (now (after .entry))) ⌝ }
+{
+    let mut i = at;
+    while i < 1920 {
+        if before[i] == after[i] {
+            return i;
+        }
+        i += 1;
+        if i % 80 == 0 {
+            return i;
+        }
+    }
+    i
+}
+
+// Where to look on behind a stretch.
+fn past(at: usize, end: usize) -> usize
+    requires { ⌜ (at ≤ end) × (end ≤ 1920) ⌝ }
+    ensures { λ r. ⌜ r ≡ beyond at (end - at) ⌝ }
+{
+    if at < end { end } else { at + 1 }
+}
+
+// Bytes from the place `start` on; the place behind them.
+fn put(out: &mut [u8], start: usize, bytes: &[u8]) -> usize
+    requires { ⌜ start + length (now bytes) ≤ length (now out) ⌝ }
+    ensures { λ r. ⌜ Put start (now (bytes .entry)) (now (out .entry)) r (now (out .exit)) ⌝ }
+{
+    let mut i = 0;
+    while i < bytes.len() {
+        out[start + i] = bytes[i];
+        i += 1;
+    }
+    start + i
+}
+
+// The code of an attribute for ESC G.
+fn attribute_code(attribute: u16) -> u8
+    requires { ⌜ attribute < 64 ⌝ }
+    ensures { λ r. ⌜ r ≡ attributeCode attribute ⌝ }
+{
+    if attribute < 16 {
+        return 0x30 + attribute as u8;
+    }
+    0x60 + attribute as u8
+}
+
+// A cell's byte, with ESC G before it where its attribute is not the remembered one.
+fn put_cell(out: &mut [u8], n: usize, remembered: u16, v: u16) -> usize
+    requires { ⌜ n + length (cellBytes remembered v) ≤ length (now out) ⌝ }
+    ensures { λ r. ⌜ Put n (cellBytes remembered v) (now (out .entry)) r (now (out .exit)) ⌝ }
+{
+    let code = (v % 128) as u8;
+    let attribute = v / 1024;
+    if attribute == remembered {
+        return put(out, n, &[code]);
+    }
+    put(out, n, &[0x1b, b'G', attribute_code(attribute), code])
+}
