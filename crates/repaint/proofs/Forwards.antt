@@ -11,15 +11,15 @@ use Prim.Native.Nat.{ℕ, suc, _+_, _-_, _/_, _%_, _<_, _≤_}
 use native.Mathlib.Numerals.{add-one}
 use native.Mathlib.Omega.{arith}
 use lib.Dec.{eqb, leb, ltb}
-use lib.ListN.{length, getD, take, drop, set, drop-of-length-le, length-append}
+use lib.ListN.{length, getD, take, drop, set, drop-of-length-le, length-append, length-take, length-drop}
 use lib.Seq.{drop-cons, drop-drop, sets}
 use borrow.Author.Tests.{eqb-true, eq-eqb, ne-eqb, lt-ltb, le-ltb}
 use Rattle.rules.specs.declared.Personality.{Personality}
 use Rattle.rules.specs.Cell.{pick, both, code}
 use Rattle.rules.specs.Possible.{rememberedOk}
 use Rattle.rules.proofs.Tests.{pick-if, either-way}
-use Rattle.repaint.specs.Proposal.{Stretch, stretch, endsRow, lengthened, differing, attributeCode, cellBytes, isText, allText, served}
-use Rattle.repaint.specs.Forward.{reach, stretchesFrom, oneOf, beyond, Put}
+use Rattle.repaint.specs.Proposal.{Stretch, stretch, endsRow, lengthened, differing, attributeCode, cellBytes, cellsBytes, lastShown, rowsOf, columnsOf, lengthsOf, isText, allText, served}
+use Rattle.repaint.specs.Forward.{reach, stretchesFrom, oneOf, beyond, Put, SpansPut}
 
 spans-equal : (at x y : ℕ) (a b : List ℕ) → eqb x y ≡ true → differing at (x ∷ a) (y ∷ b) ≡ differing (suc at) a b
 unfolding differing
@@ -244,3 +244,75 @@ module _ (a v : ℕ) where
     pub put-other : {x : ℕ} → (v / 1024 ≡ a → ⊥) → x ≡ attributeCode (v / 1024) → Put n (0x1b ∷ 0x47 ∷ x ∷ v % 128 ∷ []) w r w′ → Put n (cellBytes a v) w r w′
     put-other e f p =
         subst (λ (l : List ℕ). Put n l w r w′) (sym (cell-other e)) (subst (λ (y : ℕ). Put n (0x1b ∷ 0x47 ∷ y ∷ v % 128 ∷ []) w r w′) f p)
+
+-- ---- cells put one after the other: what is to come makes of the slice what all make of the first
+
+pub record Cells (part w₀ : List ℕ) (start first : ℕ) (i n a : ℕ) (w : List ℕ) : Type 0 where
+  pub range : i ≤ length part
+  pub long : length w ≡ length w₀
+  pub count : n + length (cellsBytes a (drop i part)) ≡ start + length (cellsBytes first part)
+  pub is : sets w n (cellsBytes a (drop i part)) ≡ sets w₀ start (cellsBytes first part)
+  pub shown : lastShown a (drop i part) ≡ lastShown first part
+
+pub cells-begin : (part w : List ℕ) (start a : ℕ) → Cells part w start a 0 start a w
+cells-begin part w start a = record { range = omega arith; long = refl; count = refl; is = refl; shown = refl }
+
+module _ {part w₀ : List ℕ} {start first i n a : ℕ} {w : List ℕ} (c : Cells part w₀ start first i n a w) where
+  module _ (h : i < length part) where
+    abbrev v : ℕ
+    v = getD part i 0
+
+    cells-next : cellsBytes a (drop i part) ≡ cellBytes a v ++ cellsBytes (v / 1024) (drop (i + 1) part)
+    unfolding cellsBytes
+    cells-next = rw (add-one i, drop-cons part i 0 h)
+
+    shown-next : lastShown a (drop i part) ≡ lastShown (v / 1024) (drop (i + 1) part)
+    unfolding lastShown
+    shown-next = rw (add-one i, drop-cons part i 0 h)
+
+    pub cells-fit : start + length (cellsBytes first part) ≤ length w₀ → n + length (cellBytes a v) ≤ length w
+    cells-fit k =
+        omega (arith, c .count, c .long, ap length cells-next, length-append (cellBytes a v) (cellsBytes (v / 1024) (drop (i + 1) part)), k)
+
+    pub cells-go : {r : ℕ} {w′ : List ℕ} → Put n (cellBytes a v) w r w′ → length w′ ≡ length w → Cells part w₀ start first (i + 1) r (v / 1024) w′
+    cells-go {r} {w′} p k =
+        let x = cellBytes a v in
+        let y = cellsBytes (v / 1024) (drop (i + 1) part) in
+        record {
+          range = omega arith;
+          long = k ∙ c .long;
+          count = omega (arith, c .count, ap length cells-next, length-append x y, p .place);
+          is = rw (p .place, p .room) (sym (sets-append x y n w) ∙ (ap (λ (z : List ℕ). sets w n z) (sym cells-next) ∙ c .is));
+          shown = sym shown-next ∙ c .shown;
+        }
+
+  cells-none : length part ≤ i → cellsBytes a (drop i part) ≡ []
+  unfolding cellsBytes
+  cells-none h = rw (drop-of-length-le part {i = i} h)
+
+  shown-none : length part ≤ i → lastShown a (drop i part) ≡ a
+  unfolding lastShown
+  shown-none h = rw (drop-of-length-le part {i = i} h)
+
+  pub cells-done : length part ≤ i → Put start (cellsBytes first part) w₀ n w × (a ≡ lastShown first part)
+  cells-done h =
+      let e = cells-none h in
+      (record { place = omega (arith, c .count, ap length e); room = sym (ap (λ (z : List ℕ). sets w n z) e) ∙ c .is }, sym (shown-none h) ∙ c .shown)
+
+-- ---- the span of a stretch
+
+module _ (b : List ℕ) (at k n : ℕ) (x y z : List ℕ) where
+  pub span-none : k ≡ 0 → SpansPut n (oneOf at k b) x y z n x y z
+  span-none e =
+      subst (λ (l : List Stretch). SpansPut n l x y z n x y z) (sym (one-none at k b e)) (record { rows = put-none n x; columns = put-none n y; lengths = put-none n z })
+
+  pub span-some : (r : ℕ) → 0 < k → at + k ≤ length b → r ≡ n + 1
+      → SpansPut n (oneOf at k b) x y z r (set x n (at / 80 + 1)) (set y n (at % 80 + 1)) (set z n k)
+  span-some r h l e =
+      let t : length (take k (drop at b)) ≡ k = omega (arith, length-take k (drop at b), length-drop at b) in
+      subst (λ (s : List Stretch). SpansPut n s x y z r (set x n (at / 80 + 1)) (set y n (at % 80 + 1)) (set z n k)) (sym (one-some at k b h))
+      (record {
+        rows = record { place = e; room = refl };
+        columns = record { place = e; room = refl };
+        lengths = record { place = e; room = ap (λ (q : ℕ). set z n q) (sym t) };
+      })

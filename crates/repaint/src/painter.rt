@@ -1,12 +1,13 @@
 // Our own proposer: the longest stretches of differing cells, and the bytes that paint them.
 ghost use mathlib.Core.Path.{_≡_};
 ghost use mathlib.Core.Bool.{true};
-ghost use Prim.Native.Nat.{_+_, _-_, _<_, _≤_};
+ghost use mathlib.Core.List.{List};
+ghost use Prim.Native.Nat.{ℕ, _+_, _-_, _<_, _≤_};
 ghost use lib.Dec.{leb, ltb};
 ghost use lib.ListN.{length, take, drop};
 ghost use Rattle.rules.specs.Cell.{both};
 ghost use Rattle.rules.specs.Possible.{rememberedOk};
-ghost use Rattle.repaint.specs.Proposal.{attributeCode, cellBytes, cellsBytes, stretchesBytes, isText, allText, served};
+ghost use Rattle.repaint.specs.Proposal.{attributeCode, cellBytes, cellsBytes, lastShown, stretchesBytes, isText, allText, served};
 ghost use Rattle.repaint.specs.Forward.{reach, oneOf, beyond, shownAfter, Put, SpansPut};
 use rules::Personality;
 use state::logic::and;
@@ -124,4 +125,51 @@ fn put_cell(out: &mut [u8], n: usize, remembered: u16, v: u16) -> usize
         return put(out, n, &[code]);
     }
     put(out, n, &[0x1b, b'G', attribute_code(attribute), code])
+}
+
+// The place behind the bytes that were put, and the attribute then remembered.
+struct Painted {
+    place: usize,
+    remembered: u16,
+}
+
+// Cells, each remembering its own attribute.
+fn put_cells(out: &mut [u8], start: usize, remembered: u16, part: &[u16]) -> Painted
+    requires { ⌜ (length (now part) ≤ 1920) × (start + length (cellsBytes remembered (now part)) ≤ length (now out)) ⌝ }
+    ensures { λ r. ⌜ Put start (cellsBytes remembered (now (part .entry))) (now (out .entry)) (r .place) (now (out .exit)) × (r .remembered ≡ lastShown remembered (now (part .entry))) ⌝ }
+{
+    let mut n = start;
+    let mut a = remembered;
+    let mut i = 0;
+    while i < part.len() {
+        let v = part[i];
+        n = put_cell(out, n, a, v);
+        a = v / 1024;
+        i += 1;
+    }
+    Painted {
+        place: n,
+        remembered: a,
+    }
+}
+
+// The span of a stretch, if it has cells: the next numbers of three lists. How many there are then.
+fn put_span(
+    rows: &mut [u16],
+    columns: &mut [u16],
+    lengths: &mut [u16],
+    n: usize,
+    at: usize,
+    end: usize,
+) -> usize
+    requires { ⌜ ((at ≤ end) × (end ≤ 1920)) × ((at < end → n < length (now rows)) × ((at < end → n < length (now columns)) × ((at < end → n < length (now lengths)) × (n ≤ 1920)))) ⌝ }
+    ensures { λ r. ⌜ ((b : List ℕ) → length b ≡ 1920 → SpansPut n (oneOf at (end - at) b) (now (rows .entry)) (now (columns .entry)) (now (lengths .entry)) r (now (rows .exit)) (now (columns .exit)) (now (lengths .exit))) ⌝ }
+{
+    if at < end {
+        rows[n] = (at / 80 + 1) as u16;
+        columns[n] = (at % 80 + 1) as u16;
+        lengths[n] = (end - at) as u16;
+        return n + 1;
+    }
+    n
 }
