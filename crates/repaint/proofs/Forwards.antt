@@ -5,7 +5,7 @@
 -- Assumes nothing.
 use mathlib.Core.Path.{_≡_, refl, sym, ap, ap₂, subst, _∙_}
 use mathlib.Core.Bool.{Bool, true, false, not}
-use mathlib.Core.List.{List, [], _∷_, _++_}
+use mathlib.Core.List.{List, [], _∷_, _++_, map, append-nil, append-assoc}
 use mathlib.Core.Logic.{_⊎_, inl, inr}
 use Prim.Native.Nat.{ℕ, suc, _+_, _-_, _/_, _%_, _<_, _≤_}
 use native.Mathlib.Numerals.{add-one}
@@ -13,13 +13,13 @@ use native.Mathlib.Omega.{arith}
 use lib.Dec.{eqb, leb, ltb}
 use lib.ListN.{length, getD, take, drop, set, drop-of-length-le, length-append, length-take, length-drop}
 use lib.Seq.{drop-cons, drop-drop, sets}
-use borrow.Author.Tests.{eqb-true, eq-eqb, ne-eqb, lt-ltb, le-ltb}
+use borrow.Author.Tests.{eqb-true, eqb-false, eq-eqb, ne-eqb, lt-ltb, le-ltb}
 use Rattle.rules.specs.declared.Personality.{Personality}
 use Rattle.rules.specs.Cell.{pick, both, code}
 use Rattle.rules.specs.Possible.{rememberedOk}
 use Rattle.rules.proofs.Tests.{pick-if, either-way}
-use Rattle.repaint.specs.Proposal.{Stretch, stretch, endsRow, lengthened, differing, attributeCode, cellBytes, cellsBytes, lastShown, rowsOf, columnsOf, lengthsOf, isText, allText, served}
-use Rattle.repaint.specs.Forward.{reach, stretchesFrom, oneOf, beyond, Put, SpansPut}
+use Rattle.repaint.specs.Proposal.{Stretch, stretch, endsRow, lengthened, differing, attributeCode, cellBytes, cellsBytes, lastShown, startBytes, stretchBytes, stretchesBytes, spanOf, stretches, rowsOf, columnsOf, lengthsOf, paintBytes, isText, allText, served}
+use Rattle.repaint.specs.Forward.{reach, stretchesFrom, oneOf, beyond, shownAfter, Put, SpansPut, Holding}
 
 spans-equal : (at x y : ℕ) (a b : List ℕ) → eqb x y ≡ true → differing at (x ∷ a) (y ∷ b) ≡ differing (suc at) a b
 unfolding differing
@@ -316,3 +316,191 @@ module _ (b : List ℕ) (at k n : ℕ) (x y z : List ℕ) where
         columns = record { place = e; room = refl };
         lengths = record { place = e; room = ap (λ (q : ℕ). set z n q) (sym t) };
       })
+
+-- ---- the bytes of a stretch
+
+start-length : (at : ℕ) → length (startBytes at) ≡ 4
+unfolding startBytes
+start-length at = refl
+
+module _ (b : List ℕ) (at k a : ℕ) where
+  abbrev cells : List ℕ
+  cells = take k (drop at b)
+
+  one-bytes : 0 < k → stretchesBytes a (oneOf at k b) ≡ startBytes at ++ cellsBytes a cells
+  unfolding stretchesBytes stretchBytes
+  one-bytes h = ap (stretchesBytes a) (one-some at k b h) ∙ append-nil (startBytes at ++ cellsBytes a cells)
+
+  one-shown : 0 < k → shownAfter a (oneOf at k b) ≡ lastShown a cells
+  unfolding shownAfter
+  one-shown h = ap (shownAfter a) (one-some at k b h)
+
+  none-bytes : k ≡ 0 → stretchesBytes a (oneOf at k b) ≡ []
+  unfolding stretchesBytes
+  none-bytes e = ap (stretchesBytes a) (one-none at k b e)
+
+  none-shown : k ≡ 0 → shownAfter a (oneOf at k b) ≡ a
+  unfolding shownAfter
+  none-shown e = ap (shownAfter a) (one-none at k b e)
+
+  pub one-size : 0 < k → length (stretchesBytes a (oneOf at k b)) ≡ 4 + length (cellsBytes a cells)
+  one-size h = omega (arith, ap length (one-bytes h), length-append (startBytes at) (cellsBytes a cells), start-length at)
+
+  module _ {n r q : ℕ} {w z : List ℕ} where
+    pub stretch-some : {m : ℕ} {v : List ℕ} → 0 < k → Put n (0x1b ∷ 0x3d ∷ (0x20 + at / 80) ∷ (0x20 + at % 80) ∷ []) w m v
+        → Put m (cellsBytes a cells) v r z × (q ≡ lastShown a cells)
+        → Put n (stretchesBytes a (oneOf at k b)) w r z × (q ≡ shownAfter a (oneOf at k b))
+    unfolding startBytes
+    stretch-some h p c = (subst (λ (l : List ℕ). Put n l w r z) (sym (one-bytes h)) (put-then p (c .0)), c .1 ∙ sym (one-shown h))
+
+  pub stretch-none : (n : ℕ) (w : List ℕ) → k ≡ 0 → Put n (stretchesBytes a (oneOf at k b)) w n w × (a ≡ shownAfter a (oneOf at k b))
+  stretch-none n w e = (subst (λ (l : List ℕ). Put n l w n w) (sym (none-bytes e)) (put-none n w), sym (none-shown e))
+
+-- ---- the loop over stretches
+
+rows-append : (l m : List Stretch) → rowsOf (l ++ m) ≡ rowsOf l ++ rowsOf m
+rows-append [] m = refl
+rows-append (s ∷ l) m = rw (rows-append l m)
+
+columns-append : (l m : List Stretch) → columnsOf (l ++ m) ≡ columnsOf l ++ columnsOf m
+columns-append [] m = refl
+columns-append (s ∷ l) m = rw (columns-append l m)
+
+lengths-append : (l m : List Stretch) → lengthsOf (l ++ m) ≡ lengthsOf l ++ lengthsOf m
+lengths-append [] m = refl
+lengths-append (s ∷ l) m = rw (lengths-append l m)
+
+rows-length : (l : List Stretch) → length (rowsOf l) ≡ length l
+rows-length [] = refl
+rows-length (s ∷ l) = ap suc (rows-length l)
+
+bytes-append : (a : ℕ) (l m : List Stretch) → stretchesBytes a (l ++ m) ≡ stretchesBytes a l ++ stretchesBytes (shownAfter a l) m
+unfolding stretchesBytes shownAfter
+bytes-append a [] m = refl
+bytes-append a (s ∷ l) m =
+    ap (λ (z : List ℕ). stretchBytes a s ++ z) (bytes-append (lastShown a (s .cells)) l m)
+    ∙ sym (append-assoc (stretchBytes a s) (stretchesBytes (lastShown a (s .cells)) l) (stretchesBytes (shownAfter (lastShown a (s .cells)) l) m))
+
+shown-append : (a : ℕ) (l m : List Stretch) → shownAfter a (l ++ m) ≡ shownAfter (shownAfter a l) m
+unfolding shownAfter
+shown-append a [] m = refl
+shown-append a (s ∷ l) m = shown-append (lastShown a (s .cells)) l m
+
+pub record Going (a b x₀ y₀ z₀ o₀ : List ℕ) (at n k c : ℕ) (x y z o : List ℕ) : Type 0 where
+  pub done : List Stretch
+  pub is : done ++ stretchesFrom a b at ≡ stretches a b
+  pub range : at ≤ 1920
+  pub spans : SpansPut 0 done x₀ y₀ z₀ n x y z
+  pub bytes : Put 0 (stretchesBytes 0 done) o₀ k o
+  pub shown : c ≡ shownAfter 0 done
+  pub long-x : length x ≡ length x₀
+  pub long-y : length y ≡ length y₀
+  pub long-z : length z ≡ length z₀
+  pub long-o : length o ≡ length o₀
+
+pub going-begin : (a b x y z o : List ℕ) → Going a b x y z o 0 0 0 0 x y z o
+unfolding stretchesBytes shownAfter
+going-begin a b x y z o = record {
+  done = [];
+  is = refl;
+  range = omega arith;
+  spans = record { rows = put-none 0 x; columns = put-none 0 y; lengths = put-none 0 z };
+  bytes = put-none 0 o;
+  shown = refl;
+  long-x = refl;
+  long-y = refl;
+  long-z = refl;
+  long-o = refl;
+}
+
+reach-short : (at : ℕ) (a b : List ℕ) → reach at a b ≤ length a
+unfolding reach
+reach-short at [] b = omega arith
+reach-short at (x ∷ a) [] = omega arith
+reach-short at (x ∷ a) (y ∷ b) =
+    let i = reach-short (suc at) a b in
+    pick-if (λ (n : ℕ). n ≤ suc (length a)) (eqb x y) (λ e. omega arith)
+    (λ e. pick-if (λ (n : ℕ). suc n ≤ suc (length a)) (endsRow at) (λ t. omega arith) (λ t. omega arith))
+
+module _ (a b : List ℕ) (la : length a ≡ 1920) (lb : length b ≡ 1920) (at to : ℕ) (h : at < 1920) (e : to ≡ at + reach at (drop at a) (drop at b)) where
+  pub end-range : (at ≤ to) × (to ≤ 1920)
+  end-range = omega (arith, reach-short at (drop at a) (drop at b), length-drop at a)
+
+  size-is : to - at ≡ reach at (drop at a) (drop at b)
+  size-is = omega arith
+
+  abbrev one : List Stretch
+  one = oneOf at (to - at) b
+
+  step : stretchesFrom a b at ≡ one ++ stretchesFrom a b (beyond at (to - at))
+  step = turn a b at (to - at) (la ∙ sym lb) (omega (arith, la)) size-is
+
+  pub nearer : {next : ℕ} → next ≡ beyond at (to - at) → (at < next) × (next ≤ 1920)
+  nearer {next} q =
+      rw q (pick-if (λ (n : ℕ). (at < n) × (n ≤ 1920)) (eqb (to - at) 0) (λ z. omega arith)
+      (λ z. let y = eqb-false (to - at) 0 z in omega (arith, end-range, y)))
+
+  module _ {x₀ y₀ z₀ o₀ x y z o : List ℕ} {n k c : ℕ} (g : Going a b x₀ y₀ z₀ o₀ at n k c x y z o) where
+    whole : (g .done ++ one) ++ stretchesFrom a b (beyond at (to - at)) ≡ stretches a b
+    whole = append-assoc (g .done) one (stretchesFrom a b (beyond at (to - at))) ∙ (ap (λ (l : List Stretch). g .done ++ l) (sym step) ∙ g .is)
+
+    count : n ≡ length (g .done)
+    count = omega (arith, g .spans .rows .place, rows-length (g .done))
+
+    sizes : length (g .done) + length one ≤ length (stretches a b)
+    sizes =
+        omega (arith, ap length whole, length-append (g .done ++ one) (stretchesFrom a b (beyond at (to - at))), length-append (g .done) one)
+
+    one-long : at < to → length one ≡ 1
+    one-long l = ap length (one-some at (to - at) b (omega arith))
+
+    pub span-fits : (v v₀ : List ℕ) → length v ≡ length v₀ → length (stretches a b) ≤ length v₀ → at < to → n < length v
+    span-fits v v₀ l f t = omega (arith, count, sizes, one-long t, l, f)
+
+    pub span-few : length (stretches a b) ≤ 960 → n ≤ 1920
+    span-few f = omega (arith, count, sizes, f)
+
+    abbrev rest : List Stretch
+    rest = stretchesFrom a b (beyond at (to - at))
+
+    sized : length (stretchesBytes 0 (g .done)) + length (stretchesBytes (shownAfter 0 (g .done)) one) ≤ length (paintBytes a b)
+    sized =
+        let p = ap (λ (l : List Stretch). length (stretchesBytes 0 l)) whole in
+        let q = ap length (bytes-append 0 (g .done ++ one) rest) in
+        let r = ap length (bytes-append 0 (g .done) one) in
+        omega (arith, p, q, r, length-append (stretchesBytes 0 (g .done ++ one)) (stretchesBytes (shownAfter 0 (g .done ++ one)) rest), length-append (stretchesBytes 0 (g .done)) (stretchesBytes (shownAfter 0 (g .done)) one))
+
+    pub bytes-fit : length (paintBytes a b) ≤ length o₀ → k + length (stretchesBytes c one) ≤ length o
+    bytes-fit f =
+        let s = ap (λ (q : ℕ). length (stretchesBytes q one)) (g .shown) in
+        omega (arith, s, sized, g .bytes .place, g .long-o, f)
+
+    pub going-on : {next n′ k′ c′ : ℕ} {x′ y′ z′ o′ : List ℕ} → SpansPut n one x y z n′ x′ y′ z′ → Put k (stretchesBytes c one) o k′ o′ × (c′ ≡ shownAfter c one)
+        → length x′ ≡ length x → length y′ ≡ length y → length z′ ≡ length z → length o′ ≡ length o → next ≡ beyond at (to - at)
+        → Going a b x₀ y₀ z₀ o₀ next n′ k′ c′ x′ y′ z′ o′
+    going-on {next} {n′} {k′} {c′} {x′} {y′} {z′} {o′} s p lx ly lz lo q = record {
+      done = g .done ++ one;
+      is = rw q whole;
+      range = nearer q .1;
+      spans = record {
+        rows = subst (λ (l : List ℕ). Put 0 l x₀ n′ x′) (sym (rows-append (g .done) one)) (put-then (g .spans .rows) (s .rows));
+        columns = subst (λ (l : List ℕ). Put 0 l y₀ n′ y′) (sym (columns-append (g .done) one)) (put-then (g .spans .columns) (s .columns));
+        lengths = subst (λ (l : List ℕ). Put 0 l z₀ n′ z′) (sym (lengths-append (g .done) one)) (put-then (g .spans .lengths) (s .lengths));
+      };
+      bytes = subst (λ (l : List ℕ). Put 0 l o₀ k′ o′) (sym (bytes-append 0 (g .done) one)) (put-then (g .bytes) (subst (λ (j : ℕ). Put k (stretchesBytes j one) o k′ o′) (g .shown) (p .0)));
+      shown = p .1 ∙ (ap (λ (j : ℕ). shownAfter j one) (g .shown) ∙ sym (shown-append 0 (g .done) one));
+      long-x = lx ∙ g .long-x;
+      long-y = ly ∙ g .long-y;
+      long-z = lz ∙ g .long-z;
+      long-o = lo ∙ g .long-o;
+    }
+
+pub going-done : {a b x₀ y₀ z₀ o₀ x y z o : List ℕ} {at n k c : ℕ} → length a ≡ 1920 → 1920 ≤ at → Going a b x₀ y₀ z₀ o₀ at n k c x y z o
+    → SpansPut 0 (stretches a b) x₀ y₀ z₀ n x y z × Put 0 (paintBytes a b) o₀ k o
+going-done {a} {b} {x₀} {y₀} {z₀} {o₀} {x} {y} {z} {o} {at} {n} {k} {c} la h g =
+    let e : stretchesFrom a b at ≡ [] = ap (λ (l : List ℕ). differing at l (drop at b)) (drop-of-length-le a {i = at} (omega arith)) ∙ none-left at (drop at b) in
+    let f : g .done ≡ stretches a b = sym (append-nil (g .done)) ∙ (ap (λ (l : List Stretch). g .done ++ l) (sym e) ∙ g .is) in
+    (subst (λ (l : List Stretch). SpansPut 0 l x₀ y₀ z₀ n x y z) f (g .spans), subst (λ (l : List Stretch). Put 0 (stretchesBytes 0 l) o₀ k o) f (g .bytes))
+  where
+    none-left : (at : ℕ) (l : List ℕ) → differing at [] l ≡ []
+    none-left at l = unfold differing in refl

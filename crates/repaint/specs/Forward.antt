@@ -1,12 +1,12 @@
 -- The stretches read forwards, as the proposer's loop finds them. Only proofs and the contracts of inner functions name these.
 use mathlib.Core.Path.{_≡_}
 use mathlib.Core.List.{List, [], _∷_, _++_}
-use Prim.Native.Nat.{ℕ, suc, _+_}
+use Prim.Native.Nat.{ℕ, suc, _+_, _≤_}
 use lib.Dec.{eqb}
 use lib.ListN.{length, take, drop}
 use lib.Seq.{sets}
 use Rattle.rules.specs.Cell.{pick}
-use Rattle.repaint.specs.Proposal.{Stretch, stretch, endsRow, differing, lastShown, rowsOf, columnsOf, lengthsOf}
+use Rattle.repaint.specs.Proposal.{Stretch, stretch, endsRow, differing, lastShown, stretches, rowsOf, columnsOf, lengthsOf, paintBytes}
 
 -- how many cells the stretch has that begins at a cell: none where the cell is equal. `at` is the place of the lists' first cells
 unfoldable pub reach : ℕ → List ℕ → List ℕ → ℕ
@@ -41,3 +41,11 @@ pub record SpansPut (n : ℕ) (l : List Stretch) (x y z : List ℕ) (r : ℕ) (x
   pub rows : Put n (rowsOf l) x r x′
   pub columns : Put n (columnsOf l) y r y′
   pub lengths : Put n (lengthsOf l) z r z′
+
+-- lists that hold the spans and the bytes from a to b
+pub record Holding (a b x y z o : List ℕ) : Type 0 where
+  pub rows : length (stretches a b) ≤ length x
+  pub columns : length (stretches a b) ≤ length y
+  pub lengths : length (stretches a b) ≤ length z
+  pub few : length (stretches a b) ≤ 960
+  pub bytes : length (paintBytes a b) ≤ length o

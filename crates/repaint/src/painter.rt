@@ -7,8 +7,8 @@ ghost use lib.Dec.{leb, ltb};
 ghost use lib.ListN.{length, take, drop};
 ghost use Rattle.rules.specs.Cell.{both};
 ghost use Rattle.rules.specs.Possible.{rememberedOk};
-ghost use Rattle.repaint.specs.Proposal.{attributeCode, cellBytes, cellsBytes, lastShown, stretchesBytes, isText, allText, served};
-ghost use Rattle.repaint.specs.Forward.{reach, oneOf, beyond, shownAfter, Put, SpansPut};
+ghost use Rattle.repaint.specs.Proposal.{attributeCode, cellBytes, cellsBytes, lastShown, stretches, stretchesBytes, paintBytes, isText, allText, served};
+ghost use Rattle.repaint.specs.Forward.{reach, oneOf, beyond, shownAfter, Put, SpansPut, Holding};
 use rules::Personality;
 use state::logic::and;
 
@@ -172,4 +172,61 @@ fn put_span(
         return n + 1;
     }
     n
+}
+
+// ESC = to the start of a stretch and its cells, if it has any.
+fn put_stretch(
+    out: &mut [u8],
+    n: usize,
+    remembered: u16,
+    after: &[u16],
+    at: usize,
+    end: usize,
+) -> Painted
+    requires { ⌜ ((at ≤ end) × (end ≤ 1920)) × ((length (now after) ≡ 1920) × (n + length (stretchesBytes remembered (oneOf at (end - at) (now after))) ≤ length (now out))) ⌝ }
+    ensures { λ r. ⌜ Put n (stretchesBytes remembered (oneOf at (end - at) (now (after .entry)))) (now (out .entry)) (r .place) (now (out .exit)) × (r .remembered ≡ shownAfter remembered (oneOf at (end - at) (now (after .entry)))) ⌝ }
+{
+    if at < end {
+        let row = (at / 80) as u8;
+        let column = (at % 80) as u8;
+        let m = put(out, n, &[0x1b, b'=', 0x20 + row, 0x20 + column]);
+        return put_cells(out, m, remembered, &after[at..end]);
+    }
+    Painted {
+        place: n,
+        remembered: remembered,
+    }
+}
+
+// How many spans and bytes there are.
+struct Counts {
+    spans: usize,
+    bytes: usize,
+}
+
+// The spans and the bytes from one page to the other, at the front of lists that hold them.
+fn paint(
+    rows: &mut [u16],
+    columns: &mut [u16],
+    lengths: &mut [u16],
+    out: &mut [u8],
+    before: &[u16],
+    after: &[u16],
+) -> Counts
+    requires { ⌜ ((length (now before) ≡ 1920) × (length (now after) ≡ 1920)) × Holding (now before) (now after) (now rows) (now columns) (now lengths) (now out) ⌝ }
+    ensures { λ r. ⌜ SpansPut 0 (stretches (now (before .entry)) (now (after .entry))) (now (rows .entry)) (now (columns .entry)) (now (lengths .entry)) (r .spans) (now (rows .exit)) (now (columns .exit)) (now (lengths .exit)) × Put 0 (paintBytes (now (before .entry)) (now (after .entry))) (now (out .entry)) (r .bytes) (now (out .exit)) ⌝ }
+{
+    let mut n = 0;
+    let mut k = 0;
+    let mut a: u16 = 0;
+    let mut at = 0;
+    while at < 1920 {
+        let end = stretch_end(before, after, at);
+        n = put_span(rows, columns, lengths, n, at, end);
+        let p = put_stretch(out, k, a, after, at, end);
+        k = p.place;
+        a = p.remembered;
+        at = past(at, end);
+    }
+    Counts { spans: n, bytes: k }
 }
