@@ -370,7 +370,7 @@ lengths-append : (l m : List Stretch) → lengthsOf (l ++ m) ≡ lengthsOf l ++ 
 lengths-append [] m = refl
 lengths-append (s ∷ l) m = rw (lengths-append l m)
 
-rows-length : (l : List Stretch) → length (rowsOf l) ≡ length l
+pub rows-length : (l : List Stretch) → length (rowsOf l) ≡ length l
 rows-length [] = refl
 rows-length (s ∷ l) = ap suc (rows-length l)
 

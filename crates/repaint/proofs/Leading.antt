@@ -23,6 +23,7 @@ use Rattle.rules.specs.State.{withScreen, sends}
 use Rattle.rules.specs.Possible.{powerOn, possible, good}
 use Rattle.rules.specs.Plan.{unsplitScreen}
 use Rattle.rules.specs.Step.{Outcome, stepInside, stepRule}
+use Rattle.rules.specs.Room.{over}
 use Rattle.rules.specs.Calls.{Ran, ended, refusal, joined, repeated, runRule}
 use Rattle.rules.proofs.Tests.{either-way, both-parts, both-true}
 use Rattle.rules.specs.Possible.{coreOk, setupOk, noStops, screenOk, unsplitOk, attributesOk, featuresOk, rememberedOk, pendingOk, sendingOk}
@@ -250,8 +251,14 @@ copy-step a b i h k q =
     ap (λ (z : List ℕ). z ++ drop (suc i) b) (take-suc a i 0 h) ∙ append-snoc (take i a) (getD a i 0) (drop (suc i) b) in
     ap (λ (z : List ℕ). set z i (getD a i 0)) q ∙ rw (drop-cons b i 0 k, add-one i) (set-at (take i a) (getD b i 0) (drop (suc i) b) (getD a i 0) i e ∙ sym t)
 
-pub copy-done : (a b : List ℕ) {c : List ℕ} (i : ℕ) → length a ≤ i → length b ≤ i → c ≡ take i a ++ drop i b → c ≡ a
-copy-done a b i h k q = q ∙ rw (take-all i a h, drop-of-length-le b k) (append-nil a)
+pub copy-done : (a b : List ℕ) {c : List ℕ} (i : ℕ) → length a ≤ i → i ≤ length a → c ≡ take i a ++ drop i b → c ≡ over a b
+unfolding over
+copy-done a b i h k q = let e : i ≡ length a = omega arith in q ∙ rw (take-all i a h, e)
+
+-- as long as what it is copied to
+pub over-all : (a b : List ℕ) {c : List ℕ} → length a ≡ length b → c ≡ over a b → c ≡ a
+unfolding over
+over-all a b e q = q ∙ (ap (λ (l : List ℕ). a ++ l) (drop-of-length-le b {i = length a} (omega arith)) ∙ append-nil a)
 
 clean-made : (o : Ran) (l n k f : ℕ) → n ≡ o .answer → k ≡ o .taken → f ≡ o .refused → both (eqb n 0) (both (eqb k l) (eqb f 0)) ≡ clean o l
 unfolding clean

@@ -8,8 +8,9 @@ use mathlib.Core.Logic.{_⊎_, inl, inr}
 use Prim.Native.Nat.{ℕ, zero, suc, _+_, _-_, _*_, _<_, _≤_}
 use native.Mathlib.Omega.{arith}
 use lib.Dec.{eqb, leb}
-use lib.ListN.{length, getD, take, replicate}
-use borrow.Author.Tests.{eq-eqb, le-leb}
+use lib.ListN.{length, getD, take, drop, replicate, length-replicate}
+use lib.Seq.{sets, sets-eq, length-sets, take-at}
+use borrow.Author.Tests.{leb-true, eq-eqb, le-leb}
 use Rattle.rules.specs.declared.Personality.{Personality}
 use Rattle.rules.specs.declared.State.{State}
 use Rattle.rules.specs.Cell.{pick, both, either}
@@ -17,10 +18,11 @@ use Rattle.rules.specs.Row.{columns, columnOf, wideCells}
 use Rattle.rules.specs.Search.{guardedAt, settled}
 use Rattle.rules.specs.State.{segmentTop, segmentBottom, withCursor, sends}
 use Rattle.rules.specs.Possible.{powerOn, blank, good}
+use Rattle.rules.specs.Room.{over}
 use Rattle.rules.specs.Fields.{pageWidth, isPage}
 use Rattle.rules.specs.Carry.{landed}
 use Rattle.rules.specs.Convert.{Turned, converted, loses, stateOn, convertRule}
-use Rattle.rules.proofs.Tests.{both-true, either-way}
+use Rattle.rules.proofs.Tests.{both-parts, both-true, either-way}
 use Rattle.rules.proofs.Marks.{length-guards, guard-at}
 use Rattle.rules.proofs.Kept.{good-whole, powerOn-possible}
 use Rattle.rules.proofs.Convert.{converts, converted-length}
@@ -28,13 +30,16 @@ use Rattle.repaint.specs.declared.Span.{Span}
 use Rattle.repaint.specs.Spans.{Accepts, Pages}
 use Rattle.repaint.specs.Pass.{pagesWidth}
 use Rattle.repaint.specs.Bytes.{powerOnAt}
-use Rattle.repaint.specs.Proposal.{Stretch, differing, stretches, paintBytes, allText, served, Proposed, refusedWith, fitting, proposeRule}
+use Rattle.repaint.specs.Proposal.{Stretch, differing, stretches, paintBytes, allText, served, Proposed, refusedWith, fitting, rowsOf, columnsOf, lengthsOf, proposeRule, Proposes}
+use Rattle.repaint.specs.Forward.{Put, SpansPut, Holding}
+use Rattle.repaint.specs.declared.ProposeResult.{ProposeResult}
 use Rattle.repaint.specs.Theorems.{spansFor, Served, Proposing, PowerOns}
-use Rattle.repaint.proofs.Passing.{width-80}
+use Rattle.repaint.proofs.Passing.{width-80, widths}
 use Rattle.repaint.proofs.Verdicts.{Run, run-accepts}
 use Rattle.repaint.proofs.Stretching.{differing-run, Few, few}
 use Rattle.repaint.proofs.Painting.{settled-open, differing-last, by-last, served-parts, painted}
 use Rattle.repaint.proofs.Longest.{longest-spans}
+use Rattle.repaint.proofs.Forwards.{rows-length}
 
 -- ---- what is proposed
 
@@ -118,6 +123,18 @@ module _ (m : Personality) (a b rows columns lengths out : List ℕ) where
       (le-leb _ (length out) (le-then k o)) in
       answer-served s ∙ ap (λ (z : Bool). pick {A = ℕ} z 0 6) t
 
+-- lists of 960 numbers and 7,772 bytes hold what is proposed
+pub holding : (m : Personality) (a b x y z o : List ℕ) → served m a b ≡ true → 960 ≤ length x → 960 ≤ length y → 960 ≤ length z → 7772 ≤ length o
+    → Holding a b x y z o
+holding m a b x y z o e hx hy hz ho =
+    let f = few-page m a b (served-parts m a b e) in
+    let n : length (stretches a b) ≤ 960 = omega (arith, f .all) in
+    let k : length (paintBytes a b) ≤ 7772 = f .bytes 0 in
+    record { rows = le-then n hx; columns = le-then n hy; lengths = le-then n hz; few = n; bytes = le-then k ho }
+
+pub served-lengths : (m : Personality) (a b : List ℕ) → served m a b ≡ true → (length a ≡ 1920) × (length b ≡ 1920)
+served-lengths m a b e = let s = served-parts m a b e in (s .from, s .to)
+
 pub proposing : Proposing
 proposing = record {
   spans-accepted = λ m a b e. accepted m a b (served-parts m a b e);
@@ -175,3 +192,168 @@ power-ons m = record {
       let k = converts-on m t e in
       (ap (λ (r : Turned). r .answer) k, ap (λ (r : Turned). r .state) k ∙ on-wide m (converted false blank) wide-blank);
 }
+
+-- ---- the call
+
+-- what was put at the front, read back
+pub put-front : {l w v : List ℕ} {n k : ℕ} → Put 0 l w n v → n ≤ length w → k ≡ n → take k v ≡ l
+put-front {l} {w} {v} {n} {k} p h e =
+    let z : length l ≡ n = omega (arith, p .place) in
+    let q : v ≡ l ++ drop (length l) w = p .room ∙ front l w (omega (arith, z)) in
+    rw e (ap (take n) q ∙ take-at l (drop (length l) w) n z)
+  where
+    front : (l w : List ℕ) → length l ≤ length w → sets w 0 l ≡ l ++ drop (length l) w
+    front l w h = let z : 0 + length l ≡ length l = omega arith in sets-eq l w 0 (omega arith) ∙ rw z
+
+pub over-part : (r w : List ℕ) {x : List ℕ} (n : ℕ) → x ≡ over (take (n - 0) r) w → x ≡ over (take n r) w
+over-part r w n e = let z : n - 0 ≡ n = omega arith in e ∙ rw z
+
+abbrev pub gave : ℕ → ProposeResult
+gave n = record { answer = n; spans = 0; bytes = 0 }
+
+module _ (m : Personality) (a b x y z o : List ℕ) where
+  abbrev test : Bool
+  test = both (eqb (length a) (length b)) (isPage (length a))
+
+  no-test : pagesWidth a b ≡ 0 → test ≡ false
+  unfolding pagesWidth
+  no-test e = by (either-way (eqb (length a) (length b)))
+    where
+      by : (eqb (length a) (length b) ≡ true) ⊎ (eqb (length a) (length b) ≡ false) → test ≡ false
+      by (inl t) = let k : pageWidth (length a) ≡ 0 = rw t at e in rw (t, k)
+      by (inr t) = rw t
+
+  is-test : (pagesWidth a b ≡ 0 → ⊥) → test ≡ true
+  is-test n = by (widths a b)
+    where
+      by-width : length a ≡ length b → ((pagesWidth a b ≡ 80) × (length a ≡ 1920)) ⊎ ((pagesWidth a b ≡ 132) × (length a ≡ 3168)) → test ≡ true
+      by-width e (inl k) = page-test a b e (inl (k .1))
+      by-width e (inr k) = page-test a b e (inr (k .1))
+
+      by : ((pagesWidth a b ≡ 0) × ((w : ℕ) → Pages w a b → ⊥)) ⊎ Pages (pagesWidth a b) a b → test ≡ true
+      by (inl k) = absurd (n (k .0))
+      by (inr p) = by-width (p .alike) (p .width)
+
+  abbrev rule : Proposed
+  rule = proposeRule m a b x y z o
+
+  same-of : {n : ℕ} {r : ProposeResult} → r ≡ gave n → rule ≡ refusedWith n x y z o → Proposes rule r x y z o
+  same-of {n} {r} e f =
+      subst (λ (q : Proposed). Proposes q r x y z o) (sym f)
+      (subst (λ (t : ProposeResult). Proposes (refusedWith n x y z o) t x y z o) (sym e) (record { answer = refl; spans = refl; bytes = refl; rows = refl; columns = refl; lengths = refl; out = refl }))
+
+  rule-seven : pagesWidth a b ≡ 0 → rule ≡ refusedWith 7 x y z o
+  unfolding proposeRule
+  rule-seven e = rw (no-test e)
+
+  pub gives-seven : {w : ℕ} {r : ProposeResult} → w ≡ pagesWidth a b → w ≡ 0 → r ≡ gave 7 → Proposes rule r x y z o
+  gives-seven e f g = same-of g (rule-seven (sym e ∙ f))
+
+  module _ (t : pagesWidth a b ≡ 0 → ⊥) where
+    rule-three : served m a b ≡ false → rule ≡ refusedWith 3 x y z o
+    unfolding proposeRule
+    rule-three f = rw (is-test t, f)
+
+    pub gives-three : {r : ProposeResult} → served m a b ≡ false → r ≡ gave 3 → Proposes rule r x y z o
+    gives-three f g = same-of g (rule-three f)
+
+    module _ (s : served m a b ≡ true) {n k : ℕ} (en : n ≡ length (stretches a b)) (ek : k ≡ length (paintBytes a b)) where
+      fits-as : (v : Bool) → both (both (leb n (length x)) (both (leb n (length y)) (leb n (length z)))) (leb k (length o)) ≡ v
+          → fitting (length (stretches a b)) (length (paintBytes a b)) x y z o ≡ v
+      fits-as v e = rw (en, ek) at e
+
+      rule-six : fitting (length (stretches a b)) (length (paintBytes a b)) x y z o ≡ false → rule ≡ refusedWith 6 x y z o
+      unfolding proposeRule
+      rule-six f = rw (is-test t, s, f)
+
+      pub gives-six : {r : ProposeResult} → both (both (leb n (length x)) (both (leb n (length y)) (leb n (length z)))) (leb k (length o)) ≡ false → r ≡ gave 6
+          → Proposes rule r x y z o
+      gives-six f g = same-of g (rule-six (fits-as false f))
+
+      abbrev all : Proposed
+      all = record {
+        answer = 0;
+        spans = length (stretches a b);
+        bytes = length (paintBytes a b);
+        rows = over (rowsOf (stretches a b)) x;
+        columns = over (columnsOf (stretches a b)) y;
+        lengths = over (lengthsOf (stretches a b)) z;
+        out = over (paintBytes a b) o;
+      }
+
+      rule-done : fitting (length (stretches a b)) (length (paintBytes a b)) x y z o ≡ true → rule ≡ all
+      unfolding proposeRule
+      rule-done f = rw (is-test t, s, f)
+
+      pub gives-all : {x′ y′ z′ o′ : List ℕ} → both (both (leb n (length x)) (both (leb n (length y)) (leb n (length z)))) (leb k (length o)) ≡ true
+          → x′ ≡ over (rowsOf (stretches a b)) x → y′ ≡ over (columnsOf (stretches a b)) y → z′ ≡ over (lengthsOf (stretches a b)) z → o′ ≡ over (paintBytes a b) o
+          → Proposes rule (record { answer = 0; spans = n; bytes = k }) x′ y′ z′ o′
+      gives-all {x′} {y′} {z′} {o′} f ex ey ez eo =
+          subst (λ (q : Proposed). Proposes q (record { answer = 0; spans = n; bytes = k }) x′ y′ z′ o′) (sym (rule-done (fits-as true f)))
+          (record { answer = refl; spans = en; bytes = ek; rows = ex; columns = ey; lengths = ez; out = eo })
+
+-- ---- what is made beside the rooms
+
+abbrev fresh : List ℕ
+fresh = replicate 960 0
+
+abbrev freshBytes : List ℕ
+freshBytes = replicate 7772 0
+
+fresh-length : length fresh ≡ 960
+fresh-length = length-replicate {A = ℕ} 960 0
+
+bytes-length : length freshBytes ≡ 7772
+bytes-length = length-replicate {A = ℕ} 7772 0
+
+pub holding-fresh : (m : Personality) (a b : List ℕ) → served m a b ≡ true → Holding a b fresh fresh fresh freshBytes
+holding-fresh m a b e =
+    holding m a b fresh fresh fresh freshBytes e (omega (arith, fresh-length)) (omega (arith, fresh-length)) (omega (arith, fresh-length)) (omega (arith, bytes-length))
+
+abbrev pub Made : List ℕ → List ℕ → ℕ → ℕ → List ℕ → List ℕ → List ℕ → List ℕ → Type 0
+Made a b n k r c l o = SpansPut 0 (stretches a b) fresh fresh fresh n r c l × Put 0 (paintBytes a b) freshBytes k o
+
+put-long : {l w v : List ℕ} {n : ℕ} → Put 0 l w n v → length v ≡ length w
+put-long {l} {w} p = ap length (p .room) ∙ length-sets w 0 l
+
+module _ (m : Personality) (a b : List ℕ) (s : served m a b ≡ true) {n k : ℕ} {r c l o : List ℕ} (p : Made a b n k r c l o) where
+  pub made-count : n ≡ length (stretches a b)
+  made-count = omega (arith, p .0 .rows .place, rows-length (stretches a b))
+
+  pub made-size : k ≡ length (paintBytes a b)
+  made-size = omega (arith, p .1 .place)
+
+  pub made-few : (n ≤ 960) × (k ≤ 7772)
+  made-few = let h = holding-fresh m a b s in (omega (arith, made-count, h .few), omega (arith, made-size, h .bytes, bytes-length))
+
+  pub made-fit : (n ≤ 960) × ((n ≤ length r) × ((n ≤ length c) × ((n ≤ length l) × (k ≤ length o))))
+  made-fit =
+      let f = made-few in (
+        f .0,
+        (
+          omega (arith, f .0, put-long (p .0 .rows), fresh-length),
+          (
+            omega (arith, f .0, put-long (p .0 .columns), fresh-length),
+            (omega (arith, f .0, put-long (p .0 .lengths), fresh-length), omega (arith, f .1, put-long (p .1), bytes-length)),
+          ),
+        ),
+      )
+
+  pub made-given : (t : pagesWidth a b ≡ 0 → ⊥) (x y z w : List ℕ) {x′ y′ z′ w′ : List ℕ}
+      → both (both (leb n (length x)) (both (leb n (length y)) (leb n (length z)))) (leb k (length w)) ≡ true
+      → (x′ ≡ over (take n r) x) × ((y′ ≡ over (take n c) y) × ((z′ ≡ over (take n l) z) × (w′ ≡ over (take k o) w)))
+      → Proposes (proposeRule m a b x y z w) (record { answer = 0; spans = n; bytes = k }) x′ y′ z′ w′
+  made-given t x y z w f g =
+      let q = made-few in
+      gives-all m a b x y z w t s made-count made-size f
+      (g .0 ∙ ap (λ (v : List ℕ). over v x) (put-front (p .0 .rows) (omega (arith, q .0, fresh-length)) refl))
+      (g .1 .0 ∙ ap (λ (v : List ℕ). over v y) (put-front (p .0 .columns) (omega (arith, q .0, fresh-length)) refl))
+      (g .1 .1 .0 ∙ ap (λ (v : List ℕ). over v z) (put-front (p .0 .lengths) (omega (arith, q .0, fresh-length)) refl))
+      (g .1 .1 .1 ∙ ap (λ (v : List ℕ). over v w) (put-front (p .1) (omega (arith, q .1, bytes-length)) refl))
+
+pub rooms : (n k x y z w : ℕ) → both (both (leb n x) (both (leb n y) (leb n z))) (leb k w) ≡ true → (n ≤ x) × ((n ≤ y) × ((n ≤ z) × (k ≤ w)))
+rooms n k x y z w e =
+    let a = both-parts (both (leb n x) (both (leb n y) (leb n z))) (leb k w) e in
+    let b = both-parts (leb n x) (both (leb n y) (leb n z)) (a .0) in
+    let c = both-parts (leb n y) (leb n z) (b .1) in
+    (leb-true n x (b .0), (leb-true n y (c .0), (leb-true n z (c .1), leb-true k w (a .1))))

@@ -11,6 +11,7 @@ use Rattle.rules.specs.Row.{addressed, narrowCells, rowOf, columnOf}
 use Rattle.rules.specs.Room.{over}
 use Rattle.rules.specs.Fields.{isPage}
 use Rattle.rules.specs.Possible.{rememberedOk}
+use Rattle.repaint.specs.declared.ProposeResult.{ProposeResult}
 use Rattle.repaint.specs.declared.Span.{Span}
 
 -- ---- "the longest stretches of differing cells in a row"
@@ -144,3 +145,13 @@ proposeRule m a b rows columns lengths out =
     (pick (served m a b)
     (pick (fitting (length l) (length bytes) rows columns lengths out) done (refusedWith 6 rows columns lengths out))
     (refusedWith 3 rows columns lengths out)) (refusedWith 7 rows columns lengths out)
+
+-- what a call gives that leaves these lists
+pub record Proposes (o : Proposed) (r : ProposeResult) (x y z w : List ℕ) : Type 0 where
+  pub answer : r .answer ≡ o .answer
+  pub spans : r .spans ≡ o .spans
+  pub bytes : r .bytes ≡ o .bytes
+  pub rows : x ≡ o .rows
+  pub columns : y ≡ o .columns
+  pub lengths : z ≡ o .lengths
+  pub out : w ≡ o .out

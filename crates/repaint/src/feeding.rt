@@ -6,6 +6,7 @@ ghost use lib.ListN.{length};
 ghost use Rattle.rules.specs.Cell.{both};
 ghost use Rattle.rules.specs.Row.{columns, wideCells};
 ghost use Rattle.rules.specs.State.{number};
+ghost use Rattle.rules.specs.Room.{over};
 ghost use Rattle.repaint.specs.Bytes.{powerOnAt, paints as paintsRule, BytesVerdict};
 use crate::Verdict;
 use crate::same_cells;
@@ -45,9 +46,10 @@ fn power_on_at(wide: bool, personality: Personality) -> State
     }
 }
 
-fn copy_cells(from: &[u16], to: &mut [u16])
-    requires { ⌜ (length (now to) ≡ length (now from)) × (length (now from) ≤ wideCells) ⌝ }
-    ensures { λ r. ⌜ now (to .exit) ≡ now (from .entry) ⌝ }
+// Cells copied to the front of others; the rest of these is untouched.
+pub fn copy_cells(from: &[u16], to: &mut [u16])
+    requires { ⌜ (length (now from) ≤ length (now to)) × (length (now from) ≤ wideCells) ⌝ }
+    ensures { λ r. ⌜ now (to .exit) ≡ over (now (from .entry)) (now (to .entry)) ⌝ }
 {
     let mut i = 0;
     while i < from.len() {

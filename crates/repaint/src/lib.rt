@@ -8,6 +8,7 @@ ghost use lib.ListN.{length};
 ghost use Rattle.repaint.specs.Spans.{SpansVerdict, ListsVerdict};
 ghost use Rattle.repaint.specs.Pass.{pagesWidth, equal, fits, turned, finished};
 pub use feeding::judge_bytes;
+pub use painter::propose;
 
 // Cells of one row: its row and its first column, counted from 1, and how many they are.
 #[repr(C)]
@@ -22,6 +23,14 @@ pub enum Verdict {
     Accepted,
     NotAccepted,
     WrongLength,
+}
+
+// The proposer's answer, and how many spans and bytes there are; none where it refuses.
+#[repr(C)]
+pub struct ProposeResult {
+    pub answer: u8,
+    pub spans: u16,
+    pub bytes: u16,
 }
 
 // The width of two pages; 0: they are of unlike lengths, or of no page's.

@@ -7,8 +7,12 @@ ghost use lib.Dec.{leb, ltb};
 ghost use lib.ListN.{length, take, drop};
 ghost use Rattle.rules.specs.Cell.{both};
 ghost use Rattle.rules.specs.Possible.{rememberedOk};
-ghost use Rattle.repaint.specs.Proposal.{attributeCode, cellBytes, cellsBytes, lastShown, stretches, stretchesBytes, paintBytes, isText, allText, served};
+ghost use Rattle.rules.specs.Room.{over};
+ghost use Rattle.repaint.specs.Proposal.{attributeCode, cellBytes, cellsBytes, lastShown, stretches, stretchesBytes, paintBytes, isText, allText, served, proposeRule, Proposes};
 ghost use Rattle.repaint.specs.Forward.{reach, oneOf, beyond, shownAfter, Put, SpansPut, Holding};
+use crate::ProposeResult;
+use crate::feeding::copy_cells;
+use crate::width_of;
 use rules::Personality;
 use state::logic::and;
 
@@ -229,4 +233,92 @@ fn paint(
         at = past(at, end);
     }
     Counts { spans: n, bytes: k }
+}
+
+// Bytes copied to the front of others; the rest of these is untouched.
+fn copy_bytes(from: &[u8], to: &mut [u8])
+    requires { ⌜ length (now from) ≤ length (now to) ⌝ }
+    ensures { λ r. ⌜ now (to .exit) ≡ over (now (from .entry)) (now (to .entry)) ⌝ }
+{
+    let mut i = 0;
+    while i < from.len() {
+        to[i] = from[i];
+        i += 1;
+    }
+}
+
+// Whether n spans fit into three lists, and k bytes into a fourth.
+fn has_room(n: usize, k: usize, rows: usize, columns: usize, lengths: usize, out: usize) -> bool
+    ensures { λ r. ⌜ r ≡ both (both (leb n rows) (both (leb n columns) (leb n lengths))) (leb k out) ⌝ }
+{
+    and(and(n <= rows, and(n <= columns, n <= lengths)), k <= out)
+}
+
+// The first n spans and k bytes of some lists, at the front of others.
+fn give(
+    n: usize,
+    k: usize,
+    r: &[u16],
+    c: &[u16],
+    l: &[u16],
+    o: &[u8],
+    rows: &mut [u16],
+    columns: &mut [u16],
+    lengths: &mut [u16],
+    out: &mut [u8],
+)
+    requires { ⌜ ((n ≤ 960) × ((n ≤ length (now r)) × ((n ≤ length (now c)) × ((n ≤ length (now l)) × (k ≤ length (now o)))))) × ((n ≤ length (now rows)) × ((n ≤ length (now columns)) × ((n ≤ length (now lengths)) × (k ≤ length (now out))))) ⌝ }
+    ensures { λ r′. ⌜ (now (rows .exit) ≡ over (take n (now (r .entry))) (now (rows .entry))) × ((now (columns .exit) ≡ over (take n (now (c .entry))) (now (columns .entry))) × ((now (lengths .exit) ≡ over (take n (now (l .entry))) (now (lengths .entry))) × (now (out .exit) ≡ over (take k (now (o .entry))) (now (out .entry))))) ⌝ }
+{
+    copy_cells(&r[0..n], rows);
+    copy_cells(&c[0..n], columns);
+    copy_cells(&l[0..n], lengths);
+    copy_bytes(&o[0..k], out);
+}
+
+fn refuse(answer: u8) -> ProposeResult
+    ensures { λ r. ⌜ r ≡ record { answer = answer; spans = 0; bytes = 0 } ⌝ }
+{
+    ProposeResult {
+        answer: answer,
+        spans: 0,
+        bytes: 0,
+    }
+}
+
+// Proposes the spans and the bytes that bring a display from one page to another. They are made beside the rooms first, which are written only if all
+// of them fit. Ruled out: one that writes and then refuses, sends ESC G at each cell, forgets the attribute between spans, or answers 6 before 3.
+pub fn propose(
+    before: &[u16],
+    after: &[u16],
+    personality: Personality,
+    rows: &mut [u16],
+    columns: &mut [u16],
+    lengths: &mut [u16],
+    out: &mut [u8],
+) -> ProposeResult
+    ensures { λ r. ⌜ Proposes (proposeRule personality (now (before .entry)) (now (after .entry)) (now (rows .entry)) (now (columns .entry)) (now (lengths .entry)) (now (out .entry))) r (now (rows .exit)) (now (columns .exit)) (now (lengths .exit)) (now (out .exit)) ⌝ }
+{
+    if width_of(before, after) == 0 {
+        return refuse(7);
+    }
+    if !is_served(personality, before, after) {
+        return refuse(3);
+    }
+    let mut r: [u16; 960] = [0; 960];
+    let mut c: [u16; 960] = [0; 960];
+    let mut l: [u16; 960] = [0; 960];
+    let mut o: [u8; 7772] = [0; 7772];
+    let t = paint(&mut r, &mut c, &mut l, &mut o, before, after);
+    let n = t.spans;
+    let k = t.bytes;
+    if !has_room(n, k, rows.len(), columns.len(), lengths.len(), out.len()) {
+        return refuse(6);
+    }
+    give(n, k, &r, &c, &l, &o, rows, columns, lengths, out);
+    ProposeResult {
+        answer: 0,
+        spans: n as u16,
+        bytes: k as u16,
+    }
 }

@@ -46,4 +46,4 @@ copy-cells-spec =
     (λ c.
     let x = c .before .before .args in
     let l = c .before .loop in
-    copy-done (now (x .from)) (now (x .to)) (l .i) (omega arith) (omega arith) (l .inv .1 .1)))
+    copy-done (now (x .from)) (now (x .to)) (l .i) (omega arith) (l .inv .0) (l .inv .1 .1)))
