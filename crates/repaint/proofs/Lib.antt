@@ -7,3 +7,4 @@ pub mod Painting
 pub mod Longest
 pub mod Proposing
 pub mod Forwards
+pub mod Judges

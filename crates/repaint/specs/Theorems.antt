@@ -10,9 +10,11 @@ use Rattle.rules.specs.Row.{addressed, narrowCells, wideCells}
 use Rattle.rules.specs.Convert.{convertRule}
 use Rattle.rules.specs.Possible.{powerOn, blank}
 use Rattle.repaint.specs.declared.Span.{Span}
-use Rattle.repaint.specs.Spans.{first, after, Covers, spanAt, Accepts}
-use Rattle.repaint.specs.Bytes.{AcceptsBytes, powerOnAt}
-use Rattle.repaint.specs.Proposal.{spanOf, stretches, paintBytes, allText, served, refusedWith, proposeRule}
+use Rattle.repaint.specs.declared.Verdict.{Verdict}
+use Rattle.repaint.specs.declared.Verdict.the-variants as Verdict
+use Rattle.repaint.specs.Spans.{first, after, Covers, spanAt, Accepts, SpansVerdict, ListsVerdict}
+use Rattle.repaint.specs.Bytes.{AcceptsBytes, BytesVerdict, powerOnAt}
+use Rattle.repaint.specs.Proposal.{spanOf, stretches, rowsOf, columnsOf, lengthsOf, paintBytes, allText, served, refusedWith, proposeRule}
 
 abbrev pub spansFor : List ℕ → List ℕ → List Span
 spansFor a b = map spanOf (stretches a b)
@@ -46,6 +48,16 @@ pub record Proposing : Type 0 where
   -- with room for 960 spans and 7,772 bytes nothing that is served is refused
   pub roomy : (m : Personality) (a b rows columns lengths out : List ℕ) → Served m a b → 960 ≤ length rows → 960 ≤ length columns → 960 ≤ length lengths
       → 7772 ≤ length out → proposeRule m a b rows columns lengths out .answer ≡ 0
+
+-- the judges' answers: each has one, so both accept what is proposed
+pub record Judging : Type 0 where
+  pub spans-one : (a b : List ℕ) (spans : List Span) (r s : Verdict) → SpansVerdict a b spans r → SpansVerdict a b spans s → r ≡ s
+  pub lists-one : (a b rows columns lengths : List ℕ) (r s : Verdict) → ListsVerdict a b rows columns lengths r → ListsVerdict a b rows columns lengths s
+      → r ≡ s
+  pub bytes-one : (m : Personality) (a b bytes : List ℕ) (r s : Verdict) → BytesVerdict m a b bytes r → BytesVerdict m a b bytes s → r ≡ s
+  pub lists-accepted : (m : Personality) (a b : List ℕ) → served m a b ≡ true
+      → ListsVerdict a b (rowsOf (stretches a b)) (columnsOf (stretches a b)) (lengthsOf (stretches a b)) Verdict.Accepted
+  pub bytes-accepted : (m : Personality) (a b : List ℕ) → served m a b ≡ true → BytesVerdict m a b (paintBytes a b) Verdict.Accepted
 
 -- power-on at a width: the narrow one is power-on's own, and the wide one what the conversion makes of it
 pub record PowerOns (m : Personality) : Type 0 where
