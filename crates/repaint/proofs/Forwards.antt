@@ -5,7 +5,7 @@
 -- Assumes nothing.
 use mathlib.Core.Path.{_≡_, refl, sym, ap, ap₂, subst, _∙_}
 use mathlib.Core.Bool.{Bool, true, false, not}
-use mathlib.Core.List.{List, [], _∷_, _++_, map, append-nil, append-assoc}
+use mathlib.Core.List.{List, [], _∷_, _++_, append-nil, append-assoc}
 use mathlib.Core.Logic.{_⊎_, inl, inr}
 use Prim.Native.Nat.{ℕ, suc, _+_, _-_, _/_, _%_, _<_, _≤_}
 use native.Mathlib.Numerals.{add-one}
@@ -18,8 +18,8 @@ use Rattle.rules.specs.declared.Personality.{Personality}
 use Rattle.rules.specs.Cell.{pick, both, code}
 use Rattle.rules.specs.Possible.{rememberedOk}
 use Rattle.rules.proofs.Tests.{pick-if, either-way}
-use Rattle.repaint.specs.Proposal.{Stretch, stretch, endsRow, lengthened, differing, attributeCode, cellBytes, cellsBytes, lastShown, startBytes, stretchBytes, stretchesBytes, spanOf, stretches, rowsOf, columnsOf, lengthsOf, paintBytes, isText, allText, served}
-use Rattle.repaint.specs.Forward.{reach, stretchesFrom, oneOf, beyond, shownAfter, Put, SpansPut, Holding}
+use Rattle.repaint.specs.Proposal.{Stretch, stretch, endsRow, lengthened, differing, attributeCode, cellBytes, cellsBytes, lastShown, startBytes, stretchBytes, stretchesBytes, stretches, rowsOf, columnsOf, lengthsOf, paintBytes, isText, allText, served}
+use Rattle.repaint.specs.Forward.{reach, stretchesFrom, oneOf, beyond, shownAfter, Put, SpansPut}
 
 spans-equal : (at x y : ℕ) (a b : List ℕ) → eqb x y ≡ true → differing at (x ∷ a) (y ∷ b) ≡ differing (suc at) a b
 unfolding differing

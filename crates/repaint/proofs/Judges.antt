@@ -4,8 +4,8 @@
 use mathlib.Core.Path.{_≡_, refl, sym, ap, subst, _∙_}
 use mathlib.Core.Bool.{Bool, true, false}
 use mathlib.Core.List.{List, [], _∷_, map}
-use mathlib.Core.Logic.{_⊎_, inl, inr}
-use Prim.Native.Nat.{ℕ, suc, _*_}
+use mathlib.Core.Logic.{inl}
+use Prim.Native.Nat.{ℕ, suc}
 use native.Mathlib.Omega.{arith}
 use lib.ListN.{length}
 use Rattle.rules.specs.declared.Personality.{Personality}
@@ -16,7 +16,7 @@ use Rattle.repaint.specs.declared.Verdict.the-variants as Verdict
 use Rattle.repaint.specs.Spans.{Pages, Accepts, SpansVerdict, spansOf, ListsVerdict}
 use Rattle.repaint.specs.Bytes.{AcceptsBytes, BytesVerdict}
 use Rattle.repaint.specs.Proposal.{Stretch, spanOf, stretches, rowsOf, columnsOf, lengthsOf, paintBytes, served}
-use Rattle.repaint.specs.Theorems.{spansFor, Judging}
+use Rattle.repaint.specs.Theorems.{Judging}
 use Rattle.repaint.proofs.Passing.{pages-width}
 use Rattle.repaint.proofs.Painting.{served-parts}
 use Rattle.repaint.proofs.Proposing.{proposing}

@@ -2,10 +2,10 @@
 --     longest-spans     each of them is
 -- Assumes nothing.
 use mathlib.Core.Path.{_≡_, refl, sym, ap, subst, _∙_}
-use mathlib.Core.Bool.{Bool, true, false, not, false≢true}
+use mathlib.Core.Bool.{true, false, not, false≢true}
 use mathlib.Core.List.{List, [], _∷_, map}
 use mathlib.Core.Logic.{_⊎_, inl, inr}
-use Prim.Native.Nat.{ℕ, zero, suc, _+_, _-_, _*_, _/_, _%_, _<_, _≤_}
+use Prim.Native.Nat.{ℕ, zero, suc, _+_, _-_, _%_, _<_, _≤_}
 use native.Mathlib.Omega.{arith}
 use lib.Dec.{eqb, ltb}
 use lib.ListN.{length, getD, drop}
@@ -16,7 +16,7 @@ use Rattle.repaint.specs.declared.Span.{Span}
 use Rattle.repaint.specs.Spans.{first, after, Covers, spanAt}
 use Rattle.repaint.specs.Proposal.{Stretch, stretch, endsRow, lengthened, differing, spanOf}
 use Rattle.repaint.specs.Theorems.{Longest}
-use Rattle.repaint.proofs.Passing.{Fits, eq-or-not}
+use Rattle.repaint.proofs.Passing.{eq-or-not}
 use Rattle.repaint.proofs.Verdicts.{Run, ended, more}
 use Rattle.repaint.proofs.Stretching.{first-of, cell-differing, none-differing, differing-run}
 

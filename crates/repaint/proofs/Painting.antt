@@ -7,15 +7,14 @@
 -- Assumes nothing.
 use mathlib.Core.Path.{_≡_, refl, sym, ap, subst, _∙_}
 use mathlib.Core.Bool.{Bool, true, false, not, false≢true}
-use mathlib.Core.List.{List, [], _∷_, _++_, append-assoc, append-nil}
+use mathlib.Core.List.{List, [], _∷_, _++_, append-assoc}
 use mathlib.Core.Logic.{_⊎_, inl, inr}
-use Prim.Native.Nat.{ℕ, zero, suc, _+_, _-_, _*_, _/_, _%_, _<_, _≤_}
-use native.Mathlib.Numerals.{add-one}
+use Prim.Native.Nat.{ℕ, suc, _+_, _-_, _*_, _%_, _<_, _≤_}
 use native.Mathlib.Omega.{arith}
 use lib.Dec.{leb, ltb, eqb, lit<}
 use lib.Seq.{append-snoc, set-at, set-split, split-at, drop-cons, length-take-le}
 use lib.ListN.{length, getD, set, take, drop, replicate, length-append, length-set, drop-of-length-le}
-use borrow.Author.Tests.{lt-ltb, le-ltb, le-leb, leb-true, ltb-true, ltb-false, eqb-true, eqb-false, eq-eqb, ne-eqb, not-true}
+use borrow.Author.Tests.{lt-ltb, le-ltb, le-leb, leb-true, ltb-true, ltb-false, eqb-true, eqb-false, eq-eqb, ne-eqb}
 use Rattle.rules.specs.declared.Argument.the-variants as Argument
 use Rattle.rules.specs.declared.Contents.the-variants as Contents
 use Rattle.rules.specs.declared.Command.{Command}
@@ -36,23 +35,22 @@ use Rattle.rules.specs.declared.Setup.{Setup}
 use Rattle.rules.specs.declared.State.{State}
 use Rattle.rules.specs.declared.Write.{Write}
 use Rattle.rules.specs.declared.Write.the-variants as Write
-use Rattle.rules.specs.Cell.{pick, both, either, among, code, guarded, written}
+use Rattle.rules.specs.Cell.{pick, both, either, among, code, written}
 use Rattle.rules.specs.Row.{columns, rowOf, columnOf}
 use Rattle.rules.specs.State.{segmentTop, segmentBottom, cursorOf, withCursor, changed, sends, sendingAfter, gatheredAfter, setupAfter}
 use Rattle.rules.specs.Search.{guardedAt, others, settled}
-use Rattle.rules.specs.Change.{within, fillCell, filled}
+use Rattle.rules.specs.Change.{within, filled}
 use Rattle.rules.specs.Possible.{powerOn, rememberedOk, good}
 use Rattle.rules.specs.Arguments.{isAttribute, attributeOf}
 use Rattle.rules.specs.Decode.{decodeRule, idleRule, escapeRule, lookup, judged, argumentRule}
-use Rattle.rules.specs.Plan.{plain, settling, writing, addressPlan, movePlan, unlessGuarded, storing, advancing, storePlan, takesCell, attributePlan, planRule}
+use Rattle.rules.specs.Plan.{settling, writing, addressPlan, movePlan, unlessGuarded, storing, advancing, storePlan, takesCell, attributePlan, planRule}
 use Rattle.rules.specs.Carry.{quiet, applied, landed, done, carried}
 use Rattle.rules.specs.Step.{Outcome, outcomeOf, obeyed, innerRule, stepRule}
-use Rattle.rules.proofs.Tests.{pick-if, both-parts, both-true, either-way, either-first, either-second}
+use Rattle.rules.proofs.Tests.{pick-if, both-parts, both-true, either-way, either-second}
 use Rattle.rules.proofs.Kept.{step-good}
-use Rattle.rules.proofs.Lengths.{length-applied}
 use Rattle.rules.proofs.Marks.{hit, around-here, length-guards, length-others, guard-at, open-at}
 use Rattle.repaint.specs.Bytes.{powerOnAt, Leads, end, byte, AcceptsBytes}
-use Rattle.repaint.specs.Proposal.{Stretch, stretch, endsRow, lengthened, differing, shownAs, attributeCode, cellBytes, cellsBytes, lastShown, startBytes, stretchBytes, stretchesBytes, isText, allText, served, stretches, paintBytes}
+use Rattle.repaint.specs.Proposal.{Stretch, stretch, endsRow, lengthened, differing, shownAs, attributeCode, cellBytes, cellsBytes, lastShown, startBytes, stretchBytes, stretchesBytes, isText, allText, served, paintBytes}
 use Rattle.repaint.specs.Theorems.{Served}
 use Rattle.repaint.proofs.Leading.{on-good}
 

@@ -2,21 +2,20 @@
 --     proposing, power-ons     the statements of specs/Theorems
 -- Assumes nothing.
 use mathlib.Core.Path.{_≡_, refl, sym, ap, subst, _∙_}
-use mathlib.Core.Bool.{Bool, true, false, not, false≢true}
-use mathlib.Core.List.{List, [], _∷_, _++_, map}
+use mathlib.Core.Bool.{Bool, true, false, not}
+use mathlib.Core.List.{List, [], _∷_, _++_}
 use mathlib.Core.Logic.{_⊎_, inl, inr}
-use Prim.Native.Nat.{ℕ, zero, suc, _+_, _-_, _*_, _<_, _≤_}
+use Prim.Native.Nat.{ℕ, zero, suc, _+_, _-_, _≤_}
 use native.Mathlib.Omega.{arith}
 use lib.Dec.{eqb, leb}
-use lib.ListN.{length, getD, take, drop, replicate, length-replicate}
+use lib.ListN.{length, take, drop, replicate, length-replicate}
 use lib.Seq.{sets, sets-eq, length-sets, take-at}
 use borrow.Author.Tests.{leb-true, eq-eqb, le-leb}
 use Rattle.rules.specs.declared.Personality.{Personality}
-use Rattle.rules.specs.declared.State.{State}
 use Rattle.rules.specs.Cell.{pick, both, either}
 use Rattle.rules.specs.Row.{columns, columnOf, wideCells}
 use Rattle.rules.specs.Search.{guardedAt, settled}
-use Rattle.rules.specs.State.{segmentTop, segmentBottom, withCursor, sends}
+use Rattle.rules.specs.State.{segmentTop, segmentBottom, withCursor}
 use Rattle.rules.specs.Possible.{powerOn, blank, good}
 use Rattle.rules.specs.Room.{over}
 use Rattle.rules.specs.Fields.{pageWidth, isPage}
@@ -26,11 +25,10 @@ use Rattle.rules.proofs.Tests.{both-parts, both-true, either-way}
 use Rattle.rules.proofs.Marks.{length-guards, guard-at}
 use Rattle.rules.proofs.Kept.{good-whole, powerOn-possible}
 use Rattle.rules.proofs.Convert.{converts, converted-length}
-use Rattle.repaint.specs.declared.Span.{Span}
 use Rattle.repaint.specs.Spans.{Accepts, Pages}
 use Rattle.repaint.specs.Pass.{pagesWidth}
 use Rattle.repaint.specs.Bytes.{powerOnAt}
-use Rattle.repaint.specs.Proposal.{Stretch, differing, stretches, paintBytes, allText, served, Proposed, refusedWith, fitting, rowsOf, columnsOf, lengthsOf, proposeRule, Proposes}
+use Rattle.repaint.specs.Proposal.{differing, stretches, paintBytes, served, Proposed, refusedWith, fitting, rowsOf, columnsOf, lengthsOf, proposeRule, Proposes}
 use Rattle.repaint.specs.Forward.{Put, SpansPut, Holding}
 use Rattle.repaint.specs.declared.ProposeResult.{ProposeResult}
 use Rattle.repaint.specs.Theorems.{spansFor, Served, Proposing, PowerOns}

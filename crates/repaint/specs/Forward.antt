@@ -1,6 +1,6 @@
 -- The stretches read forwards, as the proposer's loop finds them. Only proofs and the contracts of inner functions name these.
 use mathlib.Core.Path.{_≡_}
-use mathlib.Core.List.{List, [], _∷_, _++_}
+use mathlib.Core.List.{List, [], _∷_}
 use Prim.Native.Nat.{ℕ, suc, _+_, _≤_}
 use lib.Dec.{eqb}
 use lib.ListN.{length, take, drop}

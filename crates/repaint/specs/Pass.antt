@@ -1,6 +1,6 @@
 -- The one pass over the pages by which the judge of spans finds its answer. Only proofs and the contracts of inner functions name it; that it finds
 -- the verdict of Spans.antt is proved.
-use mathlib.Core.Bool.{Bool, true, false}
+use mathlib.Core.Bool.{Bool, true}
 use mathlib.Core.List.{List, [], _∷_}
 use Prim.Native.Nat.{ℕ, zero, suc, _+_, _-_}
 use lib.Dec.{leb, eqb}

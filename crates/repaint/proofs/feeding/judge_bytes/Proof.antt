@@ -1,9 +1,7 @@
 -- `repaint::feeding::judge_bytes` meets its contract.
-use mathlib.Core.Path.{refl, sym, _∙_}
 use native.Mathlib.Omega.{arith}
 use denote.Ref.{now}
 use borrow.Author.Needs.{needs}
-use lib.ListN.{length, length-take}
 use Rattle.repaint.specs.Bytes.{BytesVerdict}
 use Rattle.repaint.proofs.Leading.{pages-at, no-pages, taken-verdict, left-verdict}
 use Rattle.repaint.proofs.feeding.judge_bytes.Statement.{statement}

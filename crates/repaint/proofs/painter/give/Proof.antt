@@ -5,87 +5,66 @@ use Rattle.repaint.proofs.Proposing.{over-part}
 use Rattle.repaint.proofs.painter.give.Statement.{statement}
 use Rattle.repaint.proofs.painter.give.Tie as tie
 
--- src/painter.rt:280:16
 sub-copy-cells : tie.Need-sub-copy-cells
 sub-copy-cells c = search needs
 
--- src/painter.rt:280:16
 part-copy-cells-start : tie.Need-part-copy-cells-start
 part-copy-cells-start c = search needs
 
--- src/painter.rt:280:16
 part-copy-cells-end : tie.Need-part-copy-cells-end
 part-copy-cells-end c = search needs
 
--- src/painter.rt:280:5
 copy-cells-requires : tie.Need-copy-cells-requires
 copy-cells-requires c κs = search needs
 
--- src/painter.rt:281:16
 sub-copy-cells-2 : tie.Need-sub-copy-cells-2
 sub-copy-cells-2 c = search needs
 
--- src/painter.rt:281:16
 part-copy-cells-start-2 : tie.Need-part-copy-cells-start-2
 part-copy-cells-start-2 c = search needs
 
--- src/painter.rt:281:16
 part-copy-cells-end-2 : tie.Need-part-copy-cells-end-2
 part-copy-cells-end-2 c = search needs
 
--- src/painter.rt:281:5
 copy-cells-requires-2 : tie.Need-copy-cells-requires-2
 copy-cells-requires-2 c κs = search needs
 
--- src/painter.rt:282:16
 sub-copy-cells-3 : tie.Need-sub-copy-cells-3
 sub-copy-cells-3 c = search needs
 
--- src/painter.rt:282:16
 part-copy-cells-start-3 : tie.Need-part-copy-cells-start-3
 part-copy-cells-start-3 c = search needs
 
--- src/painter.rt:282:16
 part-copy-cells-end-3 : tie.Need-part-copy-cells-end-3
 part-copy-cells-end-3 c = search needs
 
--- src/painter.rt:282:5
 copy-cells-requires-3 : tie.Need-copy-cells-requires-3
 copy-cells-requires-3 c κs = search needs
 
--- src/painter.rt:283:16
 sub-copy-bytes : tie.Need-sub-copy-bytes
 sub-copy-bytes c = search needs
 
--- src/painter.rt:283:16
 part-copy-bytes-start : tie.Need-part-copy-bytes-start
 part-copy-bytes-start c = search needs
 
--- src/painter.rt:283:16
 part-copy-bytes-end : tie.Need-part-copy-bytes-end
 part-copy-bytes-end c = search needs
 
--- src/painter.rt:283:5
 copy-bytes-requires : tie.Need-copy-bytes-requires
 copy-bytes-requires c κs = search needs
 
--- src/painter.rt:265:1
 same-length : tie.Need-same-length
 same-length c = search needs
 
--- src/painter.rt:265:1
 same-length-2 : tie.Need-same-length-2
 same-length-2 c = search needs
 
--- src/painter.rt:265:1
 same-length-3 : tie.Need-same-length-3
 same-length-3 c = search needs
 
--- src/painter.rt:265:1
 same-length-4 : tie.Need-same-length-4
 same-length-4 c = search needs
 
--- src/painter.rt:265:1
 returns : tie.Need-returns
 returns c =
     let x = c .before .before .before .before .before .before .before .before .before .before .before .before .before .before .before .before .before .before .before .before .before .before .before .before .before .before .before .before .args in (

@@ -1,5 +1,5 @@
 -- `repaint::painter::has_room` meets its contract.
-use mathlib.Core.Path.{ap, ap₂, _∙_}
+use mathlib.Core.Path.{ap, _∙_}
 use mathlib.Core.Bool.{Bool}
 use lib.Dec.{leb}
 use borrow.Author.Needs.{needs}

@@ -2,7 +2,6 @@
 use mathlib.Core.Path.{sym, _∙_}
 use native.Mathlib.Omega.{arith}
 use denote.Ref.{now}
-use borrow.Author.Needs.{needs}
 use borrow.Author.Tests.{not-true, not-false}
 use Rattle.repaint.proofs.Forwards.{served-from, served-to, served-shown, served-wanted, served-last}
 use Rattle.repaint.proofs.painter.is_served.Statement.{statement}

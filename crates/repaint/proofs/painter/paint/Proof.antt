@@ -2,7 +2,6 @@
 use Prim.Native.Nat.{_-_}
 use native.Mathlib.Omega.{arith}
 use denote.Ref.{now}
-use borrow.Author.Needs.{needs}
 use Rattle.repaint.proofs.Forwards.{Going, going-begin, end-range, nearer, span-fits, span-few, bytes-fit, going-on, going-done}
 use Rattle.repaint.proofs.painter.paint.Statement.{statement}
 use Rattle.repaint.proofs.painter.paint.Tie as tie

@@ -16,56 +16,45 @@ Inv-loop a b at i₀ i = (at ≤ i) × ((i ≤ 1920) × (i + reach i (drop i a) 
 abbrev μ-loop : tie.MeasureT-loop
 μ-loop a b at i₀ i = 1920 - i
 
--- src/lib.rt:13:5
 loop-holds : tie.Need-loop-holds Inv-loop μ-loop
 loop-holds c = (omega arith, (c .pre .1 .1, refl))
 
--- src/lib.rt:14:12
 mul-if1 : tie.Need-mul-if1 Inv-loop μ-loop
 mul-if1 c = search needs
 
--- src/lib.rt:14:12
 shared-slice-read-if1 : tie.Need-shared-slice-read-if1 Inv-loop μ-loop
 shared-slice-read-if1 c = search needs
 
--- src/lib.rt:14:20
 mul-if1-2 : tie.Need-mul-if1-2 Inv-loop μ-loop
 mul-if1-2 c = search needs
 
--- src/lib.rt:14:20
 shared-slice-read-if1-2 : tie.Need-shared-slice-read-if1-2 Inv-loop μ-loop
 shared-slice-read-if1-2 c = search needs
 
--- src/lib.rt:15:13
 returns : tie.Need-returns Inv-loop μ-loop
 returns c =
     let l = c .before .before .before .before .loop in
     let s = c .before .before .before .before .before .pre in
     omega (arith, l .inv .1 .1, reach-stop (now (c .before .before .before .before .before .args .before)) (now (c .before .before .before .before .before .args .after)) (l .i) (s .0 ∙ sym (s .1 .0)) (omega (arith, s .0)) (c .if1 .taken))
 
--- src/lib.rt:17:9
 add-i : tie.Need-add-i Inv-loop μ-loop
 add-i c = search needs
 
--- src/lib.rt:19:13
 returns-2 : tie.Need-returns-2 Inv-loop μ-loop
 returns-2 c =
     let l = c .before .before .before .before .before .loop in
     let s = c .before .before .before .before .before .before .pre in
     omega (arith, l .inv .1 .1, reach-turn (now (c .before .before .before .before .before .before .args .before)) (now (c .before .before .before .before .before .before .args .after)) (l .i) (s .0 ∙ sym (s .1 .0)) (omega (arith, s .0)) (c .before .if1 .left) (c .if2 .taken))
 
--- src/lib.rt:13:5
 loop-less : tie.Need-loop-less Inv-loop μ-loop
 loop-less c = search needs
 
--- src/lib.rt:13:5
 loop-again : tie.Need-loop-again Inv-loop μ-loop
 loop-again c =
     let l = c .before .before .before .before .before .loop in
     let s = c .before .before .before .before .before .before .pre in
     (omega arith, (omega arith, omega (arith, l .inv .1 .1, reach-go (now (c .before .before .before .before .before .before .args .before)) (now (c .before .before .before .before .before .before .args .after)) (l .i) (s .0 ∙ sym (s .1 .0)) (omega (arith, s .0)) (c .before .if1 .left) (c .if2 .left))))
 
--- src/lib.rt:8:1
 returns-3 : tie.Need-returns-3 Inv-loop μ-loop
 returns-3 c =
     let l = c .before .loop in
