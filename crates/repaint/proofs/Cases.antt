@@ -16,9 +16,11 @@ use Rattle.rules.specs.Step.{obeyed, innerRule, stepInside, stepRule}
 use Rattle.rules.specs.Calls.{joined, repeated, runRule}
 use Rattle.rules.specs.Room.{over}
 use Rattle.rules.specs.Fields.{pageWidth}
+use Rattle.repaint.specs.Pass.{pagesWidth, alike, equal, fits, turned, passed, finished}
 use Rattle.repaint.specs.Bytes.{powerOnAt, clean, paints}
 use Rattle.repaint.specs.Proposal.{lengthened, differing, attributeCode, cellBytes, cellsBytes, lastShown, startBytes, stretchBytes, stretchesBytes, isText, allText, served, proposeRule}
-use Rattle.repaint.specs.Cases.{WorkedProposals, WorkedBytes}
+use Rattle.repaint.specs.Cases.{WorkedProposals, WorkedBytes, shown, reversed, spaces, WorkedSpans}
+use Rattle.repaint.proofs.Verdicts.{verdict}
 
 pub worked-proposals : WorkedProposals
 unfolding rememberedOk over pageWidth lengthened differing attributeCode cellBytes cellsBytes lastShown startBytes stretchBytes stretchesBytes isText allText
@@ -57,3 +59,24 @@ worked-bytes = record {
   under-way = refl;
   on-wide = refl;
 }
+
+pub worked-spans : WorkedSpans
+unfolding pageWidth pagesWidth alike equal fits turned passed finished
+worked-spans = record {
+  proposed = verdict shown reversed _;
+  touching = verdict shown reversed _;
+  over-row-end = verdict shown reversed _;
+  overlapping = verdict shown reversed _;
+  out-of-order = verdict shown reversed _;
+  uncovered = verdict shown reversed _;
+  last-uncovered = verdict shown reversed _;
+  no-spans = verdict shown reversed _;
+  empty = verdict shown reversed _;
+  row-0 = verdict shown reversed _;
+  row-25 = verdict shown reversed _;
+  column-0 = verdict shown reversed _;
+  largest = verdict shown reversed _;
+  unlike-lengths = verdict shown (spaces 1919) _;
+  wrong-lengths = verdict (spaces 1921) (spaces 1921) _;
+}
+

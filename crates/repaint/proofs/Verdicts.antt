@@ -264,7 +264,7 @@ module _ (a b : List ℕ) (ss : List Span) where
   by-answer p (inl t) = rw (← finish-accepted a b (passed a b 0 ss) (some-width p) t) (SpansVerdict.accepted (pagesWidth a b) p (accepts-of a b p ss t))
   by-answer p (inr t) = rw (← finish-refused a b (passed a b 0 ss) (some-width p) t) (SpansVerdict.refused (pagesWidth a b) p (λ x. false≢true (sym t ∙ of-accepts a b p ss x)))
 
-  verdict : SpansVerdict a b ss (finished a b (passed a b 0 ss))
+  pub verdict : SpansVerdict a b ss (finished a b (passed a b 0 ss))
   verdict = by-width (widths a b)
     where
       by-width : ((pagesWidth a b ≡ 0) × ((w : ℕ) → Pages w a b → ⊥)) ⊎ Pages (pagesWidth a b) a b → SpansVerdict a b ss (finished a b (passed a b 0 ss))

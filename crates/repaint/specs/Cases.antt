@@ -5,6 +5,10 @@ use mathlib.Core.List.{List, [], _∷_, _++_}
 use Prim.Native.Nat.{ℕ}
 use lib.ListN.{replicate}
 use Rattle.rules.specs.declared.Personality.the-variants as Personality
+use Rattle.repaint.specs.declared.Span.{Span}
+use Rattle.repaint.specs.declared.Verdict.{Verdict}
+use Rattle.repaint.specs.declared.Verdict.the-variants as Verdict
+use Rattle.repaint.specs.Spans.{SpansVerdict}
 use Rattle.repaint.specs.Bytes.{paints}
 use Rattle.repaint.specs.Proposal.{Proposed, refusedWith, proposeRule}
 
@@ -84,3 +88,25 @@ pub record WorkedBytes : Type 0 where
   pub under-way : paints Personality.Wy50 false shown over-row (row-bytes ++ 0x1b ∷ 0x3d ∷ []) ≡ true
   -- a wide page: the terminal is wide
   pub on-wide : paints Personality.Wy60 true (spaces 3168) (spaces 131 ++ 0x41 ∷ spaces 3036) (0x1b ∷ 0x61 ∷ 0x31 ∷ 0x52 ∷ 0x31 ∷ 0x33 ∷ 0x32 ∷ 0x43 ∷ 0x41 ∷ []) ≡ true
+
+-- the judge of spans, from all spaces to the page with attributes: it differs in the cells 0, 1, 3, 4 and 80
+abbrev pub span : ℕ → ℕ → ℕ → Span
+span row column length = record { row = row; column = column; length = length }
+
+pub record WorkedSpans : Type 0 where
+  pub proposed : SpansVerdict shown reversed (span 1 1 2 ∷ span 1 4 2 ∷ span 2 1 1 ∷ []) Verdict.Accepted
+  -- they may touch, and cover equal cells
+  pub touching : SpansVerdict shown reversed (span 1 1 3 ∷ span 1 4 77 ∷ span 2 1 80 ∷ []) Verdict.Accepted
+  pub over-row-end : SpansVerdict shown reversed (span 1 1 81 ∷ []) Verdict.NotAccepted
+  pub overlapping : SpansVerdict shown reversed (span 1 1 2 ∷ span 1 2 4 ∷ span 2 1 1 ∷ []) Verdict.NotAccepted
+  pub out-of-order : SpansVerdict shown reversed (span 1 4 2 ∷ span 1 1 2 ∷ span 2 1 1 ∷ []) Verdict.NotAccepted
+  pub uncovered : SpansVerdict shown reversed (span 1 1 2 ∷ span 1 5 1 ∷ span 2 1 1 ∷ []) Verdict.NotAccepted
+  pub last-uncovered : SpansVerdict shown reversed (span 1 1 5 ∷ []) Verdict.NotAccepted
+  pub no-spans : SpansVerdict shown reversed [] Verdict.NotAccepted
+  pub empty : SpansVerdict shown reversed (span 1 1 0 ∷ span 1 1 5 ∷ span 2 1 1 ∷ []) Verdict.NotAccepted
+  pub row-0 : SpansVerdict shown reversed (span 0 1 5 ∷ []) Verdict.NotAccepted
+  pub row-25 : SpansVerdict shown reversed (span 1 1 5 ∷ span 2 1 1 ∷ span 25 1 1 ∷ []) Verdict.NotAccepted
+  pub column-0 : SpansVerdict shown reversed (span 1 0 6 ∷ span 2 1 1 ∷ []) Verdict.NotAccepted
+  pub largest : SpansVerdict shown reversed (span 65535 65535 65535 ∷ []) Verdict.NotAccepted
+  pub unlike-lengths : SpansVerdict shown (spaces 1919) [] Verdict.WrongLength
+  pub wrong-lengths : SpansVerdict (spaces 1921) (spaces 1921) [] Verdict.WrongLength
