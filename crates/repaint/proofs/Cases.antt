@@ -19,7 +19,7 @@ use Rattle.rules.specs.Fields.{pageWidth}
 use Rattle.repaint.specs.Pass.{pagesWidth, alike, equal, fits, turned, passed, finished}
 use Rattle.repaint.specs.Bytes.{powerOnAt, clean, paints}
 use Rattle.repaint.specs.Proposal.{lengthened, differing, attributeCode, cellBytes, cellsBytes, lastShown, startBytes, stretchBytes, stretchesBytes, isText, allText, served, proposeRule}
-use Rattle.repaint.specs.Cases.{WorkedProposals, WorkedBytes, shown, reversed, spaces, WorkedSpans}
+use Rattle.repaint.specs.Cases.{WorkedProposals, WorkedBytes, shown, reversed, spaces, rowsFrom, WorkedSpans}
 use Rattle.repaint.proofs.Verdicts.{verdict}
 
 pub worked-proposals : WorkedProposals
@@ -61,9 +61,8 @@ worked-bytes = record {
 }
 
 pub worked-spans : WorkedSpans
-unfolding pageWidth pagesWidth alike equal fits turned passed finished
+unfolding rowsFrom pageWidth pagesWidth alike equal fits turned passed finished
 worked-spans = record {
-  proposed = verdict shown reversed _;
   touching = verdict shown reversed _;
   over-row-end = verdict shown reversed _;
   overlapping = verdict shown reversed _;
@@ -79,4 +78,3 @@ worked-spans = record {
   unlike-lengths = verdict shown (spaces 1919) _;
   wrong-lengths = verdict (spaces 1921) (spaces 1921) _;
 }
-

@@ -2,7 +2,7 @@
 use mathlib.Core.Path.{_≡_}
 use mathlib.Core.Bool.{true, false}
 use mathlib.Core.List.{List, [], _∷_, _++_}
-use Prim.Native.Nat.{ℕ}
+use Prim.Native.Nat.{ℕ, zero, suc}
 use lib.ListN.{replicate}
 use Rattle.rules.specs.declared.Personality.the-variants as Personality
 use Rattle.repaint.specs.declared.Span.{Span}
@@ -93,10 +93,14 @@ pub record WorkedBytes : Type 0 where
 abbrev pub span : ℕ → ℕ → ℕ → Span
 span row column length = record { row = row; column = column; length = length }
 
+-- n rows from one on, each a span
+unfoldable pub rowsFrom : ℕ → ℕ → List Span
+rowsFrom r zero = []
+rowsFrom r (suc n) = span r 1 80 ∷ rowsFrom (suc r) n
+
 pub record WorkedSpans : Type 0 where
-  pub proposed : SpansVerdict shown reversed (span 1 1 2 ∷ span 1 4 2 ∷ span 2 1 1 ∷ []) Verdict.Accepted
   -- they may touch, and cover equal cells
-  pub touching : SpansVerdict shown reversed (span 1 1 3 ∷ span 1 4 77 ∷ span 2 1 80 ∷ []) Verdict.Accepted
+  pub touching : SpansVerdict shown reversed (rowsFrom 1 24) Verdict.Accepted
   pub over-row-end : SpansVerdict shown reversed (span 1 1 81 ∷ []) Verdict.NotAccepted
   pub overlapping : SpansVerdict shown reversed (span 1 1 2 ∷ span 1 2 4 ∷ span 2 1 1 ∷ []) Verdict.NotAccepted
   pub out-of-order : SpansVerdict shown reversed (span 1 4 2 ∷ span 1 1 2 ∷ span 2 1 1 ∷ []) Verdict.NotAccepted
