@@ -11,6 +11,7 @@ mod narrow;
 mod personalities;
 mod possible;
 mod protection;
+mod repainting;
 mod rows;
 mod sends;
 mod setups;
@@ -49,5 +50,6 @@ pub fn script() -> Vec<u8> {
     book.widths();
     book.wide_pages();
     book.mending();
+    book.repainting();
     book.text
 }

@@ -6,6 +6,7 @@ mod excursions;
 mod mending;
 mod personalities;
 mod phrases;
+mod repainting;
 mod rows;
 mod scenes;
 mod sends;
@@ -120,9 +121,10 @@ impl Generator {
         if self.random.once_in(30) {
             return self.setup_call();
         }
-        if self.random.once_in(45) && !self.avoids_excluded {
-            return match self.random.below(4) {
+        if self.random.once_in(30) && !self.avoids_excluded {
+            return match self.random.below(6) {
                 0 => self.mend(),
+                1 | 2 => self.repaint(),
                 _ => self.convert(),
             };
         }

@@ -4,6 +4,7 @@ mod counter;
 mod mending;
 mod narrow;
 mod personalities;
+mod repainting;
 mod rows;
 mod sends;
 mod setups;
@@ -258,6 +259,9 @@ fn bad_lines_are_named() {
         ("save\nrestore 65535\nrestore 65536\n", 3),
         ("tab 131 1\ntab 132 1\n", 2),
         ("wide 1\nsending 1b37:u132\nsending 1b37:u80\n", 3),
+        ("spans -\nspans 1:2:3,0:0:65535\nspans 1:2\n", 3),
+        ("bytes 60 -\nbytes 1b\n", 2),
+        ("display\npropose 50 0 0\npropose 50 0\n", 3),
         ("length 9\nnoise 1 127 64\nconvert 4000\nconvert 4001\n", 4),
         ("mend 60 4000\nmend 50 4001\n", 2),
         ("mend 50 0\nmend 55 0\n", 2),

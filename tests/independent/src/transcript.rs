@@ -6,6 +6,7 @@ mod line;
 mod replay;
 mod set;
 mod state;
+mod tools;
 mod words;
 mod write;
 
@@ -17,6 +18,7 @@ use std::io::{self, BufRead, Write};
 pub use write::push_number;
 
 const WIDEST_ROOM: usize = 4000;
+const ROOM_FILLER: u8 = 0xEE;
 
 /// The trace of a whole script, or none if a line is bad.
 pub fn trace(script: &[Line]) -> Option<Vec<u8>> {

@@ -33,6 +33,14 @@ impl Flags {
         }
     }
 
+    /// The attribute code that names these.
+    pub fn code(self) -> u8 {
+        match self.0 & Flags::DIM {
+            0 => 0x30 + self.0,
+            _ => 0x70 + self.0 - Flags::DIM,
+        }
+    }
+
     /// Whether a personality can remember these. No code names dim with all others.
     pub fn can_be_remembered(self, personality: Personality) -> bool {
         match personality {

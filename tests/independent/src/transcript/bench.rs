@@ -5,7 +5,7 @@ use super::set::set;
 use super::WIDEST_ROOM;
 use crate::mending::{mend, Mended, ENTRY_NUMBERS};
 use crate::setups::{self, STORE};
-use crate::state::{Cell, Personality};
+use crate::state::{Cell, Personality, CELLS};
 use crate::terminal::{Outcome, Terminal, ROW_NUMBERS};
 
 pub const NUMBER_FILLER: u16 = 0xEEEE;
@@ -18,6 +18,8 @@ pub struct Bench {
     pub rows: Vec<u16>,
     /// The store of set-ups, right or wrong.
     pub store: Vec<u8>,
+    /// The page that the distant display shows.
+    pub display: Vec<Cell>,
 }
 
 impl Bench {
@@ -26,6 +28,7 @@ impl Bench {
             terminal: Terminal::new(),
             rows: vec![0; ROW_NUMBERS],
             store: vec![0; STORE],
+            display: vec![Cell::NULL; CELLS],
         }
     }
 
@@ -56,6 +59,7 @@ impl Bench {
             terminal,
             rows,
             store,
+            ..
         } = self;
         let mut widest = [0; WIDEST_ROOM];
         let taken = match line {

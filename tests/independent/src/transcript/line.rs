@@ -3,6 +3,7 @@
 mod parse;
 mod spell;
 
+use crate::repainting::Span;
 use crate::state::{Personality, Sending};
 
 /// One line of a script.
@@ -70,6 +71,7 @@ pub enum Line {
     Sending(Option<Sending>),
     Wide(bool),
     Wish(bool),
+    Display,
     Store(usize),
     Byte {
         index: usize,
@@ -112,6 +114,17 @@ pub enum Line {
         personality: Personality,
         entries: usize,
     },
+    Spans(Vec<Span>),
+    Bytes {
+        personality: Personality,
+        bytes: Vec<u8>,
+    },
+    /// With rooms for so many spans and bytes.
+    Propose {
+        personality: Personality,
+        spans: usize,
+        bytes: usize,
+    },
 }
 
 impl Line {
@@ -133,6 +146,9 @@ impl Line {
                 | Line::Restore(_)
                 | Line::Convert(_)
                 | Line::Mend { .. }
+                | Line::Spans(_)
+                | Line::Bytes { .. }
+                | Line::Propose { .. }
         )
     }
 
@@ -151,6 +167,7 @@ impl Line {
             Line::Run { bytes, .. } | Line::ListRun { bytes, .. } => Some(bytes),
             Line::Count { reply, .. } => Some(reply),
             Line::Entry(text) => Some(text),
+            Line::Bytes { bytes, .. } => Some(bytes),
             _ => None,
         }
     }

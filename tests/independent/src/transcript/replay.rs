@@ -1,19 +1,16 @@
 //! The calls, and the trace that they leave.
 
-use super::bench::{Bench, NUMBER_FILLER};
+use super::bench::Bench;
 use super::digest::{bytes_digest, PageDigest};
 use super::line::Line;
 use super::set::set;
 use super::state::write_state;
 use super::write::*;
-use super::WIDEST_ROOM;
+use super::{ROOM_FILLER, WIDEST_ROOM};
 use crate::counter::{write_count, write_entry};
-use crate::mending::{Mended, ENTRY_NUMBERS};
 use crate::setups::{self, Unkept};
 use crate::state::Personality;
 use crate::terminal::{answer_number, Outcome, Run, Step};
-
-const ROOM_FILLER: u8 = 0xEE;
 
 /// A terminal that obeys script lines and writes the trace.
 pub struct Replay {
@@ -52,7 +49,17 @@ impl Replay {
             Line::Mend {
                 personality,
                 entries,
-            } => self.mend(*personality, *entries, out),
+            } => self.bench.trace_mend(*personality, *entries, out),
+            Line::Spans(spans) => self.bench.trace_spans(spans, out),
+            Line::Bytes { personality, bytes } => self.bench.trace_bytes(*personality, bytes, out),
+            Line::Propose {
+                personality,
+                spans,
+                bytes,
+            } => {
+                let bench = &self.bench;
+                bench.trace_proposal(*personality, *spans, *bytes, out);
+            }
             Line::Save => self.save(out),
             Line::Restore(number) => self.restore(*number, out),
             Line::Count { reply, first, last } => {
@@ -129,21 +136,6 @@ impl Replay {
         push_flag(out, is_as_it_was);
         out.extend_from_slice(b" target=");
         push_digest(out, PageDigest::new().of(&target));
-    }
-
-    fn mend(&mut self, personality: Personality, entries: usize, out: &mut Vec<u8>) {
-        let (mended, list) = self.bench.mend(personality, entries);
-        let Mended { answer, needed } = mended;
-        out.extend_from_slice(b" mend answer=");
-        push_number(out, answer as usize);
-        out.extend_from_slice(b" needed=");
-        push_number(out, needed);
-        let written = if answer == 0 { needed } else { 0 };
-        let (entries, beyond) = list.split_at(written * ENTRY_NUMBERS);
-        out.extend_from_slice(b" entries=");
-        push_groups(out, entries, ENTRY_NUMBERS);
-        out.extend_from_slice(b" beyond=");
-        push_flag(out, beyond.iter().all(|&number| number == NUMBER_FILLER));
     }
 
     fn save(&mut self, out: &mut Vec<u8>) {

@@ -16,6 +16,7 @@ pub fn set(bench: &mut Bench, line: &Line) -> bool {
         terminal,
         rows,
         store,
+        display,
     } = bench;
     let Terminal { page, state } = terminal;
     match line {
@@ -52,6 +53,7 @@ pub fn set(bench: &mut Bench, line: &Line) -> bool {
         Line::Message(bytes) => state.message = Text::holding(bytes),
         Line::Label { label, bytes } => state.labels[*label] = Text::holding(bytes),
         Line::Shifted(on) => state.shifted = *on,
+        Line::Display => display.clone_from(page),
         Line::Store(count) => *store = vec![0; *count],
         Line::Byte { index, value } => match store.get_mut(*index) {
             Some(byte) => *byte = *value,

@@ -1,12 +1,13 @@
 //! The lines of a script, read.
 
 use super::Line;
+use crate::repainting::Span;
 use crate::state::{Personality, KEYS, LABELS, WIDEST};
 use crate::transcript::words::*;
 
 const LONGEST_PAGE: usize = 4000;
 const LONGEST_LIST: usize = 4000;
-const LONGEST_STORE: usize = 20000;
+const LONGEST_STORE: usize = 16384;
 
 impl Line {
     pub fn parse(text: &str) -> Option<Line> {
@@ -71,6 +72,7 @@ impl Line {
             "sending" => Line::Sending(sending(words.next()?)?),
             "wide" => Line::Wide(flag(words.next()?)?),
             "wish" => Line::Wish(flag(words.next()?)?),
+            "display" => Line::Display,
             "store" => Line::Store(number(words.next()?, LONGEST_STORE)?),
             "byte" => Line::Byte {
                 index: number(words.next()?, LONGEST_STORE)?,
@@ -100,6 +102,16 @@ impl Line {
                 personality: personality(words.next()?)?,
                 entries: number(words.next()?, LONGEST_LIST)?,
             },
+            "spans" => Line::Spans(spans(words.next()?)?),
+            "bytes" => Line::Bytes {
+                personality: personality(words.next()?)?,
+                bytes: hex(words.next()?)?,
+            },
+            "propose" => Line::Propose {
+                personality: personality(words.next()?)?,
+                spans: number(words.next()?, LONGEST_LIST)?,
+                bytes: number(words.next()?, LONGEST_STORE)?,
+            },
             "rebuild" => Line::Rebuild,
             "liststep" => Line::ListStep {
                 byte: hex_byte(words.next()?)?,
@@ -125,6 +137,25 @@ fn personality(word: &str) -> Option<Personality> {
     [Personality::Wy50, Personality::Wy60]
         .into_iter()
         .find(|personality| personality.digits() == word)
+}
+
+fn spans(word: &str) -> Option<Vec<Span>> {
+    if word == "-" {
+        return Some(vec![]);
+    }
+    word.split(',').map(span).collect()
+}
+
+fn span(word: &str) -> Option<Span> {
+    let mut numbers = word
+        .split(':')
+        .map(|word| Some(number(word, 0xFFFF)? as u16));
+    let span = Span {
+        row: numbers.next()??,
+        column: numbers.next()??,
+        length: numbers.next()??,
+    };
+    numbers.next().is_none().then_some(span)
 }
 
 fn pending(word: &str) -> Option<Line> {

@@ -1,6 +1,7 @@
 //! The lines of a script, written.
 
 use super::Line;
+use crate::transcript::tools::push_spans;
 use crate::transcript::write::*;
 
 impl Line {
@@ -53,6 +54,7 @@ impl Line {
             }
             Line::Wide(on) => word(out, &format!("wide {}", *on as u8)),
             Line::Wish(on) => word(out, &format!("wish {}", *on as u8)),
+            Line::Display => word(out, "display"),
             Line::Store(count) => word(out, &format!("store {count}")),
             Line::Byte { index, value } => word(out, &format!("byte {index} {value}")),
             Line::On(None) => word(out, "on"),
@@ -77,6 +79,22 @@ impl Line {
                 personality,
                 entries,
             } => word(out, &format!("mend {} {entries}", personality.digits())),
+            Line::Spans(spans) => {
+                word(out, "spans ");
+                push_spans(out, spans);
+            }
+            Line::Bytes { personality, bytes } => {
+                word(out, &format!("bytes {} ", personality.digits()));
+                push_bytes(out, bytes);
+            }
+            Line::Propose {
+                personality,
+                spans,
+                bytes,
+            } => word(
+                out,
+                &format!("propose {} {spans} {bytes}", personality.digits()),
+            ),
             Line::Rebuild => word(out, "rebuild"),
             Line::ListStep { byte, room } => word(out, &format!("liststep {byte:02x} {room}")),
             Line::ListRun { bytes, room } => {
