@@ -6,7 +6,9 @@ mod Next
 mod SavedCalls
 mod ConvertCalls
 mod MendCalls
+mod RepaintCalls
 pub mod RoundTrip
 pub mod Kept
 pub mod Noninterference
 pub mod RowNoninterference
+pub mod Repainting

@@ -6,3 +6,4 @@ pub mod RowNoninterference
 pub mod Saved
 pub mod Converting
 pub mod Mending
+pub mod Repainting

@@ -5,6 +5,7 @@ mod pack; // the numbers of a state
 mod setups; // the numbers of what a save and a restore answer
 mod unpack; // the state that numbers name
 pub mod reading; // fields, texts and places of a page
+pub mod display; // repainting a distant display
 
 ghost use mathlib.Core.Path.{_≡_};
 ghost use lib.ListN.{length};

@@ -1,0 +1,104 @@
+-- What the exported calls of repainting promise (document 02, A12): those of the crate `repaint`, for the personality that the number names. Another
+-- number answers 7. Spans go out as a flat list of numbers, three for each.
+use mathlib.Core.Path.{_≡_}
+use mathlib.Core.Bool.{Bool, true, false}
+use mathlib.Core.List.{List, [], _∷_, _++_}
+use Prim.Native.Nat.{ℕ, _*_, _≤_}
+use lib.Dec.{leb, eqb}
+use lib.ListN.{length, take}
+use Rattle.rules.specs.declared.Personality.{Personality}
+use Rattle.rules.specs.Cell.{pick, both}
+use Rattle.rules.specs.Room.{over}
+use Rattle.rules.specs.Fields.{isPage}
+use Rattle.repaint.specs.declared.ProposeResult.{ProposeResult}
+use Rattle.repaint.specs.declared.Span.{Span}
+use Rattle.repaint.specs.declared.Verdict.{Verdict}
+use Rattle.repaint.specs.Spans.{number, SpansVerdict}
+use Rattle.repaint.specs.Bytes.{BytesVerdict}
+use Rattle.repaint.specs.Proposal.{paintBytes, served}
+use Rattle.repaint.specs.Theorems.{spansFor}
+use Rattle.wy50.specs.Raw.{isPersonality, personalityAt}
+
+-- ---- the judges
+
+-- r is the number of the verdict on a list of spans
+abbrev pub SpansNumber : List ℕ → List ℕ → List Span → ℕ → Type 0
+SpansNumber a b spans r = (d : Verdict) × (SpansVerdict a b spans d × (r ≡ number d))
+
+-- and of that on bytes, for the personality that v names
+pub data BytesNumber (v : ℕ) (a b bytes : List ℕ) : ℕ → Type 0 where
+  named : (d : Verdict) → isPersonality v ≡ true → BytesVerdict (personalityAt v) a b bytes d → BytesNumber v a b bytes (number d)
+  unnamed : isPersonality v ≡ false → BytesNumber v a b bytes 7
+
+-- ---- the proposer
+
+-- row, column and length of each span in turn; and the spans that a list of numbers holds
+unfoldable pub spanNumbers : List Span → List ℕ
+spanNumbers [] = []
+spanNumbers (s ∷ l) = s .row ∷ s .column ∷ s .length ∷ spanNumbers l
+
+unfoldable pub spansIn : List ℕ → List Span
+spansIn [] = []
+spansIn (r ∷ []) = []
+spansIn (r ∷ c ∷ []) = []
+spansIn (r ∷ c ∷ n ∷ l) = record { row = r; column = c; length = n } ∷ spansIn l
+
+-- the answer, how many spans and bytes there are, and the two lent lists
+pub record RawProposed : Type 0 where
+  pub answer : ℕ
+  pub spans : ℕ
+  pub bytes : ℕ
+  pub numbers : List ℕ
+  pub out : List ℕ
+
+abbrev pub unproposed : ℕ → List ℕ → List ℕ → RawProposed
+unproposed n numbers out = record { answer = n; spans = 0; bytes = 0; numbers = numbers; out = out }
+
+abbrev pub proposed : List Span → List ℕ → List ℕ → List ℕ → RawProposed
+proposed spans bytes numbers out = record {
+  answer = 0;
+  spans = length spans;
+  bytes = length bytes;
+  numbers = over (spanNumbers spans) numbers;
+  out = over bytes out;
+}
+
+-- "in the order 7, 3, 6, nothing written"
+unfoldable pub numbersRule : Personality → List ℕ → List ℕ → List ℕ → List ℕ → RawProposed
+numbersRule m a b numbers out =
+    let spans = spansFor a b in
+    let bytes = paintBytes a b in
+    pick (both (eqb (length a) (length b)) (isPage (length a)))
+    (pick (served m a b)
+    (pick (both (leb (length (spanNumbers spans)) (length numbers)) (leb (length bytes) (length out))) (proposed spans bytes numbers out) (unproposed 6 numbers out))
+    (unproposed 3 numbers out)) (unproposed 7 numbers out)
+
+unfoldable pub rawPropose : ℕ → List ℕ → List ℕ → List ℕ → List ℕ → RawProposed
+rawPropose v a b numbers out = pick (isPersonality v) (numbersRule (personalityAt v) a b numbers out) (unproposed 7 numbers out)
+
+-- k is how many spans, of the 960 that there are at most, a room of n numbers holds; the call makes its spans in lists of so many
+pub record Lends (n k : ℕ) : Type 0 where
+  pub most : k ≤ 960
+  pub hold : 3 * k ≤ n
+  pub all : (i : ℕ) → i ≤ 960 → 3 * i ≤ n → i ≤ k
+
+-- what a call gives that leaves these lists
+pub record RawProposes (o : RawProposed) (r : ProposeResult) (x y : List ℕ) : Type 0 where
+  pub answer : r .answer ≡ o .answer
+  pub spans : r .spans ≡ o .spans
+  pub bytes : r .bytes ≡ o .bytes
+  pub numbers : x ≡ o .numbers
+  pub out : y ≡ o .out
+
+-- ---- the calls together, the statement: what a caller reads out of the rooms, with any rest behind it, both judges answer with 0
+pub record Repainting : Type 0 where
+  pub spans-accepted : (v : ℕ) (a b numbers out : List ℕ) → let o = rawPropose v a b numbers out in o .answer ≡ 0
+      → SpansNumber a b (take (o .spans) (spansIn (o .numbers))) 0
+  pub bytes-accepted : (v : ℕ) (a b numbers out : List ℕ) → let o = rawPropose v a b numbers out in o .answer ≡ 0
+      → BytesNumber v a b (take (o .bytes) (o .out)) 0
+  -- with room for 960 spans and 7,772 bytes nothing that is served is refused
+  pub roomy : (v : ℕ) (a b numbers out : List ℕ) → isPersonality v ≡ true → served (personalityAt v) a b ≡ true → 2880 ≤ length numbers → 7772 ≤ length out
+      → rawPropose v a b numbers out .answer ≡ 0
+  -- room beyond 960 spans changes nothing and stays as it is
+  pub beyond : (v : ℕ) (a b numbers rest out : List ℕ) → 2880 ≤ length numbers → let o = rawPropose v a b numbers out in
+      rawPropose v a b (numbers ++ rest) out ≡ record { answer = o .answer; spans = o .spans; bytes = o .bytes; numbers = o .numbers ++ rest; out = o .out }

@@ -1,0 +1,141 @@
+// Repainting a distant display, for C: the judges of spans and of bytes, and the proposer, its spans as a flat list of numbers.
+ghost use mathlib.Core.Path.{_≡_};
+ghost use Prim.Native.Nat.{_*_, _≤_};
+ghost use lib.ListN.{length, take};
+ghost use Rattle.rules.specs.Room.{over};
+ghost use Rattle.repaint.specs.Spans.{number, spansOf};
+ghost use Rattle.repaint.specs.Pass.{finished};
+ghost use Rattle.wy50.specs.Repainting.{SpansNumber, BytesNumber, spanNumbers, Lends, numbersRule, rawPropose, RawProposes};
+use crate::unpack::is_personality;
+use crate::unpack::personality_at;
+use repaint::ProposeResult;
+use repaint::Span;
+use repaint::Verdict;
+use repaint::finish;
+use repaint::judge_bytes;
+use repaint::propose;
+use repaint::turn;
+use rules::Personality;
+
+fn verdict_number(v: Verdict) -> u8
+    ensures { λ r. ⌜ r ≡ number v ⌝ }
+{
+    match v {
+        Verdict::Accepted => 0,
+        Verdict::NotAccepted => 3,
+        Verdict::WrongLength => 7,
+    }
+}
+
+fn finish_number(before: &[u16], after: &[u16], next: usize) -> u8
+    ensures { λ r. ⌜ r ≡ number (finished (now (before .entry)) (now (after .entry)) next) ⌝ }
+{
+    let v = finish(before, after, next);
+    verdict_number(v)
+}
+
+// Judges a list of spans, each taken out of it and handed to `turn`. Ruled out: one that takes one page for the other.
+#[no_mangle]
+pub extern "C" fn wy50_judge_spans(before: &[u16], after: &[u16], spans: &[Span]) -> u8
+    ensures { λ r. ⌜ SpansNumber (now (before .entry)) (now (after .entry)) (now (spans .entry)) r ⌝ }
+{
+    let mut next = 0;
+    let mut i = 0;
+    while i < spans.len() {
+        next = turn(before, after, next, spans[i]);
+        i += 1;
+    }
+    finish_number(before, after, next)
+}
+
+// Judges bytes by the terminal of a personality. Ruled out: one that takes a number that is no personality, or feeds the other one's terminal.
+#[no_mangle]
+pub extern "C" fn wy50_judge_bytes(
+    before: &[u16],
+    after: &[u16],
+    personality: u8,
+    bytes: &[u8],
+) -> u8
+    ensures { λ r. ⌜ BytesNumber personality (now (before .entry)) (now (after .entry)) (now (bytes .entry)) r ⌝ }
+{
+    if !is_personality(personality) {
+        return 7;
+    }
+    let v = judge_bytes(before, after, personality_at(personality), bytes);
+    verdict_number(v)
+}
+
+// How many spans, of the 960 that there are at most, so many numbers have room for.
+fn room_for(numbers: usize) -> usize
+    ensures { λ r. ⌜ Lends numbers r ⌝ }
+{
+    if numbers < 2880 { numbers / 3 } else { 960 }
+}
+
+// The first n spans of three lists, at the front of a list of numbers.
+fn put_spans(rows: &[u16], columns: &[u16], lengths: &[u16], n: usize, numbers: &mut [u16])
+    requires { ⌜ ((n ≤ length (now rows)) × ((n ≤ length (now columns)) × (n ≤ length (now lengths)))) × ((n ≤ 960) × (3 * n ≤ length (now numbers))) ⌝ }
+    ensures { λ r. ⌜ now (numbers .exit) ≡ over (spanNumbers (spansOf (take n (now (rows .entry))) (take n (now (columns .entry))) (take n (now (lengths .entry))))) (now (numbers .entry)) ⌝ }
+{
+    let mut i = 0;
+    while i < n {
+        numbers[3 * i] = rows[i];
+        numbers[3 * i + 1] = columns[i];
+        numbers[3 * i + 2] = lengths[i];
+        i += 1;
+    }
+}
+
+// Proposes spans into three lists that hold as many as there is room for, and then their numbers. Where it refuses there are no spans, so no number
+// is written.
+fn propose_beside(
+    before: &[u16],
+    after: &[u16],
+    personality: Personality,
+    rows: &mut [u16],
+    columns: &mut [u16],
+    lengths: &mut [u16],
+    numbers: &mut [u16],
+    bytes: &mut [u8],
+) -> ProposeResult
+    requires { ⌜ Lends (length (now numbers)) (length (now rows)) × ((length (now columns) ≡ length (now rows)) × (length (now lengths) ≡ length (now rows))) ⌝ }
+    ensures { λ r. ⌜ RawProposes (numbersRule personality (now (before .entry)) (now (after .entry)) (now (numbers .entry)) (now (bytes .entry))) r (now (numbers .exit)) (now (bytes .exit)) ⌝ }
+{
+    let t = propose(before, after, personality, rows, columns, lengths, bytes);
+    put_spans(rows, columns, lengths, t.spans as usize, numbers);
+    t
+}
+
+// Proposes spans, as numbers, and bytes. Ruled out: one that writes the columns first, takes a span more than fits, or writes numbers and then refuses.
+#[no_mangle]
+pub extern "C" fn wy50_propose_numbers(
+    before: &[u16],
+    after: &[u16],
+    personality: u8,
+    numbers: &mut [u16],
+    bytes: &mut [u8],
+) -> ProposeResult
+    ensures { λ r. ⌜ RawProposes (rawPropose personality (now (before .entry)) (now (after .entry)) (now (numbers .entry)) (now (bytes .entry))) r (now (numbers .exit)) (now (bytes .exit)) ⌝ }
+{
+    if !is_personality(personality) {
+        return ProposeResult {
+            answer: 7,
+            spans: 0,
+            bytes: 0,
+        };
+    }
+    let room = room_for(numbers.len());
+    let mut rows: [u16; 960] = [0; 960];
+    let mut columns: [u16; 960] = [0; 960];
+    let mut lengths: [u16; 960] = [0; 960];
+    propose_beside(
+        before,
+        after,
+        personality_at(personality),
+        &mut rows[0..room],
+        &mut columns[0..room],
+        &mut lengths[0..room],
+        numbers,
+        bytes,
+    )
+}
