@@ -30,7 +30,7 @@ use Rattle.repaint.specs.Theorems.{spansFor}
 use Rattle.repaint.proofs.Leading.{copy-step, copy-done}
 use Rattle.repaint.proofs.Proposing.{proposing}
 use Rattle.wy50.specs.Raw.{isPersonality, personalityAt}
-use Rattle.wy50.specs.Repainting.{BytesNumber, spanNumbers, RawProposed, unproposed, proposed, Lends, numbersRule, rawPropose, RawProposes}
+use Rattle.wy50.specs.Repainting.{BytesNumber, spanNumbers, RawProposed, unproposed, proposed, numbersRule, rawPropose, RawProposes, spanRoom}
 
 -- ---- the numbers of spans
 
@@ -143,12 +143,13 @@ lengths-count : (l : List Stretch) → length (lengthsOf l) ≡ length l
 lengths-count [] = refl
 lengths-count (s ∷ l) = ap suc (lengths-count l)
 
-lends-leb : (n k i : ℕ) → Lends n k → i ≤ 960 → leb i k ≡ leb (3 * i) n
-lends-leb n k i h f = by (either-way (leb (3 * i) n))
+-- what fits the lists that are made fits the room, and the other way round
+room-leb : (n k i : ℕ) → k ≡ spanRoom n → i ≤ 960 → leb i k ≡ leb (3 * i) n
+room-leb n k i e f = by (either-way (leb (3 * i) n))
   where
     by : (leb (3 * i) n ≡ true) ⊎ (leb (3 * i) n ≡ false) → leb i k ≡ leb (3 * i) n
-    by (inl t) = le-leb i k (h .all i f (leb-true (3 * i) n t)) ∙ sym t
-    by (inr t) = let g = leb-false (3 * i) n t in lt-leb i k (omega (arith, g, h .hold)) ∙ sym t
+    by (inl t) = let g = leb-true (3 * i) n t in le-leb i k (omega (arith, e, f, g)) ∙ sym t
+    by (inr t) = let g = leb-false (3 * i) n t in lt-leb i k (omega (arith, e, g)) ∙ sym t
 
 both-same : (s t : Bool) → both (both s (both s s)) t ≡ both s t
 both-same true t = refl
@@ -177,7 +178,7 @@ module _ (m : Personality) (a b o x y z : List ℕ) where
 
 -- x, y, z are the lists lent, and x′, y′, z′ what they are then; the numbers put are those of the first spans of these
 module _ (m : Personality) (a b w o x y z : List ℕ) where
-  module _ {x′ y′ z′ o′ w′ : List ℕ} {r : ProposeResult} (lends : Lends (length w) (length x)) (ey : length y ≡ length x) (ez : length z ≡ length x)
+  module _ {x′ y′ z′ o′ w′ : List ℕ} {r : ProposeResult} (ex : length x ≡ spanRoom (length w)) (ey : length y ≡ length x) (ez : length z ≡ length x)
       (h : Proposes (proposeRule m a b x y z o) r x′ y′ z′ o′)
       (put : w′ ≡ over (spanNumbers (spansOf (take (r .spans) x′) (take (r .spans) y′) (take (r .spans) z′))) w) where
     abbrev page : Bool
@@ -238,13 +239,12 @@ module _ (m : Personality) (a b w o x y z : List ℕ) where
         let i : w′ ≡ over (spanNumbers (spansFor a b)) w = rw (ix, iy, iz, lists-hold l) at put in
         record { answer = g .answer; spans = g .spans ∙ sym (spans-count l); bytes = g .bytes; numbers = i; out = g .out }
 
-    -- what fits the parts lent fits the room, and the other way round
     same-fit : served m a b ≡ true → fit ≡ both (leb (length (spanNumbers (spansFor a b))) (length w)) (leb (length (paintBytes a b)) (length o))
     same-fit s =
         let n : length (spanNumbers (spansFor a b)) ≡ 3 * length l = numbers-long (spansFor a b) ∙ ap (λ (i : ℕ). 3 * i) (spans-count l) in
         rw (ey, ez, n)
         (both-same (leb (length l) (length x)) (leb (length (paintBytes a b)) (length o))
-        ∙ ap (λ (t : Bool). both t (leb (length (paintBytes a b)) (length o))) (lends-leb (length w) (length x) (length l) lends (proposing .spans m a b s)))
+        ∙ ap (λ (t : Bool). both t (leb (length (paintBytes a b)) (length o))) (room-leb (length w) (length x) (length l) ex (proposing .spans m a b s)))
 
     abbrev room : Bool
     room = both (leb (length (spanNumbers (spansFor a b))) (length w)) (leb (length (paintBytes a b)) (length o))

@@ -2,7 +2,7 @@
 --     repainting     the statement of specs/Repainting
 -- Assumes nothing.
 use mathlib.Core.Path.{_≡_, refl, sym, ap, subst, _∙_}
-use mathlib.Core.Bool.{Bool, true, false}
+use mathlib.Core.Bool.{Bool, true, false, false≢true}
 use mathlib.Core.List.{List, [], _∷_, _++_, append-assoc}
 use mathlib.Core.Logic.{inl}
 use Prim.Native.Nat.{ℕ, _≤_}
@@ -18,14 +18,27 @@ use Rattle.rules.proofs.Tests.{pick-if, both-true}
 use Rattle.repaint.specs.declared.Span.{Span}
 use Rattle.repaint.specs.declared.Verdict.{Verdict}
 use Rattle.repaint.specs.declared.Verdict.the-variants as Verdict
-use Rattle.repaint.specs.Spans.{Pages, SpansVerdict}
+use Rattle.repaint.specs.Spans.{number, Pages, SpansVerdict}
 use Rattle.repaint.specs.Proposal.{stretches, paintBytes, served}
 use Rattle.repaint.specs.Theorems.{spansFor}
 use Rattle.repaint.proofs.Proposing.{served-lengths, proposing}
 use Rattle.repaint.proofs.Judges.{judging}
 use Rattle.wy50.specs.Raw.{isPersonality, personalityAt}
-use Rattle.wy50.specs.Repainting.{SpansNumber, BytesNumber, spanNumbers, spansIn, RawProposed, unproposed, proposed, numbersRule, rawPropose, Repainting}
+use Rattle.wy50.specs.Repainting.{SpansNumber, BytesNumber, spanNumbers, spansIn, RawProposed, unproposed, proposed, numbersRule, rawPropose, withRest, Repainting}
 use Rattle.wy50.proofs.RepaintCalls.{numbers-long, spans-count}
+
+-- ---- one answer
+
+spans-one : (a b : List ℕ) (l : List Span) (r s : ℕ) → SpansNumber a b l r → SpansNumber a b l s → r ≡ s
+spans-one a b l r s x y = x .1 .1 ∙ (ap number (judging .spans-one a b l (x .0) (y .0) (x .1 .0) (y .1 .0)) ∙ sym (y .1 .1))
+
+bytes-one : (v : ℕ) (a b l : List ℕ) {r s : ℕ} → BytesNumber v a b l r → BytesNumber v a b l s → r ≡ s
+bytes-one v a b l (BytesNumber.named d on x) (BytesNumber.named e on′ y) = ap number (judging .bytes-one (personalityAt v) a b l d e x y)
+bytes-one v a b l (BytesNumber.named d on x) (BytesNumber.unnamed off) = absurd (false≢true (sym off ∙ on))
+bytes-one v a b l (BytesNumber.unnamed off) (BytesNumber.named d on x) = absurd (false≢true (sym off ∙ on))
+bytes-one v a b l (BytesNumber.unnamed off) (BytesNumber.unnamed off′) = refl
+
+-- ---- what is proposed
 
 -- the spans of their numbers, whatever stands behind them
 spans-back : (l : List Span) (t : List ℕ) → take (length l) (spansIn (spanNumbers l ++ t)) ≡ l
@@ -117,11 +130,8 @@ module _ (v : ℕ) (a b w o : List ℕ) where
       let t : room ≡ true = both-true (le-leb _ (length w) (omega (arith, few s, hw))) (le-leb _ (length o) (omega (arith, k, ho))) in
       rw (rule, p, page-served s, s, t)
 
-abbrev with-rest : List ℕ → RawProposed → RawProposed
-with-rest t o = record { answer = o .answer; spans = o .spans; bytes = o .bytes; numbers = o .numbers ++ t; out = o .out }
-
-pick-with : (t : List ℕ) (c : Bool) {x y : RawProposed} (x′ y′ : RawProposed) → (c ≡ true → x ≡ with-rest t x′) → y ≡ with-rest t y′
-    → pick c x y ≡ with-rest t (pick c x′ y′)
+pick-with : (t : List ℕ) (c : Bool) {x y : RawProposed} (x′ y′ : RawProposed) → (c ≡ true → x ≡ withRest t x′) → y ≡ withRest t y′
+    → pick c x y ≡ withRest t (pick c x′ y′)
 pick-with t true x′ y′ f g = f refl
 pick-with t false x′ y′ f g = g
 
@@ -133,20 +143,27 @@ module _ (v : ℕ) (a b w t o : List ℕ) (h : 2880 ≤ length w) where
       let y : leb (length (spanNumbers (spansFor a b))) (length w) ≡ true = le-leb _ (length w) (omega (arith, n, h)) in
       rw (x, y)
 
-  same-all : is-served v a b w o ≡ true → all v a b (w ++ t) o ≡ with-rest t (all v a b w o)
+  same-all : is-served v a b w o ≡ true → all v a b (w ++ t) o ≡ withRest t (all v a b w o)
   same-all s =
       ap (λ (l : List ℕ). record { answer = 0; spans = length (spansFor a b); bytes = length (paintBytes a b); numbers = l; out = over (paintBytes a b) o })
       (over-beyond (spanNumbers (spansFor a b)) w t (omega (arith, few v a b w o s, h)))
 
-  same-filled : is-served v a b w o ≡ true → by-room v a b (w ++ t) o ≡ with-rest t (by-room v a b w o)
+  same-filled : is-served v a b w o ≡ true → by-room v a b (w ++ t) o ≡ withRest t (by-room v a b w o)
   same-filled s = rw (same-room s) (pick-with t (room v a b w o) (all v a b w o) (unproposed 6 w o) (λ k. same-all s) refl)
 
-  beyond : rawPropose v a b (w ++ t) o ≡ with-rest t (rawPropose v a b w o)
+  beyond : rawPropose v a b (w ++ t) o ≡ withRest t (rawPropose v a b w o)
   beyond =
       rule v a b (w ++ t) o
       ∙ (pick-with t (known v a b w o) (by-page v a b w o) (unproposed 7 w o)
       (λ p. pick-with t (page v a b w o) (by-served v a b w o) (unproposed 7 w o) (λ f. pick-with t (is-served v a b w o) (by-room v a b w o) (unproposed 3 w o) same-filled refl) refl) refl
-      ∙ ap (with-rest t) (sym (rule v a b w o)))
+      ∙ ap (withRest t) (sym (rule v a b w o)))
 
 pub repainting : Repainting
-repainting = record { spans-accepted = spans-accepted; bytes-accepted = bytes-accepted; roomy = roomy; beyond = beyond }
+repainting = record {
+  spans-one = spans-one;
+  bytes-one = λ v a b l r s x y. bytes-one v a b l x y;
+  spans-accepted = spans-accepted;
+  bytes-accepted = bytes-accepted;
+  roomy = roomy;
+  beyond = beyond;
+}

@@ -1,9 +1,9 @@
 -- What the exported calls of repainting promise (document 02, A12): those of the crate `repaint`, for the personality that the number names. Another
 -- number answers 7. Spans go out as a flat list of numbers, three for each.
 use mathlib.Core.Path.{_≡_}
-use mathlib.Core.Bool.{Bool, true, false}
+use mathlib.Core.Bool.{true, false}
 use mathlib.Core.List.{List, [], _∷_, _++_}
-use Prim.Native.Nat.{ℕ, _*_, _≤_}
+use Prim.Native.Nat.{ℕ, _/_, _≤_, min}
 use lib.Dec.{leb, eqb}
 use lib.ListN.{length, take}
 use Rattle.rules.specs.declared.Personality.{Personality}
@@ -76,12 +76,6 @@ numbersRule m a b numbers out =
 unfoldable pub rawPropose : ℕ → List ℕ → List ℕ → List ℕ → List ℕ → RawProposed
 rawPropose v a b numbers out = pick (isPersonality v) (numbersRule (personalityAt v) a b numbers out) (unproposed 7 numbers out)
 
--- k is how many spans, of the 960 that there are at most, a room of n numbers holds; the call makes its spans in lists of so many
-pub record Lends (n k : ℕ) : Type 0 where
-  pub most : k ≤ 960
-  pub hold : 3 * k ≤ n
-  pub all : (i : ℕ) → i ≤ 960 → 3 * i ≤ n → i ≤ k
-
 -- what a call gives that leaves these lists
 pub record RawProposes (o : RawProposed) (r : ProposeResult) (x y : List ℕ) : Type 0 where
   pub answer : r .answer ≡ o .answer
@@ -90,8 +84,19 @@ pub record RawProposes (o : RawProposed) (r : ProposeResult) (x y : List ℕ) : 
   pub numbers : x ≡ o .numbers
   pub out : y ≡ o .out
 
--- ---- the calls together, the statement: what a caller reads out of the rooms, with any rest behind it, both judges answer with 0
+-- how many spans the call makes for a room of n numbers: as many as fit, of the 960 that there are at most. Only inner contracts name it
+abbrev pub spanRoom : ℕ → ℕ
+spanRoom n = min (n / 3) 960
+
+-- ---- the calls together, the statement
+
+abbrev pub withRest : List ℕ → RawProposed → RawProposed
+withRest rest o = record { answer = o .answer; spans = o .spans; bytes = o .bytes; numbers = o .numbers ++ rest; out = o .out }
+
 pub record Repainting : Type 0 where
+  -- each judge has one answer, and to what a caller reads out of the rooms, whatever stands behind it, both answer 0
+  pub spans-one : (a b : List ℕ) (spans : List Span) (r s : ℕ) → SpansNumber a b spans r → SpansNumber a b spans s → r ≡ s
+  pub bytes-one : (v : ℕ) (a b bytes : List ℕ) (r s : ℕ) → BytesNumber v a b bytes r → BytesNumber v a b bytes s → r ≡ s
   pub spans-accepted : (v : ℕ) (a b numbers out : List ℕ) → let o = rawPropose v a b numbers out in o .answer ≡ 0
       → SpansNumber a b (take (o .spans) (spansIn (o .numbers))) 0
   pub bytes-accepted : (v : ℕ) (a b numbers out : List ℕ) → let o = rawPropose v a b numbers out in o .answer ≡ 0
@@ -99,6 +104,6 @@ pub record Repainting : Type 0 where
   -- with room for 960 spans and 7,772 bytes nothing that is served is refused
   pub roomy : (v : ℕ) (a b numbers out : List ℕ) → isPersonality v ≡ true → served (personalityAt v) a b ≡ true → 2880 ≤ length numbers → 7772 ≤ length out
       → rawPropose v a b numbers out .answer ≡ 0
-  -- room beyond 960 spans changes nothing and stays as it is
-  pub beyond : (v : ℕ) (a b numbers rest out : List ℕ) → 2880 ≤ length numbers → let o = rawPropose v a b numbers out in
-      rawPropose v a b (numbers ++ rest) out ≡ record { answer = o .answer; spans = o .spans; bytes = o .bytes; numbers = o .numbers ++ rest; out = o .out }
+  -- and room beyond that for spans changes nothing
+  pub beyond : (v : ℕ) (a b numbers rest out : List ℕ) → 2880 ≤ length numbers
+      → rawPropose v a b (numbers ++ rest) out ≡ withRest rest (rawPropose v a b numbers out)

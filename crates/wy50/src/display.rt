@@ -5,7 +5,7 @@ ghost use lib.ListN.{length, take};
 ghost use Rattle.rules.specs.Room.{over};
 ghost use Rattle.repaint.specs.Spans.{number, spansOf};
 ghost use Rattle.repaint.specs.Pass.{finished};
-ghost use Rattle.wy50.specs.Repainting.{SpansNumber, BytesNumber, spanNumbers, Lends, numbersRule, rawPropose, RawProposes};
+ghost use Rattle.wy50.specs.Repainting.{SpansNumber, BytesNumber, spanNumbers, numbersRule, rawPropose, RawProposes, spanRoom};
 use crate::unpack::is_personality;
 use crate::unpack::personality_at;
 use repaint::ProposeResult;
@@ -34,7 +34,7 @@ fn finish_number(before: &[u16], after: &[u16], next: usize) -> u8
     verdict_number(v)
 }
 
-// Judges a list of spans, each taken out of it and handed to `turn`. Ruled out: one that takes one page for the other.
+// Judges a list of spans, each taken out of it and handed to `turn`. Ruled out: one that compares a page with itself.
 #[no_mangle]
 pub extern "C" fn wy50_judge_spans(before: &[u16], after: &[u16], spans: &[Span]) -> u8
     ensures { λ r. ⌜ SpansNumber (now (before .entry)) (now (after .entry)) (now (spans .entry)) r ⌝ }
@@ -67,9 +67,10 @@ pub extern "C" fn wy50_judge_bytes(
 
 // How many spans, of the 960 that there are at most, so many numbers have room for.
 fn room_for(numbers: usize) -> usize
-    ensures { λ r. ⌜ Lends numbers r ⌝ }
+    ensures { λ r. ⌜ r ≡ spanRoom numbers ⌝ }
 {
-    if numbers < 2880 { numbers / 3 } else { 960 }
+    let n = numbers / 3;
+    if n < 960 { n } else { 960 }
 }
 
 // The first n spans of three lists, at the front of a list of numbers.
@@ -98,7 +99,7 @@ fn propose_beside(
     numbers: &mut [u16],
     bytes: &mut [u8],
 ) -> ProposeResult
-    requires { ⌜ Lends (length (now numbers)) (length (now rows)) × ((length (now columns) ≡ length (now rows)) × (length (now lengths) ≡ length (now rows))) ⌝ }
+    requires { ⌜ (length (now rows) ≡ spanRoom (length (now numbers))) × ((length (now columns) ≡ length (now rows)) × (length (now lengths) ≡ length (now rows))) ⌝ }
     ensures { λ r. ⌜ RawProposes (numbersRule personality (now (before .entry)) (now (after .entry)) (now (numbers .entry)) (now (bytes .entry))) r (now (numbers .exit)) (now (bytes .exit)) ⌝ }
 {
     let t = propose(before, after, personality, rows, columns, lengths, bytes);

@@ -23,7 +23,7 @@ propose-beside-spec =
     let f = propose-fits (x .personality) (now (x .before)) (now (x .after)) (now (x .bytes)) (now (x .rows)) (now (x .columns)) (now (x .lengths)) (t .propose .ensures) in
     let l = p .0 in (
       (omega (arith, f, k .0), (omega (arith, f, k .1 .0, p .1 .0), omega (arith, f, k .1 .1 .0, p .1 .1))),
-      (omega (arith, f, l .most), omega (arith, f, l .hold)),
+      (omega (arith, f, p .0), omega (arith, f, p .0)),
     ))
     -- same-length
     (λ c. search needs)

@@ -1,6 +1,5 @@
 -- `wy50::display::room_for` meets its contract.
 use native.Mathlib.Omega.{arith}
-use borrow.Author.Needs.{needs}
 use Rattle.wy50.proofs.display.room_for.Statement.{statement}
 use Rattle.wy50.proofs.display.room_for.Tie as tie
 
@@ -9,6 +8,6 @@ room-for-spec =
     tie.close
     (tie.spec
     -- returns
-    (λ c. record { most = omega arith; hold = omega arith; all = λ i f g. omega (arith, f, g) })
+    (λ c. omega arith)
     -- returns-2
-    (λ c. record { most = omega arith; hold = omega arith; all = λ i f g. omega (arith, f, g) }))
+    (λ c. omega arith))

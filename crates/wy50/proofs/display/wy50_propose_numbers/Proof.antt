@@ -27,25 +27,21 @@ wy50-propose-numbers-spec =
     -- part-rows-start
     (λ c. search needs)
     -- part-rows-end
-    (λ c. omega (arith, c .before .room-for .ensures .most))
+    (λ c. omega (arith, c .before .room-for .ensures))
     -- sub-propose-beside-2
     (λ c. search needs)
     -- part-columns-start
     (λ c. search needs)
     -- part-columns-end
-    (λ c. omega (arith, c .before .before .room-for .ensures .most))
+    (λ c. omega (arith, c .before .before .room-for .ensures))
     -- sub-propose-beside-3
     (λ c. search needs)
     -- part-lengths-start
     (λ c. search needs)
     -- part-lengths-end
-    (λ c. omega (arith, c .before .before .before .room-for .ensures .most))
+    (λ c. omega (arith, c .before .before .before .room-for .ensures))
     -- propose-beside-requires
-    (λ c κs.
-    let l = c .before .before .before .before .before .before .room-for .ensures in (
-      record { most = omega (arith, l .most); hold = omega (arith, l .most, l .hold); all = λ i f g. let z = l .all i f g in omega (arith, z, l .most) },
-      (omega (arith, l .most), omega (arith, l .most)),
-    ))
+    (λ c κs. let k = c .before .before .before .before .before .before .room-for .ensures in (omega (arith, k), (omega (arith, k), omega (arith, k))))
     -- same-length
     (λ c. search needs)
     -- same-length-2
