@@ -6,8 +6,8 @@
  * different threads.
  *
  * Every call returns, whatever numbers it is handed. It relies on this much of its caller: a pointer goes with a count of elements and points to
- * that many, so where the count is 0 it may be NULL; and the page, the target of a conversion, the row list, the list of a mending, the input and the
- * reply room do not overlap.
+ * that many, so where the count is 0 it may be NULL; and the page, the target of a conversion, the row list, the list of a mending, the rooms of a
+ * proposal, the input and the reply room do not overlap. What is only read may be lent twice.
  *
  * Start from wy50_power_on: a page and a state of one's own making may well be no terminal, and answer 7.
  *
@@ -60,8 +60,11 @@ enum {
     WY50_LABELS = 16,
     WY50_LABEL_BYTES = 8,
     WY50_MESSAGE_BYTES = 46,
-    WY50_STORE_BYTES = 8714, /* saved set-ups: the last number and eight places */
-    WY50_ENTRY_NUMBERS = 4   /* an entry in the list of a mending: row, column, old number, new number */
+    WY50_STORE_BYTES = 8714,     /* saved set-ups: the last number and eight places */
+    WY50_ENTRY_NUMBERS = 4,      /* an entry in the list of a mending: row, column, old number, new number */
+    WY50_SPAN_NUMBERS = 3,       /* a span of a repainting: row, column, length */
+    WY50_MOST_SPANS = 960,       /* no proposal has more spans */
+    WY50_MOST_PAINT_BYTES = 7772 /* and none has more bytes */
 };
 
 /* What a call answers. */
@@ -69,20 +72,24 @@ enum {
     WY50_DONE = 0,         /* done, or more bytes are awaited */
     WY50_HIGH_BYTE = 1,    /* a byte 80h to FFh; nothing changed */
     WY50_UNKNOWN = 2,      /* no such byte after ESC; the sequence is cleared */
-    WY50_BAD_ARGUMENT = 3, /* an argument outside its range, a text too long or with a bad byte, no such key or segment; the sequence is cleared */
+    WY50_BAD_ARGUMENT = 3, /* an argument outside its range, a text too long or with a bad byte, no such key or segment; the sequence is cleared. Of
+                              a judge: not accepted. Of a proposal: pages that it does not serve; nothing written */
     WY50_BARRED = 4,       /* a guarded cell or protect mode bars it; the sequence is cleared. Of a conversion: a cell would be lost; nothing changed */
                            /* 5 is unused: 32 keys of 8 bytes are never over 256 */
     WY50_NO_ROOM = 6,      /* the room is zero while a reply is due; of a key press also where its bytes do not fit, and during a send, as of a
-                              conversion; nothing changed, the byte may come again. Of a mending: the list is too short; nothing changed */
+                              conversion; nothing changed, the byte may come again. Of a mending: the list is too short; nothing changed. Of a
+                              proposal: its spans or its bytes do not fit; nothing written */
     WY50_BAD_CALL = 7,     /* the page is not as long as the state's width has it, the state is not possible, or the row list is not the page's;
-                              nothing changed. Of a mending: the page has neither width's length, or there is no such personality */
+                              nothing changed. Of a mending: the page has neither width's length, or there is no such personality; so of a
+                              judge and a proposal, and where the two pages are of unlike lengths */
     WY50_LOCKED = 8,       /* a key is pressed while the keyboard is locked; nothing changed */
     WY50_BAD_STORE = 9,    /* no saves could have left the store so; nothing changed */
     WY50_BAD_NUMBER = 10,  /* a number never saved, or overwritten since; nothing changed */
     WY50_FULL = 11         /* number 65,535 is used; nothing changed */
 };
 
-/* An answer in a few words, for a log. A number that is no answer has some too. Those of a conversion or a mending mean what is said there. */
+/* An answer in a few words, for a log. A number that is no answer has some too. Those of a conversion, a mending, a judge or a proposal mean what is
+ * said there. */
 static inline const char *wy50_answer_name(uint8_t answer)
 {
     switch (answer) {
@@ -344,6 +351,19 @@ typedef struct wy50_mend_result {
     uint16_t needed; /* how many entries the list needs: the cells that are damaged; 0 with 7 */
 } wy50_mend_result;
 
+/* Cells of one row: three numbers, without padding. */
+typedef struct wy50_span {
+    uint16_t row;    /* from 1 */
+    uint16_t column; /* of the first cell, from 1 */
+    uint16_t length; /* how many cells it has */
+} wy50_span;
+
+typedef struct wy50_propose_result {
+    uint8_t answer; /* 0, 3, 6 or 7 */
+    uint16_t spans; /* how many spans and how many bytes are at the front of their rooms; 0 with any answer but 0 */
+    uint16_t bytes;
+} wy50_propose_result;
+
 /* Power-on: every cell 0, and the power-on state of that personality; page and wish are narrow. A page of another length than 1,920, a wide one too,
  * answers 7 and is left as it was; the state is given. So does a number that is no personality; the state is that of a WY-50. */
 wy50_power_on_result wy50_power_on(uint16_t *page, size_t page_len, uint8_t personality);
@@ -472,6 +492,60 @@ wy50_restore_result wy50_restore(wy50_state state, const uint8_t *store, size_t 
  * What is refused changes neither page nor list. NULL with 0 asks how many entries are needed, and a list of page_len entries is always long enough. A
  * mended page needs no entries, and no more does one that a terminal of this personality left. A row list is to be rebuilt. */
 wy50_mend_result wy50_mend(uint16_t *page, size_t page_len, uint8_t personality, uint16_t *list, size_t list_len);
+
+/* Repainting a distant display. It shows one page, before, and should show another, after, and what is sent to it is to be short: spans are the cells
+ * to paint, and bytes, as any host's, paint them. Whoever makes spans or bytes has them judged; wy50_propose makes some of its own. None of these calls
+ * looks at a state or changes a page. Both pages have 80 columns or both 132, by their lengths; they may be one page.
+ *
+ * The judge of spans accepts a list exactly if its spans are in reading order, do not overlap, lie within their rows, are not empty and cover every cell
+ * that differs. They may touch and may cover cells that are equal; two equal pages need none. Any numbers may be handed in.
+ *
+ *     answer 0   accepted
+ *     answer 3   not accepted
+ *     answer 7   the pages are of unlike lengths, or neither 1,920 nor 3,168 cells long */
+uint8_t wy50_judge_spans(const uint16_t *before, size_t before_len, const uint16_t *after, size_t after_len, const wy50_span *spans, size_t spans_len);
+
+/* The judge of bytes accepts them exactly if a terminal of this personality, just powered on at the pages' width, that shows the page before and has no
+ * reply room, answers 0 to each of them and then shows the page after. Answers as above, and 7 for a personality that is neither 50 nor 60. It feeds such
+ * a terminal all of the bytes, on a page of its own. */
+uint8_t wy50_judge_bytes(const uint16_t *before, size_t before_len, const uint16_t *after, size_t after_len, uint8_t personality, const uint8_t *bytes,
+                         size_t bytes_len);
+
+/* The proposal as numbers: a span is WY50_SPAN_NUMBERS of them, and there is room for numbers_len / WY50_SPAN_NUMBERS spans. */
+wy50_propose_result wy50_propose_numbers(const uint16_t *before, size_t before_len, const uint16_t *after, size_t after_len, uint8_t personality,
+                                         uint16_t *numbers, size_t numbers_len, uint8_t *bytes, size_t bytes_len);
+
+/* Proposes spans, the longest stretches of cells in a row that differ, and the bytes that paint them: ESC = to each start, then its cells, and ESC G before
+ * each cell whose attribute is not the one remembered. Both judges accept them. They are put at the front of their rooms, and what lies beyond is not
+ * touched. Rooms of WY50_MOST_SPANS and WY50_MOST_PAINT_BYTES are always enough. The call takes less than 32 KB of stack.
+ *
+ *     answer 0   proposed; equal pages need no spans and no bytes
+ *     answer 3   a page that it does not serve: of 132 columns, with a cell other than unprotected text of 20h to 7Eh as this personality writes it, or
+ *                with a last cell that differs, since writing there scrolls
+ *     answer 6   there is no room for the spans or for the bytes
+ *     answer 7   the pages are of unlike lengths or of no page's, or the personality is neither 50 nor 60
+ *
+ * In this order: 7, 3, 6. What is refused writes nothing. A null is no text: a display just powered on shows nulls, and 1Ah makes them spaces.
+ *
+ * The bytes are for a display as at power-on but for its page: 80 columns, not split, no sequence under way, insert mode, write-protect and protect mode
+ * off. They move its cursor, and leave a WY-60 with the attribute of the last cell painted. So a display that goes on is told ESC G 30h before the next
+ * ones if it is a WY-60; a WY-50 remembers none, and would take it as a cell. With shown for what the display shows, 1Ah sent and all spaces at first:
+ *
+ *     r = wy50_propose(shown, WY50_CELLS, page, WY50_CELLS, WY50_PERSONALITY_60, spans, WY50_MOST_SPANS, bytes, sizeof bytes);
+ *     if (r.answer == WY50_DONE && r.spans > 0) {
+ *         send_to_display("\033G0", 3);
+ *         send_to_display(bytes, r.bytes);
+ *         memcpy(shown, page, sizeof shown);
+ *     }
+ *
+ * examples/repaint.c does it, and has something for the pages that are not served. */
+static inline wy50_propose_result wy50_propose(const uint16_t *before, size_t before_len, const uint16_t *after, size_t after_len, uint8_t personality,
+                                               wy50_span *spans, size_t spans_len, uint8_t *bytes, size_t bytes_len)
+{
+    if (spans_len > WY50_MOST_SPANS)
+        spans_len = WY50_MOST_SPANS;
+    return wy50_propose_numbers(before, before_len, after, after_len, personality, (uint16_t *)spans, WY50_SPAN_NUMBERS * spans_len, bytes, bytes_len);
+}
 
 /* What a cell's number says: its code, 0 to 127; whether it is protected, 0 or 1; its kind; its attribute, by its flags, 0 to 31; and the byte that
  * a send gives for it, which is the code of a text cell from 20h to 7Eh and 20h for any other cell. */

@@ -1,5 +1,5 @@
-/* Checks that NULL goes with a count of 0 in every call: page, target, row list, list of a mending, input and reply room, one by one and together. Each call gives what it gives
- * with another pointer and 0. As C++ the pointers are those of an empty std::vector. Prints one line for each part, and fails by its status. */
+/* Checks that NULL goes with a count of 0 in every call: page, target, row list, list of a mending, rooms of a proposal, input and reply room, one by one and together. Each call gives
+ * what it gives with another pointer and 0. As C++ the pointers are those of an empty std::vector. Prints one line for each part, and fails by its status. */
 #include "wy50.h"
 
 #include <stdio.h>
@@ -9,11 +9,14 @@
 #include <vector>
 static std::vector<uint16_t> no_numbers;
 static std::vector<uint8_t> no_bytes;
+static std::vector<wy50_span> no_spans;
 #define NO_NUMBERS no_numbers.data()
 #define NO_BYTES no_bytes.data()
+#define NO_SPANS no_spans.data()
 #else
 #define NO_NUMBERS NULL
 #define NO_BYTES NULL
+#define NO_SPANS NULL
 #endif
 
 static uint16_t page[WY50_CELLS], before[WY50_CELLS], wide[WY50_WIDE_CELLS], rows[WY50_ROW_NUMBERS];
@@ -125,6 +128,38 @@ static void every_byte(void)
     CHECK(memcmp(page, before, sizeof page) == 0);
 }
 
+/* No pages, no spans, no bytes, no rooms. */
+static void repaint(void)
+{
+    static uint16_t text[WY50_CELLS], numbers[WY50_SPAN_NUMBERS], other[WY50_CELLS];
+    static wy50_span one;
+    size_t i;
+    wy50_propose_result p;
+    for (i = 0; i < WY50_CELLS; i++)
+        text[i] = other[i] = 0x20;
+    other[0] = 0x41;
+    memset(reply, 0x55, sizeof reply);
+    CHECK(wy50_judge_spans(NO_NUMBERS, 0, NO_NUMBERS, 0, NO_SPANS, 0) == WY50_BAD_CALL && wy50_judge_spans(text, WY50_CELLS, NO_NUMBERS, 0, NO_SPANS, 0) == WY50_BAD_CALL);
+    CHECK(wy50_judge_spans(NO_NUMBERS, 0, text, WY50_CELLS, &one, 1) == WY50_BAD_CALL && wy50_judge_spans(text, WY50_CELLS, text, WY50_CELLS, NO_SPANS, 0) == WY50_DONE);
+    CHECK(wy50_judge_spans(text, WY50_CELLS, other, WY50_CELLS, NO_SPANS, 0) == WY50_BAD_ARGUMENT);
+    CHECK(wy50_judge_bytes(NO_NUMBERS, 0, NO_NUMBERS, 0, WY50_PERSONALITY_50, NO_BYTES, 0) == WY50_BAD_CALL);
+    CHECK(wy50_judge_bytes(text, WY50_CELLS, NO_NUMBERS, 0, WY50_PERSONALITY_60, reply, 1) == WY50_BAD_CALL);
+    CHECK(wy50_judge_bytes(text, WY50_CELLS, text, WY50_CELLS, WY50_PERSONALITY_60, NO_BYTES, 0) == WY50_DONE);
+    CHECK(wy50_judge_bytes(text, WY50_CELLS, other, WY50_CELLS, WY50_PERSONALITY_60, NO_BYTES, 0) == WY50_BAD_ARGUMENT);
+    p = wy50_propose_numbers(NO_NUMBERS, 0, NO_NUMBERS, 0, WY50_PERSONALITY_50, NO_NUMBERS, 0, NO_BYTES, 0);
+    CHECK(p.answer == WY50_BAD_CALL && p.spans == 0 && p.bytes == 0);
+    p = wy50_propose_numbers(text, WY50_CELLS, text, WY50_CELLS, WY50_PERSONALITY_50, NO_NUMBERS, 0, NO_BYTES, 0);
+    CHECK(p.answer == WY50_DONE && p.spans == 0 && p.bytes == 0);
+    p = wy50_propose_numbers(text, WY50_CELLS, other, WY50_CELLS, WY50_PERSONALITY_50, NO_NUMBERS, 0, reply, sizeof reply);
+    CHECK(p.answer == WY50_NO_ROOM && p.spans == 0 && p.bytes == 0 && reply[0] == 0x55);
+    p = wy50_propose_numbers(text, WY50_CELLS, other, WY50_CELLS, WY50_PERSONALITY_50, numbers, WY50_SPAN_NUMBERS, NO_BYTES, 0);
+    CHECK(p.answer == WY50_NO_ROOM && p.spans == 0 && p.bytes == 0 && numbers[0] == 0);
+    p = wy50_propose(text, WY50_CELLS, other, WY50_CELLS, WY50_PERSONALITY_60, NO_SPANS, 0, NO_BYTES, 0);
+    CHECK(p.answer == WY50_NO_ROOM && p.spans == 0 && p.bytes == 0);
+    p = wy50_propose(NO_NUMBERS, 0, other, WY50_CELLS, WY50_PERSONALITY_60, &one, 1, reply, sizeof reply);
+    CHECK(p.answer == WY50_BAD_CALL && p.spans == 0 && p.bytes == 0 && one.row == 0 && reply[0] == 0x55);
+}
+
 /* No page, no row list: 7, and nothing changed. */
 static void no_page(void)
 {
@@ -188,6 +223,7 @@ static void no_page(void)
     m = wy50_mend(wide, WY50_WIDE_CELLS, WY50_PERSONALITY_60, NO_NUMBERS, 0);
     CHECK(m.answer == WY50_NO_ROOM && m.needed == 1 && wide[5] == 0x80);
     wide[5] = 0;
+    repaint();
     CHECK(wy50_next_field(NO_NUMBERS, 0, 0).length == 0);
     CHECK(wy50_field_text(NO_NUMBERS, 0, 0, 1, NO_BYTES, 0).answer == WY50_BAD_CALL && wy50_row_text(NO_NUMBERS, 0, 0, 1, NO_BYTES, 0).answer == WY50_BAD_CALL);
     CHECK(wy50_row_text(page, WY50_CELLS, 0, 0, NO_BYTES, 0).answer == WY50_NO_ROOM);

@@ -1,4 +1,4 @@
-/* Calls the library with random pages of either width, states, bytes, rooms, row lists, stores, conversions and mendings, and checks what holds of every call.
+/* Calls the library with random pages of either width, states, bytes, rooms, row lists, stores, conversions, mendings and repaintings, and checks what holds of every call.
  * Compiled with the address and undefined behaviour sanitizers. Each buffer lies against a page of memory that may not be touched, before it or behind it by turns, and has guard
  * bytes on its other side. One of no bytes is often NULL.
  *
@@ -14,9 +14,9 @@
 #include <time.h>
 #include <unistd.h>
 
-enum { MOST_ROOM = 3300, MOST_INPUT = 600, MOST_PAGE = 3300, MOST_ROWS = 60, MOST_STORE = 9000, MOST_LIST = 4 * MOST_PAGE, GUARD = 64 };
+enum { MOST_ROOM = 3300, MOST_INPUT = 600, MOST_PAGE = 3300, MOST_ROWS = 60, MOST_STORE = 9000, MOST_LIST = 4 * MOST_PAGE, MOST_PAINT = 9000, GUARD = 64 };
 
-static uint64_t seed, calls, bytes, turns, answered_7, replies, lists, wrong_lists, nulls, saves, widened, narrowed_pages, mended_cells, unmended;
+static uint64_t seed, calls, bytes, turns, answered_7, replies, lists, wrong_lists, nulls, saves, widened, narrowed_pages, mended_cells, unmended, proposals, unproposed, spans_judged[2], paints_judged[2];
 
 static uint64_t next(void)
 {
@@ -640,6 +640,163 @@ static void mends(const uint16_t *came, size_t cells)
     }
 }
 
+/* Repainting: the proposer and both judges against what is reckoned here. */
+static buffer shown_buffer, wanted_buffer, span_buffer, paint_buffer;
+static uint16_t spans_made[WY50_SPAN_NUMBERS * WY50_WIDE_CELLS], numbers_before[WY50_SPAN_NUMBERS * MOST_PAGE];
+static uint8_t paint_made[MOST_PAINT], paint_before[MOST_PAINT];
+
+static int plain(uint8_t personality, uint16_t v)
+{
+    return wy50_cell_attribute(v) < (personality == WY50_PERSONALITY_60 ? 31 : 1) && v % 1024 >= 0x20 && v % 1024 < 0x7f && v < 32768;
+}
+
+/* The proposal from one narrow page to another: how many spans, and how many bytes. */
+static size_t proposed(const uint16_t *shown, const uint16_t *wanted, size_t *paint)
+{
+    size_t i, n = 0, k = 0;
+    unsigned remembered = 0;
+    for (i = 0; i < WY50_CELLS; i++) {
+        unsigned flags = wy50_cell_attribute(wanted[i]);
+        if (shown[i] == wanted[i])
+            continue;
+        if (i % WY50_COLUMNS == 0 || shown[i - 1] == wanted[i - 1]) {
+            spans_made[3 * n] = (uint16_t)(i / WY50_COLUMNS + 1);
+            spans_made[3 * n + 1] = (uint16_t)(i % WY50_COLUMNS + 1);
+            spans_made[3 * n++ + 2] = 0;
+            paint_made[k++] = 27;
+            paint_made[k++] = '=';
+            paint_made[k++] = (uint8_t)(0x20 + i / WY50_COLUMNS);
+            paint_made[k++] = (uint8_t)(0x20 + i % WY50_COLUMNS);
+        }
+        spans_made[3 * n - 1]++;
+        if (flags != remembered) {
+            paint_made[k++] = 27;
+            paint_made[k++] = 'G';
+            paint_made[k++] = (uint8_t)(flags < 16 ? 0x30 + flags : 0x60 + flags);
+        }
+        remembered = flags;
+        paint_made[k++] = wy50_cell_code(wanted[i]);
+    }
+    *paint = k;
+    return n;
+}
+
+/* Whether the spans are what the judge should accept. */
+static int good_spans(const uint16_t *shown, const uint16_t *wanted, size_t cells, const wy50_span *list, size_t n)
+{
+    size_t i, next_cell = 0, columns_of = cells / WY50_ROWS;
+    for (i = 0; i <= n; i++) {
+        size_t first = cells, length = 0;
+        if (i < n) {
+            if (list[i].row < 1 || list[i].row > WY50_ROWS || list[i].column < 1 || list[i].length < 1 || (size_t)list[i].column + list[i].length > columns_of + 1)
+                return 0;
+            first = (list[i].row - 1u) * columns_of + list[i].column - 1u;
+            length = list[i].length;
+        }
+        if (first < next_cell)
+            return 0;
+        for (; next_cell < first; next_cell++)
+            if (shown[next_cell] != wanted[next_cell])
+                return 0;
+        next_cell += length;
+    }
+    return 1;
+}
+
+/* Whether a terminal just powered on at this width paints the one page over the other with them, its bytes all answered 0. */
+static int good_paint(const uint16_t *shown, const uint16_t *wanted, size_t cells, uint8_t personality, const uint8_t *paint, size_t n)
+{
+    wy50_state x = wy50_power_on(page_parts, WY50_CELLS, personality).state;
+    wy50_run_result r;
+    x.screen.wide = cells == WY50_WIDE_CELLS;
+    copy(page_parts, shown, cells * sizeof *shown);
+    r = wy50_run(page_parts, cells, x, paint, n, NULL, 0);
+    return r.answer == WY50_DONE && r.taken == n && r.refused == 0 && equal(page_parts, wanted, cells * sizeof *wanted);
+}
+
+static void repaints(const uint16_t *kept, size_t kept_cells)
+{
+    uint8_t personality = (uint8_t)(below(16) ? (below(2) ? WY50_PERSONALITY_50 : WY50_PERSONALITY_60) : next());
+    size_t i, k = 0, n = 0, cells = below(12) ? below(5) ? WY50_CELLS : WY50_WIDE_CELLS : below(MOST_PAGE + 1), others = below(12) ? cells : below(MOST_PAGE + 1);
+    size_t one_in = below(4) ? 1 + below(400) : 0, numbers_len, paint_len;
+    int of_text = below(4) > 0, named = personality == WY50_PERSONALITY_50 || personality == WY50_PERSONALITY_60, served, answer;
+    int alike = cells == others && (cells == WY50_CELLS || cells == WY50_WIDE_CELLS);
+    uint16_t *shown = (uint16_t *)place(&shown_buffer, cells * sizeof *shown), *wanted = (uint16_t *)place(&wanted_buffer, others * sizeof *wanted), *numbers;
+    uint8_t *paint;
+    wy50_propose_result r;
+    for (i = 0; i < cells; i++)
+        shown[i] = (uint16_t)(of_text ? 0x20 + below(95) + (personality == WY50_PERSONALITY_60 ? 1024 * below(31) : 0) : i < kept_cells ? kept[i] : next());
+    for (i = 0; i < others; i++)
+        wanted[i] = (uint16_t)(i < cells && (one_in == 0 || below(one_in)) ? shown[i] : of_text ? 0x20 + below(95) : next());
+    if (cells > 0 && others > 0 && below(4))
+        wanted[others - 1] = shown[cells - 1];
+    if (others > 0 && below(8) == 0)
+        wanted[below(others)] = (uint16_t)next();
+    served = alike && named && cells == WY50_CELLS && shown[cells - 1] == wanted[cells - 1];
+    for (i = 0; served && i < cells; i++)
+        served = plain(personality, shown[i]) && plain(personality, wanted[i]);
+    if (served)
+        n = proposed(shown, wanted, &k);
+    /* rooms about as long as is needed, or of any length */
+    numbers_len = below(4) ? WY50_SPAN_NUMBERS * n + below(7) : below(WY50_SPAN_NUMBERS * MOST_PAGE);
+    numbers_len = numbers_len < 3 ? numbers_len : numbers_len - below(4);
+    paint_len = below(4) ? k + below(5) : below(MOST_PAINT + 1);
+    paint_len = paint_len < 3 ? paint_len : paint_len - below(3);
+    numbers = (uint16_t *)place(&span_buffer, numbers_len * sizeof *numbers);
+    paint = (uint8_t *)place(&paint_buffer, paint_len);
+    for (i = 0; i < numbers_len; i++)
+        numbers[i] = numbers_before[i] = (uint16_t)next();
+    for (i = 0; i < paint_len; i++)
+        paint[i] = paint_before[i] = (uint8_t)next();
+    answer = !alike || !named ? WY50_BAD_CALL : !served ? WY50_BAD_ARGUMENT : n > numbers_len / 3 || k > paint_len ? WY50_NO_ROOM : WY50_DONE;
+    copy(page_before, shown, cells * sizeof *shown);
+    copy(page_stepped, wanted, others * sizeof *wanted);
+    r = wy50_propose_numbers(shown, cells, wanted, others, personality, numbers, numbers_len, paint, paint_len);
+    expect(r.answer == answer, "a proposal answers 7, 3, 6 or 0 as it should");
+    if (answer != WY50_DONE)
+        n = k = 0;
+    expect(r.spans == n && r.bytes == k, "a proposal counts its spans and bytes, and none where it is refused");
+    copy(numbers_before, spans_made, 3 * n * sizeof *numbers);
+    copy(paint_before, paint_made, k);
+    expect(equal(numbers, numbers_before, numbers_len * sizeof *numbers), "the spans are at the front, and their room's rest is untouched");
+    expect(equal(paint, paint_before, paint_len), "the bytes are at the front, and their room's rest is untouched");
+    expect(equal(shown, page_before, cells * sizeof *shown) && equal(wanted, page_stepped, others * sizeof *wanted), "a proposal leaves both pages");
+    untouched(&span_buffer);
+    untouched(&paint_buffer);
+    proposals += answer == WY50_DONE;
+    unproposed += answer != WY50_DONE;
+    calls += 3;
+
+    /* what is judged: the proposal as it is, with a thing or two changed, or anything */
+    if (answer != WY50_DONE)
+        n = below(3);
+    numbers = (uint16_t *)place(&span_buffer, n * sizeof(wy50_span));
+    copy(numbers, numbers_before, n * sizeof(wy50_span) < sizeof numbers_before ? n * sizeof(wy50_span) : 0);
+    if (n > 0 && below(2))
+        numbers[below(3 * n)] = (uint16_t)(below(2) ? next() : below(140));
+    i = wy50_judge_spans(shown, cells, wanted, others, (const wy50_span *)numbers, n);
+    expect(i == (size_t)(!alike ? WY50_BAD_CALL : good_spans(shown, wanted, cells, (const wy50_span *)numbers, n) ? WY50_DONE : WY50_BAD_ARGUMENT), "the judge of spans is right");
+    if (i != WY50_BAD_CALL)
+        spans_judged[i == WY50_DONE]++;
+    if (answer != WY50_DONE)
+        k = below(8) ? host(paint_before, MOST_INPUT) : 0;
+    paint = (uint8_t *)place(&paint_buffer, k);
+    copy(paint, paint_before, k);
+    if (k > 0 && below(2))
+        paint[below(k)] = (uint8_t)next();
+    i = wy50_judge_bytes(shown, cells, wanted, others, personality, paint, k);
+    expect(i == (size_t)(!alike || !named ? WY50_BAD_CALL : good_paint(shown, wanted, cells, personality, paint, k) ? WY50_DONE : WY50_BAD_ARGUMENT), "the judge of bytes is right");
+    if (i != WY50_BAD_CALL)
+        paints_judged[i == WY50_DONE]++;
+    else
+        answered_7++;
+    expect(equal(shown, page_before, cells * sizeof *shown) && equal(wanted, page_stepped, others * sizeof *wanted), "a judge leaves both pages");
+    untouched(&shown_buffer);
+    untouched(&wanted_buffer);
+    untouched(&span_buffer);
+    untouched(&paint_buffer);
+}
+
 static wy50_state turn(wy50_state last, uint16_t *kept)
 {
     wy50_state x = any_state(last);
@@ -738,6 +895,8 @@ static wy50_state turn(wy50_state last, uint16_t *kept)
         last = kept_setups(last, x);
     if (below(8) == 0)
         mends(page, cells);
+    if (below(8) == 0)
+        repaints(page, cells);
     untouched(&page_buffer);
     untouched(&reply_buffer);
     calls++;
@@ -766,6 +925,10 @@ int main(int argc, char **argv)
     target_buffer = make(MOST_PAGE * sizeof *kept);
     mend_buffer = make(MOST_PAGE * sizeof *kept);
     list_buffer = make(MOST_LIST * sizeof *kept);
+    shown_buffer = make(MOST_PAGE * sizeof *kept);
+    wanted_buffer = make(MOST_PAGE * sizeof *kept);
+    span_buffer = make(WY50_SPAN_NUMBERS * MOST_PAGE * sizeof *kept);
+    paint_buffer = make(MOST_PAINT);
     last = powered_on(kept);
     do {
         if (turns % 5000 == 0)
@@ -774,9 +937,10 @@ int main(int argc, char **argv)
         turns++;
         clock_gettime(CLOCK_MONOTONIC, &to);
     } while ((double)(to.tv_sec - from.tv_sec) + 1e-9 * (double)(to.tv_nsec - from.tv_nsec) < seconds);
-    printf("fuzz: nothing found in %.0f seconds: %llu turns (%llu answered 7), %llu row lists (%llu wrong), %llu NULLs, %llu saves, %llu pages widened and %llu narrowed, %llu cells mended (%llu lists too short), %llu calls, %llu host bytes, %llu reply bytes (seed %llu)\n",
+    printf("fuzz: nothing found in %.0f seconds: %llu turns (%llu answered 7), %llu row lists (%llu wrong), %llu NULLs, %llu saves, %llu pages widened and %llu narrowed, %llu cells mended (%llu lists too short), %llu repaintings proposed (%llu refused), %llu lists of spans accepted (%llu not) and %llu of bytes (%llu not), %llu calls, %llu host bytes, %llu reply bytes (seed %llu)\n",
         seconds, (unsigned long long)turns, (unsigned long long)answered_7, (unsigned long long)lists, (unsigned long long)wrong_lists,
-        (unsigned long long)nulls, (unsigned long long)saves, (unsigned long long)widened, (unsigned long long)narrowed_pages, (unsigned long long)mended_cells, (unsigned long long)unmended, (unsigned long long)calls, (unsigned long long)bytes, (unsigned long long)replies,
+        (unsigned long long)nulls, (unsigned long long)saves, (unsigned long long)widened, (unsigned long long)narrowed_pages, (unsigned long long)mended_cells, (unsigned long long)unmended, (unsigned long long)proposals, (unsigned long long)unproposed, (unsigned long long)spans_judged[1],
+        (unsigned long long)spans_judged[0], (unsigned long long)paints_judged[1], (unsigned long long)paints_judged[0], (unsigned long long)calls, (unsigned long long)bytes, (unsigned long long)replies,
         (unsigned long long)seed);
     return 0;
 }
