@@ -51,7 +51,8 @@
 //! # Ok::<(), wy50::Unconverted>(())
 //! ```
 //!
-//! A [`Store`] keeps the last eight set-ups. A saved page that may be damaged is mended by [`mend`] before it is used.
+//! A [`Store`] keeps the last eight set-ups. A saved page that may be damaged is mended by [`mend`] before it is used. [`propose`] gives the bytes that
+//! bring a distant display from one page to another; [`judge_spans`] and [`judge_bytes`] judge those of others.
 //!
 //! It links the proved library libwy50.a (see `build.rs`), which keeps nothing between calls and allocates nothing; neither does this crate.
 #![no_std]
@@ -66,6 +67,7 @@ mod field;
 mod mend;
 mod page;
 mod personality;
+mod repaint;
 mod sending;
 mod sequence;
 mod store;
@@ -81,6 +83,7 @@ pub use mend::{mend, Mended, Unmended};
 use page::Page;
 pub use page::Unconverted;
 pub use personality::Personality;
+pub use repaint::{judge_bytes, judge_spans, propose, Proposal, Span, Unaccepted, Unproposed, MOST_PAINT_BYTES, MOST_SPANS};
 pub use sending::{Place, Sending};
 pub use sequence::SequenceKind;
 pub use store::{Refusal, Store, STORE_BYTES};

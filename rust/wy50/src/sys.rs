@@ -1,6 +1,6 @@
 //! What crosses to the library: the structs of include/wy50.h and its calls. All members are numbers, so every bit pattern is a value.
 
-use crate::{Mended, KEYS, KEY_BYTES, LABELS, MESSAGE_BYTES, ROW_NUMBERS, STORE_BYTES, WIDE_COLUMNS};
+use crate::{Mended, Span, KEYS, KEY_BYTES, LABELS, MESSAGE_BYTES, ROW_NUMBERS, STORE_BYTES, WIDE_COLUMNS};
 
 /// A function key or a key label: the first `len` of `bytes`.
 #[repr(C)]
@@ -176,6 +176,13 @@ pub struct RawMend {
     pub needed: u16,
 }
 
+#[repr(C)]
+pub struct RawPropose {
+    pub answer: u8,
+    pub spans: u16,
+    pub bytes: u16,
+}
+
 mod linked {
     use super::*;
 
@@ -231,6 +238,34 @@ mod linked {
         pub fn wy50_restore(state: State, store: *const u8, store_len: usize, number: u16) -> RawRestore;
         pub fn wy50_convert(page: *const u16, page_len: usize, state: State, target: *mut u16, target_len: usize) -> RawConvert;
         pub fn wy50_mend(page: *mut u16, page_len: usize, personality: u8, list: *mut u16, list_len: usize) -> RawMend;
+        pub fn wy50_judge_spans(
+            before: *const u16,
+            before_len: usize,
+            after: *const u16,
+            after_len: usize,
+            spans: *const Span,
+            spans_len: usize,
+        ) -> u8;
+        pub fn wy50_judge_bytes(
+            before: *const u16,
+            before_len: usize,
+            after: *const u16,
+            after_len: usize,
+            personality: u8,
+            bytes: *const u8,
+            bytes_len: usize,
+        ) -> u8;
+        pub fn wy50_propose_numbers(
+            before: *const u16,
+            before_len: usize,
+            after: *const u16,
+            after_len: usize,
+            personality: u8,
+            numbers: *mut u16,
+            numbers_len: usize,
+            bytes: *mut u8,
+            bytes_len: usize,
+        ) -> RawPropose;
         pub safe fn wy50_cell_code(cell: u16) -> u8;
         pub safe fn wy50_cell_protected(cell: u16) -> u8;
         pub safe fn wy50_cell_kind(cell: u16) -> u8;
@@ -322,6 +357,26 @@ pub fn mend(page: &mut [u16], personality: u8, list: &mut [Mended]) -> RawMend {
     let (numbers, count) = (list.as_mut_ptr().cast(), size_of_val(list) / size_of::<u16>());
     // SAFETY: as above, for two slices that are lent for writing; an entry is four numbers, without padding.
     unsafe { linked::wy50_mend(page.as_mut_ptr(), page.len(), personality, numbers, count) }
+}
+
+pub fn judge_spans(before: &[u16], after: &[u16], spans: &[Span]) -> u8 {
+    // SAFETY: as above, for three slices that are only read.
+    unsafe { linked::wy50_judge_spans(before.as_ptr(), before.len(), after.as_ptr(), after.len(), spans.as_ptr(), spans.len()) }
+}
+
+pub fn judge_bytes(before: &[u16], after: &[u16], personality: u8, bytes: &[u8]) -> u8 {
+    let (before, before_len) = (before.as_ptr(), before.len());
+    // SAFETY: as above.
+    unsafe { linked::wy50_judge_bytes(before, before_len, after.as_ptr(), after.len(), personality, bytes.as_ptr(), bytes.len()) }
+}
+
+pub fn propose(before: &[u16], after: &[u16], personality: u8, spans: &mut [Span], bytes: &mut [u8]) -> RawPropose {
+    let (before, before_len) = (before.as_ptr(), before.len());
+    let (after, after_len) = (after.as_ptr(), after.len());
+    let (numbers, count) = (spans.as_mut_ptr().cast(), size_of_val(spans) / size_of::<u16>());
+    let (bytes, bytes_len) = (bytes.as_mut_ptr(), bytes.len());
+    // SAFETY: as above, for two slices that are only read and two that are lent for writing; a span is three numbers, without padding.
+    unsafe { linked::wy50_propose_numbers(before, before_len, after, after_len, personality, numbers, count, bytes, bytes_len) }
 }
 
 pub fn save(state: State, store: &mut [u8; STORE_BYTES]) -> RawSave {

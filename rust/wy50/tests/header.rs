@@ -3,8 +3,8 @@ use std::collections::BTreeMap;
 use wy50::Command;
 use wy50::{
     library_version, Answer, Attributes, CursorStyle, Features, Kind, Mended, Personality, Place, ProtectedLook, RawSending, Refusal,
-    Scrolling, Sending, SequenceKind, Terminal, CELLS, COLUMNS, KEYS, KEY_BYTES, LABELS, LABEL_BYTES, LONGEST_REPLY, LONGEST_TEXT,
-    MESSAGE_BYTES, ROWS, ROW_NUMBERS, STORE_BYTES, VERSION, WIDE_CELLS, WIDE_COLUMNS,
+    Scrolling, Sending, SequenceKind, Span, Terminal, CELLS, COLUMNS, KEYS, KEY_BYTES, LABELS, LABEL_BYTES, LONGEST_REPLY, LONGEST_TEXT,
+    MESSAGE_BYTES, MOST_PAINT_BYTES, MOST_SPANS, ROWS, ROW_NUMBERS, STORE_BYTES, VERSION, WIDE_CELLS, WIDE_COLUMNS,
 };
 
 /// The header without its comments.
@@ -120,6 +120,9 @@ fn ours() -> BTreeMap<String, usize> {
         ("WY50_MESSAGE_BYTES", MESSAGE_BYTES),
         ("WY50_STORE_BYTES", STORE_BYTES),
         ("WY50_ENTRY_NUMBERS", size_of::<Mended>() / size_of::<u16>()),
+        ("WY50_SPAN_NUMBERS", size_of::<Span>() / size_of::<u16>()),
+        ("WY50_MOST_SPANS", MOST_SPANS),
+        ("WY50_MOST_PAINT_BYTES", MOST_PAINT_BYTES),
         ("WY50_CURSOR_SHOWN", Features::CURSOR_SHOWN),
         ("WY50_CURSOR_STYLE", Features::CURSOR_STYLE),
         ("WY50_PROTECTED_LOOK", Features::PROTECTED_LOOK),
