@@ -1,13 +1,14 @@
 /* Runs a program on a 24 by 80 pseudo-terminal with TERM=wy50, feeds what it writes to the terminal, writes the replies back, and prints the
  * page at the end.
  *
- *     host_pty [-6] [-w] [-l] [-s KEYS].. [-q MILLISECONDS] PROGRAM [ARGUMENT]..
+ *     host_pty [-6] [-w] [-l] [-s KEYS].. [-q MILLISECONDS] [-o FILE] PROGRAM [ARGUMENT]..
  *
  *     -6               a WY-60, with TERM=wy60; what has an attribute is listed below the page
  *     -w               132 columns from the start, with TERM=wy50-w or wy60-w
  *     -l               follow live on this ANSI display, attributes as they are, guarded cells dim; what is typed goes to the program, Ctrl-] ends
  *     -s KEYS          once the program is quiet, send it these keys; may come more than once. \r \e \b \t \\ and \xHH are read as in C
  *     -q MILLISECONDS  how long quiet is (300)
+ *     -o FILE          write there what the program writes, a host stream, with a 00h where it went quiet
  *
  * Without an option it follows live if it stands on a display itself. With -s or -q it kills the program when it has been quiet for a while
  * after the last keys.
@@ -42,6 +43,7 @@ enum { END_KEY = 0x1d };
 static uint16_t pages[2][WY50_WIDE_CELLS], shown[WY50_WIDE_CELLS];
 static wy50_state state;
 static size_t fed, refused, kept_wide;
+static FILE *record;
 
 static uint16_t *page(void)
 {
@@ -243,8 +245,18 @@ static size_t keys(char *s)
 
 static void usage(void)
 {
-    fputs("usage: host_pty [-6] [-w] [-l] [-s KEYS].. [-q MILLISECONDS] PROGRAM [ARGUMENT]..\n", stderr);
+    fputs("usage: host_pty [-6] [-w] [-l] [-s KEYS].. [-q MILLISECONDS] [-o FILE] PROGRAM [ARGUMENT]..\n", stderr);
     exit(2);
+}
+
+/* The file that the host stream goes to; the program does not have it open. */
+static void open_record(const char *name)
+{
+    record = fopen(name, "wb");
+    if (!record || fcntl(fileno(record), F_SETFD, FD_CLOEXEC) < 0) {
+        fprintf(stderr, "host_pty: %s: %s\n", name, strerror(errno));
+        exit(1);
+    }
 }
 
 /* Starts the program on a pseudo-terminal; -1 if it cannot be started. The pipe closes at its start, or says why there is none. */
@@ -295,6 +307,8 @@ static int play(int program, int live, char **scripts, int count, int quiet)
             continue;
         }
         if (ready == 0) {
+            if (record)
+                fputc(0, record);
             if (sent == count)
                 return 0;
             put(program, (const uint8_t *)scripts[sent], keys(scripts[sent]));
@@ -311,6 +325,8 @@ static int play(int program, int live, char **scripts, int count, int quiet)
             ssize_t n = read(program, bytes, sizeof bytes);
             if (n <= 0)
                 return 1;
+            if (record)
+                fwrite(bytes, 1, (size_t)n, record);
             feed(program, bytes, (size_t)n);
             if (live)
                 show();
@@ -326,7 +342,7 @@ int main(int argc, char **argv)
     int option, program, ended, status = 0, personality = WY50_PERSONALITY_50, wide = 0, live = 0, count = 0, quiet = -1, raw = 0;
     pid_t child;
 
-    while ((option = getopt(argc, argv, "+6wls:q:")) != -1) {
+    while ((option = getopt(argc, argv, "+6wls:q:o:")) != -1) {
         if (option == '6')
             personality = WY50_PERSONALITY_60;
         else if (option == 'w')
@@ -337,6 +353,8 @@ int main(int argc, char **argv)
             scripts[count++] = optarg;
         else if (option == 'q')
             quiet = atoi(optarg);
+        else if (option == 'o')
+            open_record(optarg);
         else
             usage();
     }
@@ -375,6 +393,8 @@ int main(int argc, char **argv)
         kill(-child, SIGKILL);
     waitpid(child, &status, 0);
     close(program);
+    if (record && fclose(record) != 0)
+        perror("host_pty: -o");
     if (!ended)
         return 0;
     return WIFSIGNALED(status) ? 128 + WTERMSIG(status) : WEXITSTATUS(status);
