@@ -1,5 +1,5 @@
-/* The floors: a loop that stores text and ends lines by 0Dh and 0Ah, one that shifts rows, one that sends cells, one that counts text parts, and one
- * that mends a page. */
+/* The floors: a loop that stores text and ends lines by 0Dh and 0Ah, one that shifts rows, one that sends cells, one that counts text parts, one that
+ * mends a page, and one that compares two pages and paints what differs. */
 #include <stdbool.h>
 #include <stddef.h>
 #include <stdint.h>
@@ -206,4 +206,40 @@ size_t floor_mend(uint16_t *page, uint16_t *list)
         }
     }
     return (size_t)(to - list) / 4;
+}
+
+/* Spans and bytes from one page of a WY-60 to another, both of text, in rooms that are long enough; gives back how many spans they are. */
+size_t floor_propose(const uint16_t *before, const uint16_t *after, uint16_t *spans, uint8_t *bytes, size_t *count)
+{
+    uint16_t *to = spans;
+    uint8_t *out = bytes;
+    unsigned remembered = 0;
+    for (size_t k = 0; k < CELLS; k++) {
+        if ((before[k] & 0x3ff) - 0x20u >= 95 || (after[k] & 0x3ff) - 0x20u >= 95 || before[k] >= 0x7c00 || after[k] >= 0x7c00)
+            return SIZE_MAX;
+    }
+    for (size_t k = 0; k < CELLS; k++) {
+        if (before[k] == after[k])
+            continue;
+        size_t row = k / COLUMNS, first = k, end = (row + 1) * COLUMNS;
+        *out++ = 0x1b;
+        *out++ = '=';
+        *out++ = (uint8_t)(' ' + row);
+        *out++ = (uint8_t)(' ' + k % COLUMNS);
+        for (; k < end && before[k] != after[k]; k++) {
+            if (after[k] >> 10 != remembered) {
+                remembered = after[k] >> 10;
+                *out++ = 0x1b;
+                *out++ = 'G';
+                *out++ = (uint8_t)((remembered < 16 ? 0x30 : 0x60) + remembered);
+            }
+            *out++ = after[k] & 0x7f;
+        }
+        *to++ = (uint16_t)(row + 1);
+        *to++ = (uint16_t)(first % COLUMNS + 1);
+        *to++ = (uint16_t)(k - first);
+        k--;
+    }
+    *count = (size_t)(out - bytes);
+    return (size_t)(to - spans) / 3;
 }

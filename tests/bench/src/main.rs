@@ -1,8 +1,9 @@
 //! Times the proved terminal and the proved counter beside their peers, prints the tables, and writes them to the file that is named. It
-//! fails if the proved terminal and the independent implementation differ, or the counter or the mending and its plain loop, or if a row list
-//! makes a difference.
+//! fails if the proved terminal and the independent implementation differ, or the counter, the mending or the proposal and its plain loop, if a row
+//! list makes a difference, or if a distant display shows another page.
 
 mod peers;
+mod sessions;
 #[allow(dead_code)]
 #[path = "../../independent/src/state.rs"]
 mod state;
@@ -12,17 +13,19 @@ mod terminal;
 mod workloads;
 
 use peers::{
-    after, feed, floor_mended, floor_parts, play, proved_mend, proved_parts, Counter, Floor, Independent, Independent60, Libvterm, Listed,
-    Mender, Page, Peer, Proved, Proved60, SendFloor, Sender, ShiftFloor, NARROW_REPLY, READ,
+    after, feed, floor_mended, floor_parts, floor_proposed, play, proved_mend, proved_parts, proved_propose, Counter, Floor, Independent,
+    Independent60, Libvterm, Listed, Mender, Page, Painter, Painting, Peer, Proved, Proved60, SendFloor, Sender, ShiftFloor, NARROW_REPLY,
+    READ,
 };
+use sessions::{Traffic, SESSIONS};
 use std::{
     fmt::Write,
     hint::black_box,
     process::{Command, ExitCode},
     time::Instant,
 };
-use workloads::{Saved, Shifts, Stream, Workload, ALERTS, LISTED, SAVED, SENDS, SHIFTS, WORKLOADS};
-use wy50::{Answer, Mended, State, Store, Terminal, CELLS, LONGEST_REPLY};
+use workloads::{Change, Saved, Shifts, Stream, Workload, ALERTS, CHANGES, LISTED, SAVED, SENDS, SHIFTS, WORKLOADS};
+use wy50::{judge_bytes, judge_spans, Answer, Mended, Personality, State, Store, Terminal, CELLS, LONGEST_REPLY};
 
 const ROUNDS: usize = 5;
 const SIZE: usize = 20_000_000;
@@ -39,6 +42,8 @@ const LIST_ROUNDS: usize = 50; // each is short
 const STORE_CALLS: usize = 1_000;
 const MEND_CALLS: usize = 200;
 const MEND_ROUNDS: usize = 50; // each is short
+const PAINT_CALLS: usize = 20;
+const PAINT_ROUNDS: usize = 1000; // each is short
 
 /// Nanoseconds a byte, a row shift or a reply byte, where a peer has the workload.
 struct Row {
@@ -62,6 +67,16 @@ struct MendRow {
     floor: f64,
 }
 
+/// Nanoseconds a cell of two pages: the proposal, the plain loop and the two judges; and how many spans and bytes are proposed.
+struct PaintRow {
+    name: &'static str,
+    proved: f64,
+    floor: f64,
+    spans_judged: f64,
+    bytes_judged: f64,
+    counts: (usize, usize),
+}
+
 /// Nanoseconds a byte with a row list and without one.
 struct ListRow {
     name: &'static str,
@@ -80,7 +95,9 @@ struct Single {
 
 fn main() -> ExitCode {
     let Some(path) = std::env::args().nth(1) else {
-        eprintln!("bench FILE: the tables go to FILE\nbench --scrolls, --sends, --counts, --lists, --mends: these alone, printed");
+        eprintln!(
+            "bench FILE: the tables go to FILE\nbench --scrolls, --sends, --counts, --lists, --mends, --repaints: these alone, printed"
+        );
         return ExitCode::from(2);
     };
     let (made, alone) = match path.as_str() {
@@ -89,6 +106,7 @@ fn main() -> ExitCode {
         "--counts" => (counts_report(), true),
         "--lists" => (lists_report(), true),
         "--mends" => (mends_report(), true),
+        "--repaints" => (repaints_report(), true),
         _ => (report(), false),
     };
     match made {
@@ -113,6 +131,8 @@ fn report() -> Result<String, String> {
     let counted = counts()?;
     let lists = LISTED.iter().map(list_row).collect::<Result<Vec<_>, _>>()?;
     let mends = SAVED.iter().map(mend_row).collect::<Result<Vec<_>, _>>()?;
+    let paints = CHANGES.iter().map(paint_row).collect::<Result<Vec<_>, _>>()?;
+    let traffic = SESSIONS.iter().map(|session| session.traffic()).collect::<Result<Vec<_>, _>>()?;
     let growth = WORKLOADS.each_ref().map(grown);
     let singles = [
         single("step", Some(400.0), Terminal::new(), step),
@@ -131,9 +151,10 @@ fn report() -> Result<String, String> {
     counts_table(&mut out, &counted);
     lists_table(&mut out, &lists);
     mends_table(&mut out, &mends);
+    repaints_table(&mut out, &paints, &traffic);
     growth_table(&mut out, &growth);
     singles_table(&mut out, &singles);
-    targets(&mut out, &rows, &shifts, &[sends], &singles, &[counted], &lists);
+    targets(&mut out, &rows, &shifts, &[sends], &singles, &[counted], &lists, &paints);
     Ok(out)
 }
 
@@ -141,7 +162,7 @@ fn scrolls_report() -> Result<String, String> {
     let shifts = SHIFTS.iter().map(shift_row).collect::<Result<Vec<_>, _>>()?;
     let mut out = String::new();
     shifts_table(&mut out, &shifts);
-    targets(&mut out, &[], &shifts, &[], &[], &[], &[]);
+    targets(&mut out, &[], &shifts, &[], &[], &[], &[], &[]);
     Ok(out)
 }
 
@@ -149,7 +170,7 @@ fn sends_report() -> Result<String, String> {
     let sends = send_row()?;
     let mut out = String::new();
     sends_table(&mut out, &sends);
-    targets(&mut out, &[], &[], &[sends], &[], &[], &[]);
+    targets(&mut out, &[], &[], &[sends], &[], &[], &[], &[]);
     Ok(out)
 }
 
@@ -157,7 +178,7 @@ fn counts_report() -> Result<String, String> {
     let counted = counts()?;
     let mut out = String::new();
     counts_table(&mut out, &counted);
-    targets(&mut out, &[], &[], &[], &[], &[counted], &[]);
+    targets(&mut out, &[], &[], &[], &[], &[counted], &[], &[]);
     Ok(out)
 }
 
@@ -165,7 +186,7 @@ fn lists_report() -> Result<String, String> {
     let lists = LISTED.iter().map(list_row).collect::<Result<Vec<_>, _>>()?;
     let mut out = String::new();
     lists_table(&mut out, &lists);
-    targets(&mut out, &[], &[], &[], &[], &[], &lists);
+    targets(&mut out, &[], &[], &[], &[], &[], &lists, &[]);
     Ok(out)
 }
 
@@ -173,6 +194,15 @@ fn mends_report() -> Result<String, String> {
     let mends = SAVED.iter().map(mend_row).collect::<Result<Vec<_>, _>>()?;
     let mut out = String::new();
     mends_table(&mut out, &mends);
+    Ok(out)
+}
+
+fn repaints_report() -> Result<String, String> {
+    let paints = CHANGES.iter().map(paint_row).collect::<Result<Vec<_>, _>>()?;
+    let traffic = SESSIONS.iter().map(|session| session.traffic()).collect::<Result<Vec<_>, _>>()?;
+    let mut out = String::new();
+    repaints_table(&mut out, &paints, &traffic);
+    targets(&mut out, &[], &[], &[], &[], &[], &[], &paints);
     Ok(out)
 }
 
@@ -356,6 +386,38 @@ fn timed_mends(page: &Page, mend: Mender) -> f64 {
         black_box((&page, &list));
     }
     start.elapsed().as_nanos() as f64 / (MEND_CALLS * CELLS) as f64
+}
+
+/// Paintings from one page to another, the peers taking turns; and both judges over what is proposed.
+fn paint_row(change: &Change) -> Result<PaintRow, String> {
+    let pages = change.pages();
+    let name = change.name;
+    let [ours, plain] = [proved_propose, floor_proposed].map(|paint: Painter| {
+        let mut painting = Painting::default();
+        paint(&pages, &mut painting);
+        painting
+    });
+    if ours.counts != plain.counts || ours.spans != plain.spans || ours.bytes != plain.bytes {
+        return Err(format!("{name}: the spans or the bytes differ"));
+    }
+    let [before, after] = &pages;
+    let (spans, bytes) = (&ours.spans[..ours.counts.0], &ours.bytes[..ours.counts.1]);
+    let (mut proved, mut floor, mut spans_judged, mut bytes_judged) = (f64::MAX, f64::MAX, f64::MAX, f64::MAX);
+    let mut painting = Painting::default();
+    for _ in 0..PAINT_ROUNDS {
+        proved = proved.min(timed_cells(|| proved_propose(black_box(&pages), black_box(&mut painting))));
+        floor = floor.min(timed_cells(|| floor_proposed(black_box(&pages), black_box(&mut painting))));
+        spans_judged = spans_judged.min(timed_cells(|| assert!(judge_spans(black_box(before), after, black_box(spans)).is_ok())));
+        bytes_judged =
+            bytes_judged.min(timed_cells(|| assert!(judge_bytes(black_box(before), after, Personality::Wy60, black_box(bytes)).is_ok())));
+    }
+    Ok(PaintRow { name, proved, floor, spans_judged, bytes_judged, counts: ours.counts })
+}
+
+fn timed_cells(mut call: impl FnMut()) -> f64 {
+    let start = Instant::now();
+    (0..PAINT_CALLS).for_each(|_| call());
+    start.elapsed().as_nanos() as f64 / (PAINT_CALLS * CELLS) as f64
 }
 
 fn timed(stream: &[u8], play: fn(&[u8]) -> Page) -> (f64, Page) {
@@ -608,6 +670,70 @@ fn mends_table(out: &mut String, rows: &[MendRow]) {
     line!(out);
 }
 
+fn repaints_table(out: &mut String, rows: &[PaintRow], traffic: &[Traffic]) {
+    line!(out, "## Repainting");
+    line!(out);
+    line!(
+        out,
+        "Nanoseconds a cell of two narrow pages of a WY-60, and in brackets how many times the proposal's that is. {PAINT_CALLS} each, the best of {PAINT_ROUNDS}:"
+    );
+    line!(out);
+    for change in &CHANGES {
+        line!(out, "- {}: {}", change.name, change.what);
+    }
+    line!(out);
+    line!(out, "| pages | spans | bytes | proposal | C loop over the cells | judge of spans | judge of bytes |");
+    line!(out, "|---|---|---|---|---|---|---|");
+    for row in rows {
+        let beside = |time: f64| format!("{time:.2} ({:.2})", time / row.proved);
+        line!(
+            out,
+            "| {} | {} | {} | {:.2} | {} | {} | {} |",
+            row.name,
+            row.counts.0,
+            row.counts.1,
+            row.proved,
+            beside(row.floor),
+            beside(row.spans_judged),
+            beside(row.bytes_judged)
+        );
+    }
+    line!(out);
+    line!(
+        out,
+        "Spans and bytes are the same, number by number. The C loop writes into its rooms at once, since they are long enough; the call makes spans and"
+    );
+    line!(out, "bytes beside the rooms first. The judge of bytes feeds them to a terminal.");
+    line!(out);
+    line!(out, "Instructions a cell, which a busy machine does not change, counted by valgrind (`tests/bench/instructions`):");
+    line!(out);
+    line!(out, "| pages | proposal | C loop over the cells | judge of spans | judge of bytes |");
+    line!(out, "|---|---|---|---|---|");
+    out.push_str(&counted_instructions());
+    line!(out);
+    line!(
+        out,
+        "What a distant display is sent to follow a session, in bytes, painted where the host went quiet; its page is compared each time:"
+    );
+    line!(out);
+    for session in &SESSIONS {
+        line!(out, "- {}: {}", session.name, session.what);
+    }
+    line!(out);
+    line!(out, "| session | host | pages | served | as proposed | whole | the shorter of both |");
+    line!(out, "|---|---|---|---|---|---|---|");
+    for (session, t) in SESSIONS.iter().zip(traffic) {
+        line!(out, "| {} | {} | {} | {} | {} | {} | {} |", session.name, t.host, t.pages, t.served, t.proposed, t.whole, t.shorter);
+    }
+    line!(out);
+    line!(
+        out,
+        "Whole: the page cleared, and each cell written that is not blank then. A page that is not served counts as whole under as proposed. Before each"
+    );
+    line!(out, "painting a WY-60 is told ESC G 30h, which is counted. `examples/repaint.c` sends the shorter of both.");
+    line!(out);
+}
+
 /// A row of the first three tables, its times with so many digits after the point.
 fn peers_row(out: &mut String, row: &Row, digits: usize) {
     let beside = |time: Option<f64>| time.map_or("-".to_string(), |time| format!("{time:.digits$} ({:.2})", time / row.proved));
@@ -648,7 +774,17 @@ fn singles_table(out: &mut String, singles: &[Single]) {
     line!(out);
 }
 
-fn targets(out: &mut String, rows: &[Row], shifts: &[Row], sends: &[Row], singles: &[Single], counts: &[Counted], lists: &[ListRow]) {
+#[allow(clippy::too_many_arguments)]
+fn targets(
+    out: &mut String,
+    rows: &[Row],
+    shifts: &[Row],
+    sends: &[Row],
+    singles: &[Single],
+    counts: &[Counted],
+    lists: &[ListRow],
+    paints: &[PaintRow],
+) {
     line!(out, "## Targets");
     line!(out);
     line!(out, "| target | measured | |");
@@ -678,6 +814,10 @@ fn targets(out: &mut String, rows: &[Row], shifts: &[Row], sends: &[Row], single
         let ratio = row.without / row.with;
         target(&format!("{}: faster with a row list than without", row.name), format!("{ratio:.2}"), ratio > 1.0);
     }
+    for row in paints {
+        let microseconds = row.proved * CELLS as f64 / 1_000.0;
+        target(&format!("{}: a proposal in at most 50 microseconds", row.name), format!("{microseconds:.1}"), microseconds <= 50.0);
+    }
     for single in singles {
         if let Some(most) = single.most {
             target(&format!("{}: at most {most} ns", single.name), format!("{:.0}", single.full), single.full <= most);
@@ -689,6 +829,12 @@ fn machine() -> String {
     let cpus = std::fs::read_to_string("/proc/cpuinfo").unwrap_or_default();
     let model = cpus.lines().find_map(|line| line.strip_prefix("model name")).map_or("", |rest| rest.trim_start_matches([' ', '\t', ':']));
     format!("{model}, {} processors, {}", cpus.lines().filter(|line| line.starts_with("processor")).count(), said("uname", &["-sm"]))
+}
+
+/// The rows of tests/bench/instructions; one that says that they are not counted where it cannot.
+fn counted_instructions() -> String {
+    let output = Command::new("tests/bench/instructions").output().ok().filter(|output| output.status.success());
+    output.map_or("| not counted | | | | |\n".to_string(), |output| String::from_utf8_lossy(&output.stdout).into_owned())
 }
 
 /// The first line that a command says.

@@ -5,7 +5,7 @@ use std::{
     ffi::{c_char, c_int, c_void},
     ops::Range,
 };
-use wy50::{mend, Mended, Personality, Terminal, CELLS, COLUMNS, ROWS};
+use wy50::{mend, propose, Mended, Personality, Span, Terminal, CELLS, COLUMNS, MOST_PAINT_BYTES, MOST_SPANS, ROWS};
 
 /// Bytes of a read, and of the reply room.
 pub const READ: usize = 4096;
@@ -228,6 +228,7 @@ extern "C" {
     fn floor_send(page: *const u16, bytes: *const u8, count: usize, reply: *mut u8) -> usize;
     fn floor_count(text: *const u8, count: usize) -> u64;
     fn floor_mend(page: *mut u16, list: *mut Mended) -> usize;
+    fn floor_propose(before: *const u16, after: *const u16, spans: *mut Span, bytes: *mut u8, count: *mut usize) -> usize;
 }
 
 /// A text's parts, by one of the peers.
@@ -252,6 +253,34 @@ pub fn proved_mend(page: &mut Page, list: &mut [Mended; CELLS]) -> usize {
 pub fn floor_mended(page: &mut Page, list: &mut [Mended; CELLS]) -> usize {
     // SAFETY: the page has 1,920 cells, and the list an entry of four numbers for each.
     unsafe { floor_mend(page.as_mut_ptr(), list.as_mut_ptr()) }
+}
+
+/// Rooms that are always enough, and what is proposed at their front for a WY-60.
+pub struct Painting {
+    pub spans: [Span; MOST_SPANS],
+    pub bytes: [u8; MOST_PAINT_BYTES],
+    pub counts: (usize, usize),
+}
+
+impl Default for Painting {
+    fn default() -> Self {
+        Painting { spans: [Span::default(); MOST_SPANS], bytes: [0; MOST_PAINT_BYTES], counts: (0, 0) }
+    }
+}
+
+/// A painting from the first page to the second, by one of the peers.
+pub type Painter = fn(&[Page; 2], &mut Painting);
+
+pub fn proved_propose([before, after]: &[Page; 2], painting: &mut Painting) {
+    let proposed = propose(before, after, Personality::Wy60, &mut painting.spans, &mut painting.bytes);
+    painting.counts = proposed.map_or((usize::MAX, usize::MAX), |proposal| (proposal.spans.len(), proposal.bytes.len()));
+}
+
+pub fn floor_proposed([before, after]: &[Page; 2], painting: &mut Painting) {
+    let counts = &mut painting.counts;
+    // SAFETY: the pages have 1,920 cells, and the rooms are those that are always enough.
+    counts.0 =
+        unsafe { floor_propose(before.as_ptr(), after.as_ptr(), painting.spans.as_mut_ptr(), painting.bytes.as_mut_ptr(), &mut counts.1) };
 }
 
 /// The floor of text, plain C.

@@ -254,6 +254,34 @@ impl Saved {
     }
 }
 
+/// Two pages that a display is brought from and to, of a WY-60.
+pub struct Change {
+    pub name: &'static str,
+    pub what: &'static str,
+    /// One cell of so many changes; none where it is 0.
+    one_in: usize,
+}
+
+pub const CHANGES: [Change; 3] = [
+    Change { name: "equal", what: "both of one text, any letter and attribute in each cell", one_in: 0 },
+    Change { name: "scattered", what: "that text, and it with one cell in 48 changed", one_in: 48 },
+    Change { name: "noise", what: "two such texts: nearly every cell differs, and its attribute from the one before", one_in: 1 },
+];
+
+impl Change {
+    /// Their last cells are equal, as they must be.
+    pub fn pages(&self) -> [Page; 2] {
+        let mut random = Writer::new().random;
+        let mut letter = || (random.from_to(0x20, 0x7e) + 1024 * random.below(31)) as u16;
+        let before: Page = std::array::from_fn(|_| letter());
+        let mut after = before;
+        for cell in after.iter_mut().rev().skip(1).filter(|_| self.one_in > 0).step_by(self.one_in.max(1)) {
+            *cell = letter();
+        }
+        [before, after]
+    }
+}
+
 const FIRST_FIELD_ROW: usize = 4;
 const FIELDS: usize = 16;
 const FIELD_COLUMN: usize = 20;
