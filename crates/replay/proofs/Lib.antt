@@ -3,3 +3,4 @@ pub mod Numbers
 pub mod Hex
 pub mod Rooms
 pub mod Fnv
+pub mod Proposals

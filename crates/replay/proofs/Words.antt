@@ -60,6 +60,9 @@ module _ {s : List ℕ} {n i : ℕ} (v : Counting s n i) where
 pub tail : (s : List ℕ) (a : ℕ) → take (length s - a) (drop a s) ≡ drop a s
 tail s a = take-all (length s - a) (drop a s) (omega (arith, length-drop a s))
 
+pub part-within : (s : List ℕ) (a : ℕ) {n : ℕ} → a ≤ length s → n ≤ length (take (length s - a) (drop a s)) → a + n ≤ length s
+part-within s a h k = omega (arith, k, ap length (tail s a), length-drop a s)
+
 pub later-some : (s : List ℕ) {n : ℕ} → n ≡ place 0x20 s → take (length s - (n + 1)) (drop (n + 1) s) ≡ laterWords s
 later-some s {n} e = tail s (n + 1) ∙ ap (λ (k : ℕ). drop (k + 1) s) e
 

@@ -49,7 +49,7 @@ pub fn ending(out: &mut [u8], at: usize, s: State, page: &[u16]) -> Called {
 }
 
 // Whether every byte of a part of the room is still EEh.
-fn untouched(room: &[u8]) -> bool
+pub fn untouched(room: &[u8]) -> bool
     ensures { λ r. ⌜ r ≡ isUntouched 0xee (now (room .entry)) ⌝ }
 {
     let mut i = 0;

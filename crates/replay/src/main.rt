@@ -5,6 +5,7 @@ mod change;
 mod digest;
 mod mending;
 mod progress;
+mod repainting;
 mod script;
 mod send;
 mod sequence;
@@ -43,6 +44,7 @@ fn obey_lines(
     page: &mut [u16],
     rows: &mut [u16],
     store: &mut [u8],
+    display: &mut [u16],
     out: &mut [u8],
 ) -> Progress {
     let mut t = s;
@@ -52,7 +54,7 @@ fn obey_lines(
         if end == rest.len() {
             break;
         }
-        let u = obey(t, &rest[..end], page, rows, store, out);
+        let u = obey(t, &rest[..end], page, rows, store, display, out);
         t = u;
         if !t.going {
             break;
@@ -83,14 +85,15 @@ fn piece(
     page: &mut [u16],
     rows: &mut [u16],
     store: &mut [u8],
+    display: &mut [u16],
     out: &mut [u8],
 ) -> Progress {
     let held = within(s.held, input);
     let n = read(&mut input[held..]);
     if n == 0 {
-        return end(s, &input[..held], page, rows, store, out);
+        return end(s, &input[..held], page, rows, store, display, out);
     }
-    filled(s, held + n, input, page, rows, store, out)
+    filled(s, held + n, input, page, rows, store, display, out)
 }
 
 // Obeys the whole lines of the n bytes that the buffer holds, and moves the rest to its front.
@@ -101,10 +104,11 @@ fn filled(
     page: &mut [u16],
     rows: &mut [u16],
     store: &mut [u8],
+    display: &mut [u16],
     out: &mut [u8],
 ) -> Progress {
     let size = within(n, input);
-    let t = obey_lines(s, &input[..size], page, rows, store, out);
+    let t = obey_lines(s, &input[..size], page, rows, store, display, out);
     let left = least(t.held, size);
     if left == input.len() {
         return too_long(t);
@@ -120,9 +124,10 @@ fn end(
     page: &mut [u16],
     rows: &mut [u16],
     store: &mut [u8],
+    display: &mut [u16],
     out: &mut [u8],
 ) -> Progress {
-    let t = obey(s, line, page, rows, store, out);
+    let t = obey(s, line, page, rows, store, display, out);
     stopped(t)
 }
 
@@ -149,11 +154,18 @@ fn left(pieces: u64, going: bool) -> u64
 }
 
 // A proved loop has to end, and nothing says that the input does: the count of pieces falls from a number that no script uses up.
-fn replay(input: &mut [u8], page: &mut [u16], rows: &mut [u16], store: &mut [u8], out: &mut [u8]) {
+fn replay(
+    input: &mut [u8],
+    page: &mut [u16],
+    rows: &mut [u16],
+    store: &mut [u8],
+    display: &mut [u16],
+    out: &mut [u8],
+) {
     let mut s = progress::start();
     let mut pieces = u64::MAX;
     while 0 < pieces {
-        let t = piece(s, input, page, rows, store, out);
+        let t = piece(s, input, page, rows, store, display, out);
         s = t;
         pieces = left(pieces, s.going);
     }
@@ -166,5 +178,13 @@ fn main() {
     let mut page = [0u16; 4000];
     let mut rows = [0u16; 4000];
     let mut store = [0u8; 16384];
-    replay(&mut input, &mut page, &mut rows, &mut store, &mut out);
+    let mut display = [0u16; 4000];
+    replay(
+        &mut input,
+        &mut page,
+        &mut rows,
+        &mut store,
+        &mut display,
+        &mut out,
+    );
 }

@@ -16,7 +16,7 @@ use rules::Personality;
 use rules::State;
 
 // Whether every number of a part of the list is still EEEEh.
-fn untouched(list: &[u16]) -> bool
+pub fn untouched(list: &[u16]) -> bool
     ensures { λ r. ⌜ r ≡ isUntouched 0xeeee (now (list .entry)) ⌝ }
 {
     let mut i = 0;

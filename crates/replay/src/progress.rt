@@ -4,10 +4,12 @@ use crate::bounds::within_cells;
 use crate::call;
 use crate::change;
 use crate::mending;
+use crate::repainting;
 use crate::script::Call;
 use crate::script::Command;
 use crate::script::ListLine;
 use crate::script::PageLine;
+use crate::script::RepaintLine;
 use crate::script::Setting;
 use crate::script::StoreLine;
 use crate::script::read;
@@ -26,12 +28,16 @@ use std::num::wrapping_add_usize;
 // The longest byte string of a line.
 const MOST: usize = 32768;
 
+// More spans than a line can name.
+const SPANS: usize = 11000;
+
 pub struct Progress {
     pub state: State,
-    // the lengths of the page, of the row list and of the store
+    // the lengths of the page, of the row list, of the store and of the display's page
     pub cells: usize,
     pub numbers: usize,
     pub bytes: usize,
+    pub shown: usize,
     // how many lines were written, and read
     pub written: usize,
     pub line: usize,
@@ -51,6 +57,7 @@ pub fn start() -> Progress {
         cells: CELLS,
         numbers: 48,
         bytes: 8714,
+        shown: CELLS,
         written: 0,
         line: 0,
         at: 0,
@@ -83,11 +90,12 @@ pub fn obey(
     page: &mut [u16],
     rows: &mut [u16],
     store: &mut [u8],
+    display: &mut [u16],
     out: &mut [u8],
 ) -> Progress {
     let mut t = s;
     t.line = wrapping_add_usize(s.line, 1);
-    let u = carry_out(t, line, page, rows, store, out);
+    let u = carry_out(t, line, page, rows, store, display, out);
     if !u.going {
         complain(u.line, line);
     }
@@ -100,6 +108,7 @@ fn carry_out(
     page: &mut [u16],
     rows: &mut [u16],
     store: &mut [u8],
+    display: &mut [u16],
     out: &mut [u8],
 ) -> Progress {
     let c = read(line);
@@ -117,6 +126,7 @@ fn carry_out(
         Command::Sending => set_sending(s, line),
         Command::Convert(n) => convert(s, n, page, out),
         Command::Mend(m, n) => mend(s, m, n, page, out),
+        Command::Repaint(x) => repaint(s, x, line, page, display, out),
         Command::Call(x, n) => obey_call(s, x, n, line, page, rows, out),
     }
 }
@@ -275,6 +285,145 @@ fn mend(s: Progress, m: Personality, n: usize, page: &mut [u16], out: &mut [u8])
         s.at,
     );
     t
+}
+
+// The lines about the display.
+fn repaint(
+    s: Progress,
+    x: RepaintLine,
+    line: &[u8],
+    page: &[u16],
+    display: &mut [u16],
+    out: &mut [u8],
+) -> Progress {
+    let cells = within_cells(s.cells, page);
+    let shown = within_cells(s.shown, display);
+    match x {
+        RepaintLine::Display => set_display(s, &page[..cells], display),
+        RepaintLine::Spans => spans(s, line, &display[..shown], &page[..cells], out),
+        RepaintLine::Bytes(m) => bytes(s, m, line, &display[..shown], &page[..cells], out),
+        RepaintLine::Propose(m, n, k) => {
+            propose(s, m, n, k, &display[..shown], &page[..cells], out)
+        }
+    }
+}
+
+fn set_display(s: Progress, page: &[u16], display: &mut [u16]) -> Progress {
+    change::copy(page, display);
+    let mut t = s;
+    t.shown = page.len();
+    t
+}
+
+// The line is written, and the output buffer holds so many bytes.
+fn written(s: Progress, at: usize) -> Progress {
+    let mut t = s;
+    t.written = wrapping_add_usize(s.written, 1);
+    t.at = at;
+    t
+}
+
+fn spans(s: Progress, line: &[u8], display: &[u16], page: &[u16], out: &mut [u8]) -> Progress {
+    let mut rows = [0u16; SPANS];
+    let mut columns = [0u16; SPANS];
+    let mut lengths = [0u16; SPANS];
+    let n = repainting::read(text::later(line), &mut rows, &mut columns, &mut lengths);
+    if SPANS < n {
+        return stopped(s);
+    }
+    judge_spans(s, n, &rows, &columns, &lengths, display, page, out)
+}
+
+// Over the first n numbers of each list.
+fn judge_spans(
+    s: Progress,
+    n: usize,
+    rows: &[u16],
+    columns: &[u16],
+    lengths: &[u16],
+    display: &[u16],
+    page: &[u16],
+    out: &mut [u8],
+) -> Progress {
+    let r = within_cells(n, rows);
+    let c = within_cells(n, columns);
+    let l = within_cells(n, lengths);
+    let state = s.state;
+    let at = repainting::spans(
+        wrapping_add_usize(s.written, 1),
+        state,
+        display,
+        page,
+        &rows[..r],
+        &columns[..c],
+        &lengths[..l],
+        out,
+        s.at,
+    );
+    written(s, at)
+}
+
+fn bytes(
+    s: Progress,
+    m: Personality,
+    line: &[u8],
+    display: &[u16],
+    page: &[u16],
+    out: &mut [u8],
+) -> Progress {
+    let mut bytes = [0u8; MOST];
+    let k = text::byte_string(text::later(text::later(line)), &mut bytes);
+    if MOST < k {
+        return stopped(s);
+    }
+    let n = within(k, &bytes);
+    let state = s.state;
+    let at = repainting::bytes(
+        wrapping_add_usize(s.written, 1),
+        state,
+        m,
+        display,
+        page,
+        &bytes[..n],
+        out,
+        s.at,
+    );
+    written(s, at)
+}
+
+// The rooms are all EEEEh and EEh before the call.
+fn propose(
+    s: Progress,
+    m: Personality,
+    spans: usize,
+    bytes: usize,
+    display: &[u16],
+    page: &[u16],
+    out: &mut [u8],
+) -> Progress {
+    let mut rows = [0xeeeeu16; 4000];
+    let mut columns = [0xeeeeu16; 4000];
+    let mut lengths = [0xeeeeu16; 4000];
+    let mut room = [0xeeu8; 16384];
+    let r = within_cells(spans, &rows);
+    let c = within_cells(spans, &columns);
+    let l = within_cells(spans, &lengths);
+    let k = within(bytes, &room);
+    let state = s.state;
+    let at = repainting::propose(
+        wrapping_add_usize(s.written, 1),
+        state,
+        m,
+        display,
+        page,
+        &mut rows[..r],
+        &mut columns[..c],
+        &mut lengths[..l],
+        &mut room[..k],
+        out,
+        s.at,
+    );
+    written(s, at)
 }
 
 fn with_setup(s: Progress, u: Setup) -> Progress {

@@ -31,6 +31,14 @@ pub enum StoreLine {
     Restore(u16),
 }
 
+// Lines about the distant display: its page, the judges of spans and of bytes, and the proposer with rooms for so many spans and bytes.
+pub enum RepaintLine {
+    Display,
+    Spans,
+    Bytes(Personality),
+    Propose(Personality, usize, usize),
+}
+
 // Lines that change the state by numbers alone. A mode counts from 0 in the order of `Modes`.
 pub enum Setting {
     Active(u8),
@@ -80,6 +88,7 @@ pub enum Command {
     Convert(usize),
     // the length of the list, in numbers
     Mend(Personality, usize),
+    Repaint(RepaintLine),
     Call(Call, usize),
 }
 
@@ -114,6 +123,9 @@ fn one_word(line: &[u8]) -> Command {
     if same(line, b"save") {
         return Command::Store(StoreLine::Save);
     }
+    if same(line, b"display") {
+        return Command::Repaint(RepaintLine::Display);
+    }
     Command::Bad
 }
 
@@ -135,6 +147,9 @@ fn two_words(line: &[u8]) -> Command {
     }
     if same(word, b"entry") {
         return Command::Call(Call::Entry, 0);
+    }
+    if same(word, b"spans") {
+        return Command::Repaint(RepaintLine::Spans);
     }
     let n = number(later(line));
     if same(word, b"length") {
@@ -243,6 +258,9 @@ fn three_words(line: &[u8]) -> Command {
     if same(word, b"mend") {
         return mending(i, n);
     }
+    if same(word, b"bytes") {
+        return judging(i);
+    }
     pair(word, i, n)
 }
 
@@ -255,6 +273,17 @@ fn mending(p: usize, n: usize) -> Command {
         return Command::Mend(Personality::Wy50, 4 * n);
     }
     given(p == 60, Command::Mend(Personality::Wy60, 4 * n))
+}
+
+// The personality that is to be fed bytes.
+fn judging(p: usize) -> Command {
+    if p == 50 {
+        return Command::Repaint(RepaintLine::Bytes(Personality::Wy50));
+    }
+    given(
+        p == 60,
+        Command::Repaint(RepaintLine::Bytes(Personality::Wy60)),
+    )
 }
 
 // `step`, `press` or `liststep`, from 0: a byte, and the length of the room.
@@ -331,7 +360,27 @@ fn four_words(line: &[u8]) -> Command {
     if same(word, b"noise") {
         return noise(a, b, c);
     }
+    if same(word, b"propose") {
+        return proposing(a, b, c);
+    }
     Command::Bad
+}
+
+// A personality, and how many spans and bytes the rooms hold.
+fn proposing(p: usize, spans: usize, bytes: usize) -> Command {
+    if 4000 < spans {
+        return Command::Bad;
+    }
+    if 16384 < bytes {
+        return Command::Bad;
+    }
+    if p == 50 {
+        return Command::Repaint(RepaintLine::Propose(Personality::Wy50, spans, bytes));
+    }
+    given(
+        p == 60,
+        Command::Repaint(RepaintLine::Propose(Personality::Wy60, spans, bytes)),
+    )
 }
 
 fn count(first: usize, last: usize) -> Command {

@@ -35,14 +35,14 @@ piece-spec =
     (λ c. search needs)
     -- same-length-5
     (λ c. search needs)
+    -- same-length-6
+    (λ c. search needs)
     -- returns
     (λ c. search needs)
     -- add-filled
     (λ c. search needs)
     -- filled-requires
     (λ c κs. search needs)
-    -- same-length-6
-    (λ c. search needs)
     -- same-length-7
     (λ c. search needs)
     -- same-length-8
@@ -50,6 +50,10 @@ piece-spec =
     -- same-length-9
     (λ c. search needs)
     -- same-length-10
+    (λ c. search needs)
+    -- same-length-11
+    (λ c. search needs)
+    -- same-length-12
     (λ c. search needs)
     -- returns-2
     (λ c. search needs))

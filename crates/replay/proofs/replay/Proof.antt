@@ -6,12 +6,12 @@ use Rattle.replay.proofs.replay.Statement.{statement}
 use Rattle.replay.proofs.replay.Tie as tie
 
 abbrev Inv-loop : tie.InvT-loop
-Inv-loop input₀ page₀ rows₀ store₀ out₀ s₀ pieces₀ input page rows store out s pieces =
+Inv-loop input₀ page₀ rows₀ store₀ display₀ out₀ s₀ pieces₀ input page rows store display out s pieces =
     (length input ≡ length input₀) × (length page ≡ length page₀) × (length rows ≡ length rows₀) × (length store ≡ length store₀)
-    × (length out ≡ length out₀)
+    × (length display ≡ length display₀) × (length out ≡ length out₀)
 
 abbrev μ-loop : tie.MeasureT-loop
-μ-loop input₀ page₀ rows₀ store₀ out₀ s₀ pieces₀ input page rows store out s pieces = pieces
+μ-loop input₀ page₀ rows₀ store₀ display₀ out₀ s₀ pieces₀ input page rows store display out s pieces = pieces
 
 pub replay-spec : {M : Type 1} → statement M
 replay-spec =
@@ -42,6 +42,8 @@ replay-spec =
     -- same-length-4
     (λ c. omega arith)
     -- same-length-5
+    (λ c. omega arith)
+    -- same-length-6
     (λ c. omega arith)
     -- returns
     (λ c. tt))
