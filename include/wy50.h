@@ -33,9 +33,9 @@
 #include <stdint.h>
 
 /* The version of this header. Its number is for #if, and to be compared with that of the library. */
-#define WY50_VERSION "0.12.0"
+#define WY50_VERSION "0.13.0"
 #define WY50_VERSION_MAJOR 0
-#define WY50_VERSION_MINOR 12
+#define WY50_VERSION_MINOR 13
 #define WY50_VERSION_PATCH 0
 #define WY50_VERSION_NUMBER (1000000 * WY50_VERSION_MAJOR + 1000 * WY50_VERSION_MINOR + WY50_VERSION_PATCH)
 
