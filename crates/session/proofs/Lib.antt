@@ -1,3 +1,4 @@
 pub mod Pages
 pub mod Sessions
 pub mod Streams
+pub mod Completed
