@@ -2,3 +2,4 @@ pub mod Pages
 pub mod Sessions
 pub mod Streams
 pub mod Completed
+pub mod Given

@@ -1,3 +1,4 @@
 pub mod Sessions
 pub mod Same
 pub mod Completed
+pub mod Given
