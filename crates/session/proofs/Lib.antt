@@ -3,3 +3,4 @@ pub mod Sessions
 pub mod Streams
 pub mod Completed
 pub mod Given
+pub mod CodeSessions

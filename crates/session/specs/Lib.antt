@@ -2,3 +2,4 @@ pub mod Sessions
 pub mod Same
 pub mod Completed
 pub mod Given
+pub mod CodeSessions
