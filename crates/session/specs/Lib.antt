@@ -3,3 +3,4 @@ pub mod Same
 pub mod Completed
 pub mod Given
 pub mod CodeSessions
+pub mod Cases
