@@ -11,4 +11,5 @@ pub mod RoundTrip
 pub mod Kept
 pub mod Noninterference
 pub mod RowNoninterference
+pub mod Sessions
 pub mod Repainting

@@ -30,9 +30,9 @@ use Rattle.wy50.proofs.Noninterference.{RawClosed, AgreeRaw, good-named
 abbrev session : List ℕ → List ℕ → RawState → RawSession
 session p l x = record { page = p; rows = l; state = x }
 
-record AgreeRows (p q : List ℕ) (a b : RawRowCalled) : Type 0 where
-  called : AgreeRaw p q (a .called) (b .called)
-  rows : a .rows ≡ b .rows
+pub record AgreeRows (p q : List ℕ) (a b : RawRowCalled) : Type 0 where
+  pub called : AgreeRaw p q (a .called) (b .called)
+  pub rows : a .rows ≡ b .rows
 
 listed-good : (p l : List ℕ) (x : RawState) → rawListed p l x ≡ true → rawGood p x ≡ true
 unfolding rawListed
@@ -129,7 +129,7 @@ module _ {p q a b : List ℕ} (h : Related p q a b) (l : List ℕ) (x : RawState
   heard-agrees true c d k = taken-agrees c d k
   heard-agrees false c d k = record { called = k; rows = refl }
 
-  row-call-agrees : (c : RowCall) → (RawCompleted (bareCall (session a l x) c) a x → ⊥)
+  pub row-call-agrees : (c : RowCall) → (RawCompleted (bareCall (session a l x) c) a x → ⊥)
       → AgreeRows p q (rawRowCall (session a l x) c) (rawRowCall (session b l x) c)
   unfolding rawRowCall bareCall rawCanRebuild canRebuild good
   row-call-agrees (Bare c) free = record { called = raw-agrees h x closed c (λ e k. free (first e k)); rows = refl }
@@ -187,7 +187,7 @@ append-completed : (ds cs : List Call) {p : List ℕ} {x : RawState} → RawComp
 append-completed (c ∷ ds) cs (first e k) = first e k
 append-completed (c ∷ ds) cs (later k) = later (append-completed ds cs k)
 
-row-made-is : {x : RawSession} {p′ l′ : List ℕ} {c : RowCall} {g : RawGiven} → RowMade x c g p′ l′
+pub row-made-is : {x : RawSession} {p′ l′ : List ℕ} {c : RowCall} {g : RawGiven} → RowMade x c g p′ l′
     → rawRowCall x c ≡ record { called = record { given = g; page = p′ }; rows = l′ }
 unfolding rawRowCall
 row-made-is {x} (bare m) = ap (λ (r : RawCalled). record { called = r; rows = x .rows }) (made-is m)

@@ -4,6 +4,7 @@ pub mod Noninterference
 pub mod Rows
 pub mod RowNoninterference
 pub mod Saved
+pub mod Sessions
 pub mod Converting
 pub mod Mending
 pub mod Repainting
