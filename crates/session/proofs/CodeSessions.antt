@@ -1,7 +1,7 @@
 -- The statement of the code: what calls whose promises hold give is what the rules give.
 --     code-session-noninterference, code-stream-noninterference
 -- Assumes nothing.
-use mathlib.Core.Path.{_≡_, refl, sym, ap, subst, subst₂, _∙_}
+use mathlib.Core.Path.{_≡_, refl, ap, subst₂, _∙_}
 use mathlib.Core.List.{List}
 use Prim.Native.Nat.{ℕ}
 use Rattle.rules.specs.Calls.{Given, Called, ofStep, ofRun}

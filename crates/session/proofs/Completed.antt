@@ -3,13 +3,13 @@
 --     unless-completed     the statement without the test
 --     none-completed, from-bad     what completes nothing
 -- Assumes nothing.
-use mathlib.Core.Path.{_≡_, refl, sym, ap, ap₂, subst, subst₂, _∙_}
+use mathlib.Core.Path.{_≡_, refl, sym, ap, ap₂, _∙_}
 use mathlib.Core.Bool.{Bool, true, false, false≢true}
 use mathlib.Core.List.{List, [], _∷_, _++_}
 use mathlib.Core.Logic.{_⊎_, inl, inr}
 use Prim.Native.Nat.{ℕ}
 use lib.Dec.{eqb}
-use lib.ListN.{length, take}
+use lib.ListN.{length}
 use Rattle.rules.specs.declared.Core.{Core}
 use Rattle.rules.specs.declared.State.{State}
 use Rattle.rules.specs.Cell.{pick, both, either}
@@ -18,7 +18,7 @@ use Rattle.rules.specs.Possible.{possible, good}
 use Rattle.rules.specs.Step.{stepRule}
 use Rattle.rules.specs.Calls.{Call, Step, Run, Press, runRule, ofStep, ofRun, ofPress, callRule, after, play}
 use Rattle.rules.specs.RowList.{agrees}
-use Rattle.rules.specs.RowCalls.{suits, Session, RowCall, Bare, ListStep, ListRun, Next, Rebuild, handed, left, runOf, rowCallRule, bareCall}
+use Rattle.rules.specs.RowCalls.{suits, Session, RowCall, Bare, ListStep, ListRun, Next, Rebuild, handed, runOf, bareCall}
 use Rattle.rules.specs.Noninterference.{callCompletes, anyCompleted}
 use Rattle.rules.specs.Completed.{Completing, CompletedInRun, CompletedIn, in-step, in-run}
 use Rattle.rules.proofs.Completed as Rules

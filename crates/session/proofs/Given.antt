@@ -5,7 +5,6 @@
 use mathlib.Core.Path.{_≡_, refl, sym, ap, ap₂, subst, subst₂, _∙_}
 use mathlib.Core.Bool.{Bool, true, false}
 use mathlib.Core.List.{List, [], _∷_, _++_, map}
-use mathlib.Core.Logic.{_⊎_, inl, inr}
 use Prim.Native.Nat.{ℕ, zero, suc, _-_}
 use native.Mathlib.Omega.{arith}
 use lib.Dec.{eqb}
@@ -15,17 +14,17 @@ use Rattle.rules.specs.declared.State.{State}
 use Rattle.rules.specs.Cell.{pick, either}
 use Rattle.rules.specs.State.{sends}
 use Rattle.rules.specs.Possible.{good}
-use Rattle.rules.specs.Step.{Outcome, goesOn, unheard, stepRule}
-use Rattle.rules.specs.Calls.{Ran, ended, joined, behind, runRule, pressRule, Call, Step, Run, Press, ofStep, ofRun, ofPress, callRule, Given, after, play}
+use Rattle.rules.specs.Step.{Outcome, goesOn, stepRule}
+use Rattle.rules.specs.Calls.{Ran, ended, joined, behind, runRule, pressRule, Call, ofStep, ofRun, ofPress, callRule, Given, after, play}
 use Rattle.rules.specs.Next.{tells, atEvent, toEvent, nextRule}
 use Rattle.rules.specs.RowList.{agrees}
-use Rattle.rules.specs.RowCalls.{stepRowsRule, runRowsRule, suits, nextRowsRule, Session, RowCall, Bare, ListStep, ListRun, Next, Rebuild, handed, left, rowCallRule, rowAfter, rowPlay, bareCall, bareCalls}
+use Rattle.rules.specs.RowCalls.{stepRowsRule, runRowsRule, suits, nextRowsRule, Session, RowCall, handed, left, rowCallRule, rowAfter, rowPlay, bareCall, bareCalls}
 use Rattle.rules.specs.Noninterference.{KeptPages, callCompletes, anyCompleted}
 use Rattle.rules.proofs.Run.{run-repeats, run-resumes, run-unheard, run-refused}
 use Rattle.rules.proofs.Next.{to-done, to-event, to-go, next-outside, next-inside, next-unheard, next-refused}
 use Rattle.rules.proofs.RowSteps.{call-leaves}
 use Rattle.rules.proofs.Noninterference.{either-left, either-right}
-use Rattle.session.specs.Sessions.{SessionCall, Terminal, Save, Restore, Kept, start, Told, Heard, Saved, Restored, sessionRule, SessionGiven, givenBy, sessionAfter, sessionPlay, callCompleted, sessionCompleted, hostBytes, handedBack}
+use Rattle.session.specs.Sessions.{SessionCall, Terminal, Kept, Told, Heard, Saved, Restored, sessionRule, SessionGiven, givenBy, sessionAfter, sessionPlay, callCompleted, sessionCompleted, hostBytes}
 use Rattle.session.specs.Given.{GivenBack, OneByOne, HandedBack, CarriesDemand3}
 
 pub given-back : (p l : List ℕ) (s : State) (store : List ℕ) → GivenBack p l s store

@@ -5,24 +5,20 @@
 --     called-agrees     one call
 -- Assumes nothing.
 use mathlib.Core.Path.{_≡_, refl, sym, ap, subst, _∙_}
-use mathlib.Core.Bool.{Bool, true, false}
+use mathlib.Core.Bool.{false}
 use mathlib.Core.List.{List, [], _∷_, append-nil}
 use Prim.Native.Nat.{ℕ}
 use lib.ListN.{getD}
 use Rattle.rules.specs.declared.Core.{Core}
 use Rattle.rules.specs.declared.State.{State}
-use Rattle.rules.specs.Cell.{either}
 use Rattle.rules.specs.Calls.{Call, callRule, Given, after, play}
 use Rattle.rules.specs.Noninterference.{AlikePages, KeptPages, revealing, callCompletes, anyCompleted}
-use Rattle.rules.specs.RowCalls.{Session, RowCall, RowCalled, left, rowCallRule, bareCall, bareCalls, rowAfter, rowPlay}
-use Rattle.rules.proofs.Related.{Related}
+use Rattle.rules.specs.RowCalls.{Session, RowCall, rowCallRule, bareCall, bareCalls, rowAfter, rowPlay}
 use Rattle.rules.proofs.Noninterference.{Closed, call-agrees, start-related, related-kept, either-left, either-right}
 use Rattle.rules.proofs.RowSteps.{call-leaves}
 use Rattle.rules.proofs.RowNoninterference.{row-noninterference}
-use Rattle.saved.specs.Calls.{saveRule, restoreRule}
-use Rattle.saved.specs.SavedSetups.{LeavesAlone}
 use Rattle.saved.proofs.SavedSetups.{saved-setups}
-use Rattle.session.specs.Sessions.{SessionCall, Terminal, Save, Restore, Kept, start, Told, Heard, SessionCalled, sessionRule, SessionGiven, givenBy, SessionPlayed, sessionAfter, sessionPlay, callCompleted, sessionCompleted, SessionIndistinguishable, SessionDemand3}
+use Rattle.session.specs.Sessions.{SessionCall, Terminal, Save, Restore, Kept, start, SessionCalled, sessionRule, sessionAfter, sessionPlay, callCompleted, sessionCompleted, SessionIndistinguishable, SessionDemand3}
 use Rattle.session.proofs.Pages.{kept-alike, kept-kept}
 
 -- ---- one call
@@ -106,7 +102,7 @@ module _ (p q l store : List ℕ) (s : State) (closed : Closed s) (alike : Alike
 
 -- ---- lists of calls
 
-pub session-agrees : (cs : List SessionCall) (p q l store : List ℕ) (s : State) → Closed s → AlikePages p q → sessionCompleted cs (start p l s store) ≡ false
+session-agrees : (cs : List SessionCall) (p q l store : List ℕ) (s : State) → Closed s → AlikePages p q → sessionCompleted cs (start p l s store) ≡ false
     → SessionIndistinguishable p q (sessionPlay cs (start p l s store)) (sessionPlay cs (start q l s store))
 unfolding sessionPlay sessionCompleted sessionAfter
 session-agrees [] p q l store s closed alike e =

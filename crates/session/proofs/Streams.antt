@@ -3,10 +3,9 @@
 --     stream-noninterference     demand 3 over a stream
 -- Assumes nothing.
 use mathlib.Core.Path.{_≡_, refl, sym, ap, subst, subst₂, _∙_}
-use mathlib.Core.Bool.{Bool, true, false}
-use mathlib.Core.List.{List, [], _∷_, _++_, append-nil, append-assoc}
+use mathlib.Core.Bool.{true, false}
+use mathlib.Core.List.{List, [], _∷_, _++_, append-assoc}
 use Prim.Native.Nat.{ℕ, zero, suc}
-use native.Mathlib.Omega.{arith}
 use lib.ListN.{length, getD, take, drop}
 use lib.Seq.{take-append-seam, drop-append-seam}
 use Rattle.rules.specs.declared.State.{State}
@@ -14,9 +13,9 @@ use Rattle.rules.specs.Calls.{Step, Run, Press}
 use Rattle.rules.specs.RowCalls.{Bare, ListStep, ListRun, Next, Rebuild}
 use Rattle.rules.specs.Noninterference.{AlikePages}
 use Rattle.rules.proofs.Noninterference.{Closed, either-left, either-right}
-use Rattle.session.specs.Sessions.{SessionCall, Terminal, Save, Restore, Kept, start, SessionCalled, sessionRule, SessionPlayed, sessionAfter, sessionPlay, callCompleted, sessionCompleted, SessionIndistinguishable, Act, HandStep, HandRun, HandNext, PressKey, RebuildRows, SaveSetup, RestoreSetup, callOf, hostBytes, handedBack, leftOf, streamPlay, callsOf, StreamDemand3}
-use Rattle.session.specs.Same.{Continues, none, whole, part, OverStream, SayTheSame}
-use Rattle.session.proofs.Sessions.{called-agrees, session-agrees}
+use Rattle.session.specs.Sessions.{SessionCall, Terminal, Save, Restore, Kept, start, SessionCalled, sessionRule, sessionAfter, sessionPlay, callCompleted, sessionCompleted, SessionIndistinguishable, Act, HandStep, HandRun, HandNext, PressKey, RebuildRows, SaveSetup, RestoreSetup, callOf, hostBytes, handedBack, leftOf, streamPlay, callsOf, SessionDemand3, StreamDemand3}
+use Rattle.session.specs.Same.{Continues, none, whole, part, ContinuedDemand3, SayTheSame}
+use Rattle.session.proofs.Sessions.{called-agrees, session-noninterference}
 
 -- ---- acts and their calls
 
@@ -48,18 +47,20 @@ stream-agrees (a ∷ acts) stream p q l store s closed alike e =
     (k .closed) (k .alike) (either-right (callCompleted x c) _ e) in
     record { calls = rw (k .but-page) (ap (λ (cs : List SessionCall). c ∷ cs) (t .calls)); left = t .left ∙ ap (λ (z : SessionCalled). streamPlay acts (leftOf stream c (z .told)) (z .kept) .left) (sym (k .but-page)) }
 
-pub stream-noninterference : StreamDemand3
-stream-noninterference p q l store stream s acts on conceals alike e =
+to-streams : SessionDemand3 → StreamDemand3
+to-streams demand p q l store stream s acts on conceals alike e =
     let x = start p l s store in
     let y = start q l s store in
-    let closed : Closed s = record { on = on; conceals = conceals } in
-    let k = stream-agrees acts stream p q l store s closed alike e in
-    let second : streamPlay acts stream y .session ≡ sessionPlay (callsOf acts stream x) y =
-    played acts stream y ∙ ap (λ (cs : List SessionCall). sessionPlay cs y) (sym (k .calls)) in
+    let k = stream-agrees acts stream p q l store s record { on = on; conceals = conceals } alike e in
+    let second : sessionPlay (callsOf acts stream x) y ≡ streamPlay acts stream y .session =
+    ap (λ (cs : List SessionCall). sessionPlay cs y) (k .calls) ∙ sym (played acts stream y) in
     record {
-      session = subst₂ (SessionIndistinguishable p q) (sym (played acts stream x)) (sym second) (session-agrees (callsOf acts stream x) p q l store s closed alike e);
+      session = subst₂ (SessionIndistinguishable p q) (sym (played acts stream x)) second (demand p q l store s (callsOf acts stream x) on conceals alike e);
       left = k .left;
     }
+
+pub stream-noninterference : StreamDemand3
+stream-noninterference = to-streams session-noninterference
 
 -- ---- a stream's calls continue
 
@@ -177,6 +178,17 @@ found {owed} (part {c = c} {cs = cs} {x = x} behind e k) =
       come-to = ap (λ (l : List ℕ). callsOf (actOf c ∷ r .acts) l x) (sym is) ∙ one-more c cs x (behind ++ r .new) (r .acts) h;
     }
 
+to-lists : StreamDemand3 → ContinuedDemand3
+to-lists demand p q l store s calls on conceals alike k e =
+    let x = start p l s store in
+    let y = start q l s store in
+    let r = found k in
+    let f : sessionCompleted (callsOf (r .acts) (r .new) x) x ≡ false = ap (λ (cs : List SessionCall). sessionCompleted cs x) (r .come-to) ∙ e in
+    let c = stream-agrees (r .acts) (r .new) p q l store s record { on = on; conceals = conceals } alike f .calls in
+    subst₂ (SessionIndistinguishable p q) (played (r .acts) (r .new) x ∙ ap (λ (cs : List SessionCall). sessionPlay cs x) (r .come-to))
+    (played (r .acts) (r .new) y ∙ ap (λ (cs : List SessionCall). sessionPlay cs y) (sym c ∙ r .come-to))
+    (demand p q l store (r .new) s (r .acts) on conceals alike f .session)
+
 pub say-the-same : SayTheSame
 say-the-same = record {
   played = played;
@@ -184,4 +196,6 @@ say-the-same = record {
       stream-agrees acts stream p q l store s record { on = on; conceals = conceals } alike e .calls;
   continued = λ acts stream x. continued acts [] stream x;
   over-stream = λ calls x k. let r = found k in record { stream = r .new; acts = r .acts; come-to = r .come-to };
+  to-streams = to-streams;
+  to-lists = to-lists;
 }

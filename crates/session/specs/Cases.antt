@@ -1,6 +1,6 @@
 -- Worked sessions.
 use mathlib.Core.Path.{_≡_}
-use mathlib.Core.Bool.{Bool, true, false}
+use mathlib.Core.Bool.{true, false}
 use mathlib.Core.List.{List, [], _∷_, _++_, map}
 use Prim.Native.Nat.{ℕ}
 use lib.ListN.{replicate}
@@ -14,7 +14,7 @@ use Rattle.saved.specs.declared.SaveAnswer.the-variants as SaveAnswer
 use Rattle.saved.specs.declared.RestoreAnswer.the-variants as RestoreAnswer
 use Rattle.saved.specs.Store.{lastNumber}
 use Rattle.saved.specs.Cases.{zeros}
-use Rattle.session.specs.Sessions.{SessionCall, Terminal, Save, Restore, Kept, start, Told, Heard, Saved, Restored, SessionGiven, sessionPlay, sessionCompleted, Act, HandStep, HandRun, HandNext, PressKey, RebuildRows, SaveSetup, RestoreSetup, streamPlay, callsOf}
+use Rattle.session.specs.Sessions.{SessionCall, Terminal, Save, Restore, Kept, start, Told, Heard, Saved, Restored, SessionGiven, sessionPlay, sessionCompleted, HandStep, HandRun, HandNext, PressKey, RebuildRows, SaveSetup, RestoreSetup, streamPlay, callsOf}
 
 -- power-on of a WY-50 and of a WY-60, each with the page's list and a store where nothing was saved
 abbrev pub on50 : Kept
@@ -103,8 +103,8 @@ pub record StreamCases : Type 0 where
   pub replies : repliesIn (toldBy (streamPlay (HandRun false 4 1 ∷ SaveSetup ∷ HandRun false 2 8 ∷ []) (esc 0x20 ++ 0x41 ∷ 0x42 ∷ []) on50 .session .given))
       ≡ 0x35 ∷ 0x30 ∷ 0x0d ∷ []
   -- a byte that a step inside a send did not take is the next one's; where nothing is left, a run over no bytes
-  pub steps : callsOf (HandRun false 2 1 ∷ HandStep false 8 ∷ HandStep true 8 ∷ HandStep false 8 ∷ []) (esc 0x20 ++ 0x41 ∷ []) on60
-      ≡ run (esc 0x20) 1 ∷ step 0x41 8 ∷ Terminal (ListStep 0x41 8) ∷ run [] 8 ∷ []
+  pub steps : callsOf (HandRun false 2 1 ∷ HandStep false 8 ∷ HandStep false 8 ∷ HandStep true 8 ∷ HandStep false 8 ∷ []) (esc 0x20 ++ 0x41 ∷ 0x42 ∷ []) on60
+      ≡ run (esc 0x20) 1 ∷ step 0x41 8 ∷ step 0x41 8 ∷ Terminal (ListStep 0x42 8) ∷ run [] 8 ∷ []
 
 pub record Worked : Type 0 where
   pub completed : CompletedCases

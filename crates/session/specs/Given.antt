@@ -10,7 +10,7 @@ use Rattle.rules.specs.Step.{stepRule}
 use Rattle.rules.specs.Calls.{Step, Run, Press, runRule}
 use Rattle.rules.specs.RowCalls.{stepRowsRule, runRowsRule, nextRowsRule, Session, RowCall, Bare, ListStep, ListRun, Next, Rebuild, handed, rowCallRule, RowDemand3}
 use Rattle.saved.specs.Calls.{saveRule, restoreRule}
-use Rattle.session.specs.Sessions.{SessionCall, Terminal, Save, Restore, Kept, start, Heard, Saved, Restored, SessionGiven, sessionRule, sessionPlay, handedBack, SessionDemand3}
+use Rattle.session.specs.Sessions.{SessionCall, Terminal, Save, Restore, Kept, start, Heard, Saved, Restored, sessionRule, sessionPlay, handedBack, SessionDemand3}
 
 -- each call's answer is the one that its rules give, and with it stand the state, the list and the store after it
 pub record GivenBack (p l : List ℕ) (s : State) (store : List ℕ) : Type 0 where

@@ -6,7 +6,7 @@ use mathlib.Core.List.{List, [], _∷_, _++_}
 use Prim.Native.Nat.{ℕ}
 use Rattle.rules.specs.declared.State.{State}
 use Rattle.rules.specs.Noninterference.{AlikePages, revealing}
-use Rattle.session.specs.Sessions.{SessionCall, Kept, start, sessionRule, sessionPlay, sessionCompleted, Act, hostBytes, handedBack, streamPlay, callsOf}
+use Rattle.session.specs.Sessions.{SessionCall, Kept, start, sessionRule, sessionPlay, sessionCompleted, SessionIndistinguishable, SessionDemand3, Act, hostBytes, handedBack, streamPlay, callsOf, StreamDemand3}
 
 -- owed is what calls handed back and no call was handed since. A call over host bytes is handed all of it and then new bytes, or a part of it, and
 -- then owed is what it hands back and behind that the part it was not handed; a call over none leaves it
@@ -23,6 +23,13 @@ pub record OverStream (calls : List SessionCall) (x : Kept) : Type 0 where
   pub acts : List Act
   pub come-to : callsOf acts stream x ≡ calls
 
+-- the statement over lists of calls that continue
+abbrev pub ContinuedDemand3 : Type 0
+ContinuedDemand3 =
+    (p q l store : List ℕ) (s : State) (calls : List SessionCall) → s .core .modes .protect ≡ true → revealing (s .sending) ≡ false → AlikePages p q
+    → Continues [] calls (start p l s store) → sessionCompleted calls (start p l s store) ≡ false
+    → SessionIndistinguishable p q (sessionPlay calls (start p l s store)) (sessionPlay calls (start q l s store))
+
 pub record SayTheSame : Type 0 where
   -- what acts over a stream give back and leave is what their calls do
   pub played : (acts : List Act) (stream : List ℕ) (x : Kept) → streamPlay acts stream x .session ≡ sessionPlay (callsOf acts stream x) x
@@ -33,3 +40,6 @@ pub record SayTheSame : Type 0 where
   -- which lists of calls they are: what is handed back comes first
   pub continued : (acts : List Act) (stream : List ℕ) (x : Kept) → Continues [] (callsOf acts stream x) x
   pub over-stream : (calls : List SessionCall) (x : Kept) → Continues [] calls x → OverStream calls x
+  -- so either statement gives the other, as far as lists of calls are a stream's
+  pub to-streams : SessionDemand3 → StreamDemand3
+  pub to-lists : StreamDemand3 → ContinuedDemand3

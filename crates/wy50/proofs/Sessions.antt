@@ -24,11 +24,11 @@ use Rattle.saved.specs.Calls.{restoring, restoreRule}
 use Rattle.saved.proofs.SavedSetups.{saved-setups}
 use Rattle.session.specs.Sessions.{SessionCall, Terminal, Save, Restore, Act, callOf}
 use Rattle.wy50.specs.declared.raw.RawState.{RawState}
-use Rattle.wy50.specs.Raw.{packed, unpacked, named}
+use Rattle.wy50.specs.Raw.{unpacked, named}
 use Rattle.wy50.specs.Saved.{restoreNumber, rawRestore, stateAfter}
 use Rattle.wy50.specs.Noninterference.{RawCompleted}
 use Rattle.wy50.specs.RowNoninterference.{RawSession, RawRowCalled, left, rawRowCall, bareCall}
-use Rattle.wy50.specs.Sessions.{RawKept, rawStart, RawTold, Heard, RawSessionCalled, rawSessionRule, RawSessionCompleted, first, later, RawSessionMade, terminal, saved, restored, RawSessionGiven, rawGivenBy, RawSessionPerformed, none, next, RawSessionIndistinguishable, RawSessionDemand3, rawLeftOf, rawCallsOf, RawStreamPerformed, RawStreamDemand3, RawSessionCharacterised, RawGivenBack}
+use Rattle.wy50.specs.Sessions.{RawKept, rawStart, Heard, RawSessionCalled, rawSessionRule, RawSessionCompleted, first, later, RawSessionMade, terminal, saved, restored, RawSessionGiven, rawGivenBy, RawSessionPerformed, none, next, RawSessionIndistinguishable, RawSessionDemand3, rawLeftOf, rawCallsOf, RawStreamPerformed, RawStreamDemand3, RawSessionCharacterised, RawGivenBack}
 use Rattle.wy50.proofs.Noninterference.{RawClosed, numbered-closed, unpacked-closed}
 use Rattle.wy50.proofs.RowNoninterference.{row-call-agrees, row-made-is}
 
