@@ -8,7 +8,7 @@ use Rattle.rules.specs.Calls.{Given, Called, ofStep, ofRun}
 use Rattle.rules.specs.RowCalls.{Session, RowCall, RowCalled, left, rowCallRule}
 use Rattle.terminal.specs.RowNoninterference.{RowMade, bare, listStepped, listRan, heard, rebuiltRows}
 use Rattle.terminal.proofs.Noninterference.{front, made-is}
-use Rattle.session.specs.Sessions.{SessionCall, Heard, Kept, SessionCalled, sessionRule, SessionPlayed, sessionAfter, sessionPlay, SessionIndistinguishable, Act, callOf, leftOf, StreamPlayed, streamPlay, StreamIndistinguishable}
+use Rattle.session.specs.Sessions.{SessionCall, Heard, Kept, SessionCalled, sessionRule, SessionPlayed, sessionAfter, sessionPlay, SessionIndistinguishable, Act, callOf, handedBack, leftOf, StreamPlayed, streamPlay, StreamIndistinguishable}
 use Rattle.session.specs.CodeSessions.{SessionMade, terminal, saved, restored, SessionPerformed, StreamPerformed, none, next, CodeSessionDemand3, CodeStreamDemand3}
 use Rattle.session.proofs.Sessions.{session-noninterference}
 use Rattle.session.proofs.Streams.{stream-noninterference}
@@ -42,7 +42,7 @@ unfolding streamPlay
 stream-performed-is none = refl
 stream-performed-is (next {x = x} {stream = stream} {a = a} {acts = acts} {r = r} m h) =
     ap (λ (z : SessionCalled).
-    let t = streamPlay acts (leftOf stream (callOf a stream) (z .told)) (z .kept) in record { session = sessionAfter z (t .session); left = t .left })
+    let t = streamPlay acts (leftOf stream (callOf a stream) (handedBack (callOf a stream) (z .told))) (z .kept) in record { session = sessionAfter z (t .session); left = t .left })
     (session-made-is m)
     ∙ ap (λ (t : StreamPlayed). record { session = sessionAfter r (t .session); left = t .left }) (stream-performed-is h)
 

@@ -1,5 +1,6 @@
 -- What a session's calls give back and hand back, by the rules of each.
 --     given-back, one-by-one, handed-back
+--     run-rests, next-rests     of a run and of `next`
 --     carries-demand3     demand 3 with row lists from the statement over sessions
 -- Assumes nothing.
 use mathlib.Core.Path.{_≡_, refl, sym, ap, ap₂, subst, subst₂, _∙_}
@@ -41,7 +42,7 @@ one-by-one (c ∷ calls) more x =
 -- ---- what is handed back
 
 -- of a run r over bytes
-abbrev Rests : List ℕ → Ran → Type 0
+abbrev pub Rests : List ℕ → Ran → Type 0
 Rests bytes r = drop (r .taken) bytes ≡ r .rest
 
 ended-rests : (p : List ℕ) (s : State) (n : ℕ) (bytes : List ℕ) → Rests bytes (ended p s n bytes)
@@ -51,7 +52,7 @@ behind-rests : (l bytes : List ℕ) (r : Ran) → Rests bytes r → Rests bytes 
 unfolding behind
 behind-rests l bytes r e = e
 
-run-rests : (p : List ℕ) (s : State) (bytes : List ℕ) (room : ℕ) → Rests bytes (runRule p s bytes room)
+pub run-rests : (p : List ℕ) (s : State) (bytes : List ℕ) (room : ℕ) → Rests bytes (runRule p s bytes room)
 run-rests p s bytes room = by (good p s) (sends (s .sending)) room refl refl
   where
     by : (g u : Bool) (room : ℕ) → good p s ≡ g → sends (s .sending) ≡ u → Rests bytes (runRule p s bytes room)
@@ -85,7 +86,7 @@ to-rests (b ∷ bs) p s room = by (tells o) refl (to-rests bs (o .page) (o .stat
     by true e ih = subst (Rests (b ∷ bs)) (sym (to-event b bs p s room e)) (event-rests o b bs)
     by false e ih = subst (Rests (b ∷ bs)) (sym (to-go b bs p s room e)) (joined-rests o b bs (toEvent bs (o .page) (o .state) (room - length (o .reply))) ih)
 
-next-rests : (p : List ℕ) (s : State) (bytes : List ℕ) (room : ℕ) → Rests bytes (nextRule p s bytes room)
+pub next-rests : (p : List ℕ) (s : State) (bytes : List ℕ) (room : ℕ) → Rests bytes (nextRule p s bytes room)
 next-rests p s bytes room = by (good p s) (sends (s .sending)) room refl refl
   where
     by : (g u : Bool) (room : ℕ) → good p s ≡ g → sends (s .sending) ≡ u → Rests bytes (nextRule p s bytes room)

@@ -25,7 +25,7 @@ played [] stream x = refl
 played (a ∷ acts) stream x =
     let c = callOf a stream in
     let r = sessionRule x c in
-    ap (sessionAfter r) (played acts (leftOf stream c (r .told)) (r .kept))
+    ap (sessionAfter r) (played acts (leftOf stream c (handedBack c (r .told))) (r .kept))
 
 -- ---- both terminals
 
@@ -43,9 +43,9 @@ stream-agrees (a ∷ acts) stream p q l store s closed alike e =
     let c = callOf a stream in
     let r = sessionRule x c in
     let k = called-agrees p q l store s closed alike c (either-left (callCompleted x c) _ e) in
-    let t = stream-agrees acts (leftOf stream c (r .told)) (r .kept .terminal .page) (k .page) (r .kept .terminal .rows) (r .kept .store) (r .kept .terminal .state)
+    let t = stream-agrees acts (leftOf stream c (handedBack c (r .told))) (r .kept .terminal .page) (k .page) (r .kept .terminal .rows) (r .kept .store) (r .kept .terminal .state)
     (k .closed) (k .alike) (either-right (callCompleted x c) _ e) in
-    record { calls = rw (k .but-page) (ap (λ (cs : List SessionCall). c ∷ cs) (t .calls)); left = t .left ∙ ap (λ (z : SessionCalled). streamPlay acts (leftOf stream c (z .told)) (z .kept) .left) (sym (k .but-page)) }
+    record { calls = rw (k .but-page) (ap (λ (cs : List SessionCall). c ∷ cs) (t .calls)); left = t .left ∙ ap (λ (z : SessionCalled). streamPlay acts (leftOf stream c (handedBack c (z .told))) (z .kept) .left) (sym (k .but-page)) }
 
 to-streams : SessionDemand3 → StreamDemand3
 to-streams demand p q l store stream s acts on conceals alike e =
@@ -103,7 +103,7 @@ cut (b ∷ u) rest (v ∷ owed) new e =
 -- one call, over what is known of the calls after it
 call-continues : (acts : List Act) (c : SessionCall) (owed new : List ℕ) (x : Kept) → Cut (hostBytes c) (drop (length (hostBytes c)) (owed ++ new)) owed new
     → ((u v : List ℕ) → Continues u (callsOf acts (u ++ v) (sessionRule x c .kept)) (sessionRule x c .kept))
-    → Continues owed (c ∷ callsOf acts (leftOf (owed ++ new) c (sessionRule x c .told)) (sessionRule x c .kept)) x
+    → Continues owed (c ∷ callsOf acts (leftOf (owed ++ new) c (handedBack c (sessionRule x c .told))) (sessionRule x c .kept)) x
 call-continues acts c owed new x (beyond more f g) ih = whole more f (ih (handedBack c (sessionRule x c .told)) (drop (length (hostBytes c)) (owed ++ new)))
 call-continues acts c owed new x (within behind f g) ih =
     let u = handedBack c (sessionRule x c .told) in

@@ -11,7 +11,7 @@ use Rattle.terminal.specs.RowNoninterference.{RowMade}
 use Rattle.saved.specs.declared.SaveAnswer.{SaveAnswer}
 use Rattle.saved.specs.declared.RestoreResult.{RestoreResult}
 use Rattle.saved.specs.Calls.{saveRule, restoreRule}
-use Rattle.session.specs.Sessions.{SessionCall, Terminal, Save, Restore, Kept, start, Heard, Saved, Restored, SessionCalled, SessionPlayed, sessionAfter, sessionCompleted, SessionIndistinguishable, Act, callOf, leftOf, StreamPlayed, callsOf, StreamIndistinguishable}
+use Rattle.session.specs.Sessions.{SessionCall, Terminal, Save, Restore, Kept, start, Heard, Saved, Restored, SessionCalled, SessionPlayed, sessionAfter, sessionCompleted, SessionIndistinguishable, Act, callOf, handedBack, leftOf, StreamPlayed, callsOf, StreamIndistinguishable}
 
 -- a call that was made on x: what it told and left is as it promises
 pub data SessionMade (x : Kept) : SessionCall → SessionCalled → Type 0 where
@@ -33,7 +33,7 @@ pub data SessionPerformed : Kept → List SessionCall → SessionPlayed → Type
 pub data StreamPerformed : Kept → List ℕ → List Act → StreamPlayed → Type 0 where
   none : {x : Kept} {stream : List ℕ} → StreamPerformed x stream [] (record { session = record { given = []; kept = x }; left = stream })
   next : {x : Kept} {stream : List ℕ} {a : Act} {acts : List Act} {r : SessionCalled} {t : StreamPlayed} → SessionMade x (callOf a stream) r
-      → StreamPerformed (r .kept) (leftOf stream (callOf a stream) (r .told)) acts t
+      → StreamPerformed (r .kept) (leftOf stream (callOf a stream) (handedBack (callOf a stream) (r .told))) acts t
       → StreamPerformed x stream (a ∷ acts) (record { session = sessionAfter r (t .session); left = t .left })
 
 abbrev pub CodeSessionDemand3 : Type 0

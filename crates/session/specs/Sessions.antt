@@ -148,8 +148,8 @@ abbrev pub handedBack : SessionCall → Told → List ℕ
 handedBack c t = drop (takenBy t) (hostBytes c)
 
 -- what a call leaves of the stream: what it handed back comes first, and then what it was not handed
-abbrev pub leftOf : List ℕ → SessionCall → Told → List ℕ
-leftOf stream c t = handedBack c t ++ drop (length (hostBytes c)) stream
+abbrev pub leftOf : List ℕ → SessionCall → List ℕ → List ℕ
+leftOf stream c back = back ++ drop (length (hostBytes c)) stream
 
 pub record StreamPlayed : Type 0 where
   pub session : SessionPlayed
@@ -160,14 +160,14 @@ streamPlay [] stream x = record { session = record { given = []; kept = x }; lef
 streamPlay (a ∷ acts) stream x =
     let c = callOf a stream in
     let r = sessionRule x c in
-    let t = streamPlay acts (leftOf stream c (r .told)) (r .kept) in
+    let t = streamPlay acts (leftOf stream c (handedBack c (r .told))) (r .kept) in
     record { session = sessionAfter r (t .session); left = t .left }
 
 -- the calls that it comes to
 unfoldable pub callsOf : List Act → List ℕ → Kept → List SessionCall
 callsOf [] stream x = []
 callsOf (a ∷ acts) stream x =
-    let c = callOf a stream in let r = sessionRule x c in c ∷ callsOf acts (leftOf stream c (r .told)) (r .kept)
+    let c = callOf a stream in let r = sessionRule x c in c ∷ callsOf acts (leftOf stream c (handedBack c (r .told))) (r .kept)
 
 pub record StreamIndistinguishable (p q : List ℕ) (a b : StreamPlayed) : Type 0 where
   pub session : SessionIndistinguishable p q (a .session) (b .session)

@@ -2,7 +2,7 @@
 -- and the store, equal in both, and a restore leaves protect mode and the send under way.
 --     raw-session-noninterference     over lists of calls
 --     raw-stream-noninterference     over one host stream
---     raw-session-characterised, raw-given-back
+--     raw-session-characterised, raw-given-back, raw-handed-back
 -- Assumes nothing.
 use mathlib.Core.Path.{_≡_, refl, sym, ap, ap₂, subst, subst₂, _∙_}
 use mathlib.Core.Bool.{Bool, true, false}
@@ -11,10 +11,11 @@ use mathlib.Core.Logic.{_⊎_, inl, inr}
 use Prim.Native.Nat.{ℕ}
 use native.Mathlib.Omega.{arith}
 use lib.Dec.{eqb}
-use lib.ListN.{length}
+use lib.ListN.{length, drop}
 use Rattle.rules.specs.declared.Core.{Core}
 use Rattle.rules.specs.declared.State.{State}
 use Rattle.rules.specs.Cell.{pick}
+use Rattle.rules.specs.Calls.{Ran}
 use Rattle.rules.specs.RowCalls.{RowCall}
 use Rattle.rules.specs.Noninterference.{revealing}
 use Rattle.rules.proofs.Related.{Related}
@@ -22,13 +23,16 @@ use Rattle.rules.proofs.Noninterference.{Closed, start-related, related-kept}
 use Rattle.saved.specs.declared.RestoreAnswer.the-variants as RestoreAnswer
 use Rattle.saved.specs.Calls.{restoring, restoreRule}
 use Rattle.saved.proofs.SavedSetups.{saved-setups}
-use Rattle.session.specs.Sessions.{SessionCall, Terminal, Save, Restore, Act, callOf}
+use Rattle.session.specs.Sessions.{SessionCall, Terminal, Save, Restore, Act, callOf, hostBytes, leftOf}
+use Rattle.session.proofs.Given.{Rests, run-rests, next-rests}
 use Rattle.wy50.specs.declared.raw.RawState.{RawState}
 use Rattle.wy50.specs.Raw.{unpacked, named}
 use Rattle.wy50.specs.Saved.{restoreNumber, rawRestore, stateAfter}
-use Rattle.wy50.specs.Noninterference.{RawCompleted}
-use Rattle.wy50.specs.RowNoninterference.{RawSession, RawRowCalled, left, rawRowCall, bareCall}
-use Rattle.wy50.specs.Sessions.{RawKept, rawStart, Heard, RawSessionCalled, rawSessionRule, RawSessionCompleted, first, later, RawSessionMade, terminal, saved, restored, RawSessionGiven, rawGivenBy, RawSessionPerformed, none, next, RawSessionIndistinguishable, RawSessionDemand3, rawLeftOf, rawCallsOf, RawStreamPerformed, RawStreamDemand3, RawSessionCharacterised, RawGivenBack}
+use Rattle.wy50.specs.Promise.{rawGood, rawRan, rawRun, badRun}
+use Rattle.wy50.specs.Rows.{rawListed, rawRunRows, rawSuited, rawNext}
+use Rattle.wy50.specs.Noninterference.{rawCall, RawCompleted}
+use Rattle.wy50.specs.RowNoninterference.{RawSession, RawRowCalled, left, handed, rawRowCall, bareCall}
+use Rattle.wy50.specs.Sessions.{RawKept, rawStart, Heard, RawSessionCalled, rawSessionRule, RawSessionCompleted, first, later, RawSessionMade, terminal, saved, restored, RawSessionGiven, rawGivenBy, RawSessionPerformed, none, next, RawSessionIndistinguishable, RawSessionDemand3, rawHandedBack, rawCallsOf, RawStreamPerformed, RawStreamDemand3, RawSessionCharacterised, RawGivenBack, RawHandedBack}
 use Rattle.wy50.proofs.Noninterference.{RawClosed, numbered-closed, unpacked-closed}
 use Rattle.wy50.proofs.RowNoninterference.{row-call-agrees, row-made-is}
 
@@ -109,7 +113,25 @@ raw-session-characterised = record {
 
 pub raw-given-back : (p l : List ℕ) (x : RawState) (store : List ℕ) → RawGivenBack p l x store
 unfolding rawSessionRule
-raw-given-back p l x store = record { terminal = λ c. refl; save = refl; restore = λ n. refl }
+raw-given-back p l x store = record { terminal = λ c. (refl, refl); save = (refl, refl); restore = λ n. (refl, refl) }
+
+-- a run with its state in numbers, or refused: nothing taken, all handed back
+pick-rests : (t : Bool) (p : List ℕ) (x : RawState) (bytes : List ℕ) (r : Ran) → Rests bytes r
+    → drop (pick t (rawRan r) (badRun p x bytes) .taken) bytes ≡ pick t (rawRan r) (badRun p x bytes) .rest
+pick-rests true p x bytes r e = e
+pick-rests false p x bytes r e = refl
+
+pub raw-handed-back : (x : RawSession) (store : List ℕ) → RawHandedBack x store
+unfolding rawSessionRule rawRowCall rawCall rawRun rawRunRows rawNext hostBytes
+raw-handed-back x store = record {
+  step = λ b room. refl;
+  run = λ bytes room. pick-rests (rawGood (x .page) (x .state)) (x .page) (x .state) bytes _ (run-rests (x .page) (unpacked (x .state)) bytes room);
+  list-step = λ b room. refl;
+  list-run = λ bytes room.
+      pick-rests (rawListed (x .page) (x .rows) (x .state)) (x .page) (x .state) bytes _ (run-rests (x .page) (unpacked (x .state)) bytes room);
+  next = λ with bytes room.
+      pick-rests (rawSuited (x .page) (handed with x) (x .state)) (x .page) (x .state) bytes _ (next-rests (x .page) (unpacked (x .state)) bytes room);
+}
 
 -- a call alone completes nothing, if it does not before others
 first-free : (c : SessionCall) (cs : List SessionCall) (x : RawKept) → (RawSessionCompleted (c ∷ cs) x → ⊥) → RawSessionCompleted (c ∷ []) x → ⊥
@@ -167,11 +189,11 @@ stream-agrees {stream = stream} {a = a} {l = l} {store = store} {x = x} h closed
     (next {a = act} {acts = acts} {r = r} m f) (next {y = z} {end = v} {r = t} {gs = ks} n g) =
     let c = callOf act stream in
     let k = made-agrees h l store x closed free m n in
-    let free₁ : RawSessionCompleted (rawCallsOf acts (rawLeftOf stream c (r .told)) (r .kept)) (r .kept) → ⊥ =
-    subst (λ (w : RawSessionCalled). RawSessionCompleted (rawCallsOf acts (rawLeftOf stream c (w .told)) (w .kept)) (w .kept) → ⊥) (made-is m)
+    let free₁ : RawSessionCompleted (rawCallsOf acts (leftOf stream c (rawHandedBack c (r .told))) (r .kept)) (r .kept) → ⊥ =
+    subst (λ (w : RawSessionCalled). RawSessionCompleted (rawCallsOf acts (leftOf stream c (rawHandedBack c (w .told))) (w .kept)) (w .kept) → ⊥) (made-is m)
     (λ e. free (later e)) in
-    let g₁ : RawStreamPerformed (withPage r (k .page) .kept) (rawLeftOf stream c (r .told)) acts ks z v =
-    subst (λ (w : RawSessionCalled). RawStreamPerformed (w .kept) (rawLeftOf stream c (w .told)) acts ks z v) (k .but-page) g in
+    let g₁ : RawStreamPerformed (withPage r (k .page) .kept) (leftOf stream c (rawHandedBack c (r .told))) acts ks z v =
+    subst (λ (w : RawSessionCalled). RawStreamPerformed (w .kept) (leftOf stream c (rawHandedBack c (w .told))) acts ks z v) (k .but-page) g in
     let e = stream-agrees (k .related) (k .closed) free₁ f g₁ in
     (more-agrees k (e .0), e .1)
 

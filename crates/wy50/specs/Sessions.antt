@@ -1,18 +1,22 @@
 -- Whole sessions of the exported calls (document 02, A14), the statement: two C callers with the same numbers, list and store, right or wrong, make
 -- the same calls, or hand in the same stream by the same cuts, and the calls were made as they promise.
 use mathlib.Core.Path.{_≡_}
-use mathlib.Core.List.{List, [], _∷_, _++_}
+use mathlib.Core.Bool.{Bool}
+use mathlib.Core.List.{List, [], _∷_}
 use mathlib.Core.Logic.{_⊎_}
 use Prim.Native.Nat.{ℕ}
-use lib.ListN.{length, getD, drop}
-use Rattle.rules.specs.RowCalls.{RowCall}
+use lib.ListN.{getD, drop}
+use Rattle.rules.specs.Calls.{Step, Run}
+use Rattle.rules.specs.RowCalls.{RowCall, Bare, ListStep, ListRun, Next}
 use Rattle.rules.specs.Noninterference.{AlikePages, KeptPages}
-use Rattle.session.specs.Sessions.{SessionCall, Terminal, Save, Restore, Act, callOf, hostBytes}
+use Rattle.session.specs.Sessions.{SessionCall, Terminal, Save, Restore, Act, callOf, hostBytes, leftOf}
 use Rattle.wy50.specs.declared.raw.RawState.{RawState}
 use Rattle.wy50.specs.declared.raw.RawSave.{RawSave}
 use Rattle.wy50.specs.declared.raw.RawRestore.{RawRestore}
+use Rattle.wy50.specs.Promise.{rawStep, rawRun}
+use Rattle.wy50.specs.Rows.{rawStepRows, rawRunRows, rawNext}
 use Rattle.wy50.specs.Noninterference.{RawGiven, RawCompleted, Concealing}
-use Rattle.wy50.specs.RowNoninterference.{RawSession, left, rawRowCall, bareCall, RowMade}
+use Rattle.wy50.specs.RowNoninterference.{RawSession, left, handed, rawRowCall, bareCall, RowMade}
 use Rattle.wy50.specs.Saved.{saveNumbers, restoreNumber, rawSave, rawRestore, stateAfter}
 
 -- what a C caller keeps from call to call
@@ -100,20 +104,19 @@ rawTaken (Heard g) = getD (g .counts) 0 0
 rawTaken (Saved r) = 0
 rawTaken (Restored n) = 0
 
--- what a call leaves of the stream: what it handed back comes first, and then what it was not handed
-abbrev pub rawLeftOf : List ℕ → SessionCall → RawTold → List ℕ
-rawLeftOf stream c t = drop (rawTaken t) (hostBytes c) ++ drop (length (hostBytes c)) stream
+abbrev pub rawHandedBack : SessionCall → RawTold → List ℕ
+rawHandedBack c t = drop (rawTaken t) (hostBytes c)
 
 unfoldable pub rawCallsOf : List Act → List ℕ → RawKept → List SessionCall
 rawCallsOf [] stream x = []
 rawCallsOf (a ∷ acts) stream x =
-    let c = callOf a stream in let r = rawSessionRule x c in c ∷ rawCallsOf acts (rawLeftOf stream c (r .told)) (r .kept)
+    let c = callOf a stream in let r = rawSessionRule x c in c ∷ rawCallsOf acts (leftOf stream c (rawHandedBack c (r .told))) (r .kept)
 
 -- acts over a stream: what their calls gave, what is kept at the end, and what no call has taken
 pub data RawStreamPerformed : RawKept → List ℕ → List Act → List RawSessionGiven → RawKept → List ℕ → Type 0 where
   none : {x : RawKept} {stream : List ℕ} → RawStreamPerformed x stream [] [] x stream
   next : {x y : RawKept} {stream end : List ℕ} {a : Act} {acts : List Act} {r : RawSessionCalled} {gs : List RawSessionGiven}
-      → RawSessionMade x (callOf a stream) r → RawStreamPerformed (r .kept) (rawLeftOf stream (callOf a stream) (r .told)) acts gs y end
+      → RawSessionMade x (callOf a stream) r → RawStreamPerformed (r .kept) (leftOf stream (callOf a stream) (rawHandedBack (callOf a stream) (r .told))) acts gs y end
       → RawStreamPerformed x stream (a ∷ acts) (rawGivenBy r ∷ gs) y end
 
 abbrev pub RawStreamDemand3 : Type 0
@@ -132,13 +135,31 @@ pub record RawSessionCharacterised : Type 0 where
   pub restore : (n : ℕ) (cs : List SessionCall) (x : RawKept) → RawSessionCompleted (Restore n ∷ cs) x
       → RawSessionCompleted cs (rawSessionRule x (Restore n) .kept)
 
--- C is told what the rules' calls give, each call on what the last one left
+-- what C is given: what each exported call promises, and the numbers, the list and the store after it
 pub record RawGivenBack (p l : List ℕ) (x : RawState) (store : List ℕ) : Type 0 where
   pub terminal : (c : RowCall)
       → let r = rawRowCall (record { page = p; rows = l; state = x }) c in
-      rawSessionRule (rawStart p l x store) (Terminal c) ≡ record { told = Heard (r .called .given); kept = rawStart (r .called .page) (r .rows) (r .called .given .state) store }
+      let k = rawSessionRule (rawStart p l x store) (Terminal c) in
+      (rawGivenBy k ≡ record { told = Heard (r .called .given); state = r .called .given .state; rows = r .rows; store = store })
+      × (k .kept ≡ rawStart (r .called .page) (r .rows) (r .called .given .state) store)
   pub save : let r = rawSave x store in
-      rawSessionRule (rawStart p l x store) Save ≡ record { told = Saved (saveNumbers (r .result)); kept = rawStart p l x (r .store) }
+      let k = rawSessionRule (rawStart p l x store) Save in
+      (rawGivenBy k ≡ record { told = Saved (saveNumbers (r .result)); state = x; rows = l; store = r .store }) × (k .kept ≡ rawStart p l x (r .store))
   pub restore : (n : ℕ)
       → let r = rawRestore x store n in
-      rawSessionRule (rawStart p l x store) (Restore n) ≡ record { told = Restored (restoreNumber (r .result)); kept = rawStart p l (stateAfter x r) store }
+      let k = rawSessionRule (rawStart p l x store) (Restore n) in
+      (rawGivenBy k ≡ record { told = Restored (restoreNumber (r .result)); state = stateAfter x r; rows = l; store = store })
+      × (k .kept ≡ rawStart p l (stateAfter x r) store)
+
+-- what is handed back: of a step its byte, if `taken` is 0; of a run and of `next` the rest
+pub record RawHandedBack (x : RawSession) (store : List ℕ) : Type 0 where
+  pub step : (b room : ℕ) → let c = Terminal (Bare (Step b room)) in
+      rawHandedBack c (rawSessionRule (record { terminal = x; store = store }) c .told) ≡ drop (rawStep (x .page) (x .state) b room .taken) (b ∷ [])
+  pub run : (bytes : List ℕ) (room : ℕ) → let c = Terminal (Bare (Run bytes room)) in
+      rawHandedBack c (rawSessionRule (record { terminal = x; store = store }) c .told) ≡ rawRun (x .page) (x .state) bytes room .rest
+  pub list-step : (b room : ℕ) → let c = Terminal (ListStep b room) in
+      rawHandedBack c (rawSessionRule (record { terminal = x; store = store }) c .told) ≡ drop (rawStepRows (x .page) (x .rows) (x .state) b room .taken) (b ∷ [])
+  pub list-run : (bytes : List ℕ) (room : ℕ) → let c = Terminal (ListRun bytes room) in
+      rawHandedBack c (rawSessionRule (record { terminal = x; store = store }) c .told) ≡ rawRunRows (x .page) (x .rows) (x .state) bytes room .rest
+  pub next : (with : Bool) (bytes : List ℕ) (room : ℕ) → let c = Terminal (Next with bytes room) in
+      rawHandedBack c (rawSessionRule (record { terminal = x; store = store }) c .told) ≡ rawNext (x .page) (handed with x) (x .state) bytes room .rest
