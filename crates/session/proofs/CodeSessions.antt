@@ -42,7 +42,8 @@ unfolding streamPlay
 stream-performed-is none = refl
 stream-performed-is (next {x = x} {stream = stream} {a = a} {acts = acts} {r = r} m h) =
     ap (λ (z : SessionCalled).
-    let t = streamPlay acts (leftOf stream (callOf a stream) (handedBack (callOf a stream) (z .told))) (z .kept) in record { session = sessionAfter z (t .session); left = t .left })
+    let t = streamPlay acts (leftOf stream (callOf a stream) (handedBack (callOf a stream) (z .told))) (z .kept) in
+    record { session = sessionAfter z (t .session); left = t .left })
     (session-made-is m)
     ∙ ap (λ (t : StreamPlayed). record { session = sessionAfter r (t .session); left = t .left }) (stream-performed-is h)
 

@@ -61,7 +61,8 @@ module _ (p q l store : List ℕ) (s : State) (closed : Closed s) (alike : Alike
   terminal-agrees c e =
       let a = rowCallRule (terminal p l s) c in
       let b = rowCallRule (terminal q l s) c in
-      let r = row-noninterference p q l s (c ∷ []) (closed .on) (closed .conceals) alike (ap (λ (cs : List Call). anyCompleted cs p s) (append-nil (bareCall (terminal p l s) c)) ∙ e) in
+      let r = row-noninterference p q l s (c ∷ []) (closed .on) (closed .conceals) alike
+      (ap (λ (cs : List Call). anyCompleted cs p s) (append-nil (bareCall (terminal p l s) c)) ∙ e) in
       let given : a .called .given ≡ b .called .given = ap (λ (gs : List Given). getD gs 0 (a .called .given)) (r .calls .given) in
       let rows : a .rows ≡ b .rows = r .rows in
       record {

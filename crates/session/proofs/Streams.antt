@@ -43,9 +43,12 @@ stream-agrees (a ∷ acts) stream p q l store s closed alike e =
     let c = callOf a stream in
     let r = sessionRule x c in
     let k = called-agrees p q l store s closed alike c (either-left (callCompleted x c) _ e) in
-    let t = stream-agrees acts (leftOf stream c (handedBack c (r .told))) (r .kept .terminal .page) (k .page) (r .kept .terminal .rows) (r .kept .store) (r .kept .terminal .state)
-    (k .closed) (k .alike) (either-right (callCompleted x c) _ e) in
-    record { calls = rw (k .but-page) (ap (λ (cs : List SessionCall). c ∷ cs) (t .calls)); left = t .left ∙ ap (λ (z : SessionCalled). streamPlay acts (leftOf stream c (handedBack c (z .told))) (z .kept) .left) (sym (k .but-page)) }
+    let t = stream-agrees acts (leftOf stream c (handedBack c (r .told))) (r .kept .terminal .page) (k .page) (r .kept .terminal .rows) (r .kept .store)
+    (r .kept .terminal .state) (k .closed) (k .alike) (either-right (callCompleted x c) _ e) in
+    record {
+      calls = rw (k .but-page) (ap (λ (cs : List SessionCall). c ∷ cs) (t .calls));
+      left = t .left ∙ ap (λ (z : SessionCalled). streamPlay acts (leftOf stream c (handedBack c (z .told))) (z .kept) .left) (sym (k .but-page));
+    }
 
 to-streams : SessionDemand3 → StreamDemand3
 to-streams demand p q l store stream s acts on conceals alike e =

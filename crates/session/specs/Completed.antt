@@ -51,7 +51,8 @@ pub record NoneCompleted : Type 0 where
   pub press : (x : Kept) (v room : ℕ) → sessionCompleted (Terminal (Bare (Press v room)) ∷ []) x ≡ false
   pub rebuild : (x : Kept) → sessionCompleted (Terminal Rebuild ∷ []) x ≡ false
   -- a step, a run and `next` that are refused for their list
-  pub step-refused : (p l store : List ℕ) (s : State) (b room : ℕ) → agrees l p s ≡ false → sessionCompleted (Terminal (ListStep b room) ∷ []) (start p l s store) ≡ false
+  pub step-refused : (p l store : List ℕ) (s : State) (b room : ℕ) → agrees l p s ≡ false
+      → sessionCompleted (Terminal (ListStep b room) ∷ []) (start p l s store) ≡ false
   pub run-refused : (p l store : List ℕ) (s : State) (bytes : List ℕ) (room : ℕ) → agrees l p s ≡ false
       → sessionCompleted (Terminal (ListRun bytes room) ∷ []) (start p l s store) ≡ false
   pub next-refused : (p l store : List ℕ) (s : State) (bytes : List ℕ) (room : ℕ) → suits l p s ≡ false

@@ -1,5 +1,5 @@
--- Whole sessions (document 02, A14), the statement: demand 3 over all the calls of a session, first over lists of calls, then over one host
--- stream that is cut anywhere. The sentence stands in the comments, between quotes.
+-- Whole sessions (document 02, A14), the statement: "Carry demand 3 to a session", first over lists of calls, then over one host stream. The
+-- request's words stand between quotes.
 use mathlib.Core.Path.{_≡_}
 use mathlib.Core.Bool.{Bool, true, false}
 use mathlib.Core.List.{List, [], _∷_, _++_}
@@ -14,8 +14,8 @@ use Rattle.saved.specs.declared.SaveAnswer.{SaveAnswer}
 use Rattle.saved.specs.declared.RestoreAnswer.{RestoreAnswer}
 use Rattle.saved.specs.Calls.{saveRule, restoreRule}
 
--- A call is one of the terminal's, the step, the run, `next` and the key press, the forms with the row list and the rebuild, each "narrow" or
--- roomy; a save; or the restore of a number. "Conversion stays outside", and so do power-on, repainting and mending
+-- a call of the terminal, that is a step, a run, `next`, a key press, a form with the row list or the rebuild, with a room of any length ("narrow
+-- replies"); or "saving and restoring set-ups". "Conversion stays outside", and so do power-on, repainting and mending
 pub data SessionCall : Type 0 where
   Terminal : RowCall → SessionCall
   Save : SessionCall
@@ -29,8 +29,8 @@ pub record Kept : Type 0 where
 abbrev pub start : List ℕ → List ℕ → State → List ℕ → Kept
 start p l s store = record { terminal = record { page = p; rows = l; state = s }; store = store }
 
--- what a call tells: the terminal's answer, counts, whether a byte was taken among them, reply and rest; a save's answer, with the number
--- saved; a restore's
+-- what a call tells: of the terminal the answer, the counts, with whether a byte was taken, the reply and the rest; of a save the answer, with
+-- the number saved; of a restore the answer
 pub data Told : Type 0 where
   Heard : Given → Told
   Saved : SaveAnswer → Told
@@ -81,7 +81,7 @@ unfoldable pub sessionCompleted : List SessionCall → Kept → Bool
 sessionCompleted [] x = false
 sessionCompleted (c ∷ cs) x = either (callCompleted x c) (sessionCompleted cs (sessionRule x c .kept))
 
--- "everything given back agrees, pages as in demand 3", from the pages p and q
+-- "everything given back agrees, pages as in demand 3": after every call, and at the end; p and q are the pages at the start
 pub record SessionIndistinguishable (p q : List ℕ) (a b : SessionPlayed) : Type 0 where
   pub given : a .given ≡ b .given
   pub state : a .kept .terminal .state ≡ b .kept .terminal .state
@@ -89,8 +89,9 @@ pub record SessionIndistinguishable (p q : List ℕ) (a b : SessionPlayed) : Typ
   pub store : a .kept .store ≡ b .kept .store
   pub pages : KeptPages p q (a .kept .terminal .page) (b .kept .terminal .page)
 
--- "With equal stores at the start, the same calls, cuts and rooms in both runs": any calls, from any page, list, state and store, of "both
--- personalities, either width", with protect mode on and not inside an ESC 6 or ESC 7 send, in which the first terminal completes none of the six
+-- "With equal stores at the start, the same calls, cuts and rooms in both runs": starts as in demand 3, of "both personalities, either width", with
+-- protect mode on and not inside an ESC 6 or ESC 7 send; any state, list and store, the same in both; any calls in which the first terminal
+-- completes none of the six
 abbrev pub SessionDemand3 : Type 0
 SessionDemand3 =
     (p q l store : List ℕ) (s : State) (calls : List SessionCall) → s .core .modes .protect ≡ true → revealing (s .sending) ≡ false → AlikePages p q

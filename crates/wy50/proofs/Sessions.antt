@@ -53,7 +53,8 @@ restored-closed s store n closed =
 
 restore-closed : (x : RawState) (store : List ℕ) (n : ℕ) → RawClosed x → RawClosed (stateAfter x (rawRestore x store n))
 unfolding rawRestore
-restore-closed x store n closed = pick-closed (eqb (restoreNumber (rawRestore x store n .result)) 0) (numbered-closed (rawRestore x store n .state) (by (named x))) closed
+restore-closed x store n closed =
+    pick-closed (eqb (restoreNumber (rawRestore x store n .result)) 0) (numbered-closed (rawRestore x store n .state) (by (named x))) closed
   where
     by : (t : Bool) → Closed (pick t (restoreRule (unpacked x) store n) (restoring RestoreAnswer.BadState (unpacked x)) .state)
     by true = restored-closed (unpacked x) store n (unpacked-closed x closed)
@@ -75,7 +76,12 @@ module _ {p q a b : List ℕ} (h : Related p q a b) (l store : List ℕ) (x : Ra
   unfolding rawSessionRule
   called-agrees (Terminal c) free =
       let k = row-call-agrees h l x closed c (λ e. free (first e)) in
-      record { page = rawRowCall (session b l x) c .called .page; but-page = cc (k .called .given, k .rows); related = k .called .related; closed = k .called .closed }
+      record {
+        page = rawRowCall (session b l x) c .called .page;
+        but-page = cc (k .called .given, k .rows);
+        related = k .called .related;
+        closed = k .called .closed;
+      }
   called-agrees Save free = record { page = b; but-page = refl; related = h; closed = closed }
   called-agrees (Restore n) free = record { page = b; but-page = refl; related = h; closed = restore-closed x store n closed }
 

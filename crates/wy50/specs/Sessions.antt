@@ -116,7 +116,8 @@ rawCallsOf (a ∷ acts) stream x =
 pub data RawStreamPerformed : RawKept → List ℕ → List Act → List RawSessionGiven → RawKept → List ℕ → Type 0 where
   none : {x : RawKept} {stream : List ℕ} → RawStreamPerformed x stream [] [] x stream
   next : {x y : RawKept} {stream end : List ℕ} {a : Act} {acts : List Act} {r : RawSessionCalled} {gs : List RawSessionGiven}
-      → RawSessionMade x (callOf a stream) r → RawStreamPerformed (r .kept) (leftOf stream (callOf a stream) (rawHandedBack (callOf a stream) (r .told))) acts gs y end
+      → RawSessionMade x (callOf a stream) r
+      → RawStreamPerformed (r .kept) (leftOf stream (callOf a stream) (rawHandedBack (callOf a stream) (r .told))) acts gs y end
       → RawStreamPerformed x stream (a ∷ acts) (rawGivenBy r ∷ gs) y end
 
 abbrev pub RawStreamDemand3 : Type 0
