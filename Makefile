@@ -1,10 +1,11 @@
 # make, alone, says what there is to make.
 
-.PHONY: help demo test lib test-face fuzz fuzz-face bench install uninstall clean
+.PHONY: help demo test lib test-face fuzz fuzz-face sessions bench install uninstall clean
 .DEFAULT_GOAL := help
 
 SECONDS ?= 60
 SEED ?= 1
+CALLS ?= 10000000
 PREFIX ?= /usr/local
 TO := $(DESTDIR)$(PREFIX)
 LIB := target/staticlib/libwy50.a
@@ -50,6 +51,11 @@ fuzz-face: $(LIB) ## random calls from C under the sanitizers; SECONDS=60
 	@mkdir -p target/face
 	$(CC) -std=c99 -Wall -Wextra -Werror -O1 -g -fsanitize=address,undefined -fno-sanitize-recover=all -Iinclude tests/face/fuzz.c $(LIB) -o target/face/fuzz
 	target/face/fuzz $(SECONDS)
+
+sessions: $(LIB) ## demand 3 over whole sessions: pairs of terminals through the C face; CALLS=10000000 SEED=1
+	@mkdir -p target/face
+	$(CC) -std=c99 -Wall -Wextra -Werror -O2 -Iinclude tests/face/sessions.c $(LIB) -o target/face/sessions
+	target/face/sessions $(CALLS) $(SEED)
 
 bench: lib ## times beside the peers, to target/BENCHMARKS.md; with SAVE=1 to docs/BENCHMARKS.md
 	@tools/need cargo
