@@ -30,7 +30,7 @@ test: ## the gate: proves every crate, tries the must-fail edits, runs the tests
 
 lib: $(LIB) $(COUNTER) ## libwy50.a and libwy50_counter.a, in target/staticlib
 
-$(LIB): $(call sources,$(TERMINAL) crates/fields crates/saved crates/mend crates/repaint crates/wy50)
+$(LIB): $(call sources,$(TERMINAL) crates/fields crates/saved crates/mend crates/repaint crates/session crates/wy50)
 	@tools/prove staticlib wy50
 	@touch $@
 
