@@ -164,13 +164,12 @@ fn are_tabs(tabs: [u8; 132]) -> bool
     ensures { λ r. ⌜ r ≡ allBelow 2 tabs ⌝ }
 {
     let mut i = 0;
+    let mut all = true;
     while i < 132 {
-        if 2 <= tabs[i] {
-            return false;
-        }
+        all = and(all, tabs[i] < 2);
         i += 1;
     }
-    true
+    all
 }
 
 // Whether the numbers name a state.
