@@ -22,9 +22,14 @@ use Rattle.rules.specs.RowList.{rowList, Beside}
 use Rattle.rules.proofs.Marks.{guard-at}
 use Rattle.rules.proofs.Screens.{screen-inside}
 use Rattle.rules.proofs.RowSteps.{length-list}
-use Rattle.carry.proofs.Guards.{guards-set}
+use Rattle.rules.specs.declared.Write.the-variants as Write
+use Rattle.rules.specs.Row.{columns}
+use Rattle.rules.specs.Carry.{applied}
+use Rattle.carry.specs.Rows.{keepsGuards}
+use Rattle.carry.proofs.Guards.{guards-set, kept-guards}
 use Rattle.terminal.specs.Rows.{closedNone, Behind}
-use Rattle.terminal.specs.Text.{Typed, none, stored, placed, TextRun, still, typed, textCore}
+use Rattle.terminal.specs.Text.{Typed, none, stored, placed, gone, rolled, TextRun, still, typed, textCore}
+use Rattle.terminal.proofs.TextSteps.{rolls-off}
 use Rattle.terminal.proofs.TextRuns.{Range, typed-range}
 
 -- a text cell that is stored is open, but for write-protect mode with protect mode on
@@ -33,22 +38,29 @@ text-open true true a b h f = absurd (false≢true (sym f))
 text-open true false a b h f = ne-eqb ((0 + 0 + 256 * 0 + 1024 * a + b) / 128 % 2) 1 (λ e. omega arith)
 text-open false mark a b h f = refl
 
-module _ {on : Bool} {base : ℕ} {wide : Bool} {home end : ℕ} {l : List ℕ} {at₀ i₀ : ℕ} {p₀ : List ℕ} (a : at₀ < length p₀) (e : end ≤ length p₀) (h : i₀ < length l) where
+module _ {on : Bool} {base : ℕ} {rolls wide : Bool} {home end : ℕ} {l : List ℕ} {at₀ i₀ : ℕ} {p₀ : List ℕ} (a : at₀ < length p₀) (e : end ≤ length p₀) (h : i₀ < length l) where
   -- it guards no cell
-  typed-guards : {at i : ℕ} {p : List ℕ} → ((b : ℕ) → b ≤ 0x7e → guarded on (base + b) ≡ false) → Typed on base wide home end l at₀ i₀ p₀ at i p
+  typed-guards : {at i : ℕ} {p : List ℕ} → ((b : ℕ) → b ≤ 0x7e → guarded on (base + b) ≡ false) → (rolls ≡ true → on ≡ false)
+      → Typed on base rolls wide home end l at₀ i₀ p₀ at i p
       → guardedAt on p ≡ guardedAt on p₀
-  typed-guards f none = refl
-  typed-guards f (stored {at} {i} {v} {p} u k s w) =
+  unfolding applied keepsGuards
+  typed-guards f o none = refl
+  typed-guards f o (stored {at} {i} {v} {p} u k s w) =
       let r = typed-range u h a e in
       let here : guarded on (getD p at 0) ≡ false = sym (guard-at on p at (omega (arith, s .inside, r .size))) ∙ s .here in
-      guards-set on p at v (ap (guarded on) w ∙ f (getD l i 0) (s .high) ∙ sym here) ∙ typed-guards f u
-  typed-guards f (placed u k s) = typed-guards f u
+      guards-set on p at v (ap (guarded on) w ∙ f (getD l i 0) (s .high) ∙ sym here) ∙ typed-guards f o u
+  typed-guards f o (placed u k s) = typed-guards f o u
+  typed-guards f o (gone u k s i g) = typed-guards f o u
+  typed-guards f o (rolled {at} {i} {p} top bottom u k r x y q) =
+      ap (guardedAt on) q ∙ kept-guards (columns wide) on (Write.Rows false top bottom) p (ap not (o (r .mode))) ∙ typed-guards f o u
 
   -- a run that took no byte left the page
-  typed-same : {at i : ℕ} {p : List ℕ} → i ≡ i₀ → Typed on base wide home end l at₀ i₀ p₀ at i p → p ≡ p₀
+  typed-same : {at i : ℕ} {p : List ℕ} → i ≡ i₀ → Typed on base rolls wide home end l at₀ i₀ p₀ at i p → p ≡ p₀
   typed-same f none = refl
   typed-same f (stored u k s w) = absurd (omega (arith, typed-range u h a e .from))
   typed-same f (placed u k s) = absurd (omega (arith, typed-range u h a e .from))
+  typed-same f (gone u k s i g) = absurd (omega (arith, typed-range u h a e .from))
+  typed-same f (rolled top bottom u k r x y q) = absurd (omega (arith, typed-range u h a e .from))
 
 -- none was closed
 not-both : (on mark : Bool) → not (both on mark) ≡ true → both on mark ≡ false
@@ -68,7 +80,7 @@ text-guards c {i₀ = i₀} {p₀ = p₀} {i = i} {p = p} ok n h (typed quiet ov
         → guardedAt (c .modes .protect) p ≡ guardedAt (c .modes .protect) p₀
     by a e true u f = ap (guardedAt (c .modes .protect)) (typed-same a e h (eqb-true i i₀ u) t)
     by a e false u f =
-        typed-guards a e h (λ b k. text-open (c .modes .protect) (c .modes .mark) (c .attribute) b k (not-both (c .modes .protect) (c .modes .mark) f)) t
+        typed-guards a e h (λ b k. text-open (c .modes .protect) (c .modes .mark) (c .attribute) b k (not-both (c .modes .protect) (c .modes .mark) f)) (rolls-off (c .modes)) t
 
 pub text-behind : (c : Core) {l : List ℕ} {i₀ : ℕ} {p₀ : List ℕ} {at i : ℕ} {p : List ℕ} {rows : List ℕ} → screenOk (c .screen) ≡ true
     → length p₀ ≡ pageLength (c .screen) → i₀ < length l → TextRun c l i₀ p₀ at i p

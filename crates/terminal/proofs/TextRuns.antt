@@ -1,11 +1,12 @@
 -- Runs of text are the repeated step.
+--     segment     the rows of the active segment
 --     typed-then, typed-range, text-range     a run after a run; where a run ends
 --     resumed     the loop over host bytes goes on after a run as before it
 -- Assumes nothing.
 use mathlib.Core.Path.{_≡_, refl, sym, ap, ap₂, _∙_}
 use mathlib.Core.Bool.{Bool, true, false}
 use mathlib.Core.List.{List, [], _++_}
-use Prim.Native.Nat.{ℕ, _+_, _-_, _<_, _≤_}
+use Prim.Native.Nat.{ℕ, _+_, _-_, _*_, _<_, _≤_}
 use native.Mathlib.Nat.{add-zero}
 use native.Mathlib.Omega.{arith}
 use lib.Dec.{eqb}
@@ -22,21 +23,27 @@ use Rattle.rules.specs.declared.Pending.the-variants as Pending
 use Rattle.rules.specs.declared.Screen.{Screen}
 use Rattle.rules.specs.declared.Setup.{Setup}
 use Rattle.rules.specs.declared.State.{State}
-use Rattle.rules.specs.Cell.{pick, written}
+use Rattle.rules.specs.Cell.{pick, written, space}
 use Rattle.rules.specs.Search.{guardedAt}
-use Rattle.rules.specs.State.{unchanged, number, segmentStart, segmentEnd, segmentTop, segmentBottom, cursorOf, withCursor, withScreen, awaiting, idle, sends}
+use Rattle.rules.specs.State.{Inside, pageLength, unchanged, number, segmentStart, segmentEnd, segmentTop, segmentBottom, cursorOf, withCursor, withScreen, awaiting, idle, sends}
 use Rattle.rules.specs.declared.Argument.the-variants as Argument
 use Rattle.rules.specs.Step.{innerRule}
 use Rattle.rules.specs.Decode.{argumentRule, decodeRule, idleRule, escapeRule, lookup}
 use Rattle.rules.specs.Carry.{effect}
+use Rattle.rules.specs.declared.Write.the-variants as Write
+use Rattle.rules.specs.Row.{columns}
+use Rattle.rules.specs.Change.{within, shifted, rowsShifted}
+use Rattle.rules.specs.Plan.{scroll, scrolls}
+use Rattle.rules.specs.Carry.{applied}
+use Rattle.rules.proofs.Lengths.{length-applied}
 use Rattle.rules.proofs.Rows.{columns-width}
 use Rattle.rules.proofs.Screens.{screen-inside}
 use Rattle.carry.proofs.Carrying.{carried-is}
 use Rattle.terminal.specs.Loop.{stateOf}
-use Rattle.terminal.specs.Text.{Stored, Addressed, Typed, none, stored, placed, TextRun, still, typed, textBase, textCore}
+use Rattle.terminal.specs.Text.{Stored, Addressed, Goes, Rolled, Segment, Typed, none, stored, placed, gone, rolled, TextRun, still, typed, textBase, textCore}
 use Rattle.terminal.proofs.Carrying.{quiet-carried}
 use Rattle.terminal.proofs.Loop.{Running, ready, go, nothing-made, lentTail, backTail, tail-lent, tail-back}
-use Rattle.terminal.proofs.TextSteps.{rows-below, stores, waits, places}
+use Rattle.terminal.proofs.TextSteps.{rows-below, stores, waits, places, goes, rolls as rolls-on}
 
 -- a text cell's number is its code and what stands beside it
 base-is : (b : ℕ) (p : Bool) (a : ℕ) → written (Contents.Text b) p a ≡ written (Contents.Text 0) p a + b
@@ -47,12 +54,25 @@ pub base-small : (p : Bool) (a : ℕ) → a < 32 → written (Contents.Text 0) p
 base-small true a h = omega arith
 base-small false a h = omega arith
 
+-- the active segment of a screen
+pub segment : (x : Screen) → Inside x → {t b h e n : ℕ} → t ≡ segmentTop x → b ≡ segmentBottom x → h ≡ segmentStart x → e ≡ segmentEnd x
+    → n ≡ pageLength x → Segment (x .wide) t b h e n
+segment x s a b c d f = record {
+  rows = omega (arith, a, b, s .rows);
+  most = omega (arith, b, s .most);
+  first = rw a c;
+  past = rw b d;
+  whole = f;
+}
+
 -- a run stays in the segment
-pub typed-inside : {on : Bool} {base : ℕ} {wide : Bool} {home end : ℕ} {l : List ℕ} {at₀ i₀ : ℕ} {p₀ : List ℕ} {at i : ℕ} {p : List ℕ}
-    → Typed on base wide home end l at₀ i₀ p₀ at i p → at₀ < end → at < end
+pub typed-inside : {on : Bool} {base : ℕ} {rolls wide : Bool} {home end : ℕ} {l : List ℕ} {at₀ i₀ : ℕ} {p₀ : List ℕ} {at i : ℕ} {p : List ℕ}
+    → Typed on base rolls wide home end l at₀ i₀ p₀ at i p → at₀ < end → at < end
 typed-inside none h = h
 typed-inside (stored t k s e) h = s .inside
 typed-inside (placed t k s) h = s .inside
+typed-inside (gone t k s i g) h = i
+typed-inside (rolled top bottom t k r a b e) h = typed-inside t h
 
 -- where a run over l from the byte i₀ and the page p₀ ends
 pub record Range (l : List ℕ) (i₀ : ℕ) (p₀ : List ℕ) (at i : ℕ) (p : List ℕ) : Type 0 where
@@ -61,21 +81,34 @@ pub record Range (l : List ℕ) (i₀ : ℕ) (p₀ : List ℕ) (at i : ℕ) (p :
   pub below : at < length p₀
   pub size : length p ≡ length p₀
 
-module _ {on : Bool} {base : ℕ} {wide : Bool} {home end : ℕ} {l : List ℕ} {at₀ i₀ : ℕ} {p₀ : List ℕ} where
-  pub typed-then : {at i : ℕ} {p : List ℕ} → Typed on base wide home end l at₀ i₀ p₀ at i p
-      → {at′ i′ : ℕ} {p′ : List ℕ} → Typed on base wide home end l at i p at′ i′ p′ → Typed on base wide home end l at₀ i₀ p₀ at′ i′ p′
+module _ {on : Bool} {base : ℕ} {rolls wide : Bool} {home end : ℕ} {l : List ℕ} {at₀ i₀ : ℕ} {p₀ : List ℕ} where
+  pub typed-then : {at i : ℕ} {p : List ℕ} → Typed on base rolls wide home end l at₀ i₀ p₀ at i p
+      → {at′ i′ : ℕ} {p′ : List ℕ} → Typed on base rolls wide home end l at i p at′ i′ p′ → Typed on base rolls wide home end l at₀ i₀ p₀ at′ i′ p′
   typed-then t none = t
   typed-then t (stored u h s e) = stored (typed-then t u) h s e
   typed-then t (placed u h s) = placed (typed-then t u) h s
+  typed-then t (gone u h s i g) = gone (typed-then t u) h s i g
+  typed-then t (rolled top bottom u h r a b e) = rolled top bottom (typed-then t u) h r a b e
 
-  pub typed-range : {at i : ℕ} {p : List ℕ} → Typed on base wide home end l at₀ i₀ p₀ at i p → i₀ < length l → at₀ < length p₀ → end ≤ length p₀
+  pub typed-range : {at i : ℕ} {p : List ℕ} → Typed on base rolls wide home end l at₀ i₀ p₀ at i p → i₀ < length l → at₀ < length p₀ → end ≤ length p₀
       → Range l i₀ p₀ at i p
+  unfolding applied
   typed-range none h a e = record { from = omega arith; within = h; below = a; size = refl }
   typed-range (stored {at} {i} {v} {p} u k s w) h a e =
       let r = typed-range u h a e in
       record { from = omega (arith, r .from); within = k; below = omega (arith, s .inside); size = length-set p at v ∙ r .size }
   typed-range (placed u k s) h a e =
       let r = typed-range u h a e in record { from = omega (arith, r .from); within = k; below = omega (arith, s .inside); size = r .size }
+  typed-range (gone u k s i g) h a e =
+      let r = typed-range u h a e in record { from = omega (arith, r .from); within = k; below = omega (arith, i); size = r .size }
+  typed-range (rolled {at} {i} {p} top bottom u k s x y q) h a e =
+      let r = typed-range u h a e in
+      record {
+        from = omega (arith, r .from);
+        within = k;
+        below = r .below;
+        size = ap length q ∙ length-applied (columns wide) on (Write.Rows false top bottom) p ∙ r .size;
+      }
 
 -- ---- a turn of the loop that changes the core and the page alone
 
@@ -178,6 +211,19 @@ module _ {c d : Core} {at : ℕ} (L : Like c d at) where
     next = like-guard p (ap (λ (i : ℕ). i + 1) (L .cursor)) (s .next);
   }
 
+-- a move and a scroll, by other names of what they depend on
+goes-is : {wide wide′ : Bool} {home home′ at at′ b k : ℕ} → wide ≡ wide′ → home ≡ home′ → at ≡ at′ → Goes wide′ home′ at′ b k → Goes wide home at b k
+goes-is e f g s = rw (e, f, g) s
+
+rolled-is : {rolls rolls′ wide wide′ : Bool} {end end′ at at′ b : ℕ} → rolls ≡ rolls′ → wide ≡ wide′ → end ≡ end′ → at ≡ at′
+    → Rolled rolls′ wide′ end′ at′ b → Rolled rolls wide end at b
+rolled-is e f g h r = rw (e, f, g, h) r
+
+rows-same : (w w′ t t′ b b′ : ℕ) (p : List ℕ) → w ≡ w′ → t * w ≡ t′ * w′ → b * w ≡ b′ * w′ → rowsShifted w false t b p ≡ rowsShifted w′ false t′ b′ p
+unfolding rowsShifted
+rows-same w w′ t t′ b b′ p e f g =
+    ap₂ (λ (a z : ℕ). within a z (shifted false w space) p) f g ∙ ap (λ (v : ℕ). within (t′ * w′) (b′ * w′) (shifted false v space) p) e
+
 -- ---- a run
 
 module _ {stop : Bool} {p₀ : List ℕ} {s₀ : State} {input w₀ : List ℕ} {g : List ℕ} {u : Setup} {n f : ℕ} {w p : List ℕ} (c : Core) {i₀ : ℕ}
@@ -233,12 +279,45 @@ module _ {stop : Bool} {p₀ : List ℕ} {s₀ : State} {input w₀ : List ℕ} 
               ∙ ap (λ (x : Core). effect 0 x unchanged q []) (L .next k));
         }
 
+    went-gone : {k : ℕ} → i + 1 < length input → Goes (c .screen .wide) (segmentStart (c .screen)) at (getD input i 0) k
+        → k < segmentEnd (c .screen) → getD (guardedAt (c .modes .protect) q) k false ≡ false → Went k (i + 1) q
+    went-gone {k} h s z o =
+        let t = ready (G .running) in
+        record {
+          core = textCore c k;
+          arrived = there {i = i + 1} (omega (arith, later (G .arrived)));
+          running = turn (i + 1) (G .running) refl h (λ room.
+              goes q d (t .0) (t .1 .0) (u .tabs) room (getD input i 0) k (L .idle) (goes-is (L .wide) (L .home) (L .cursor) s)
+              (omega (arith, z, L .end)) (like-guard L q refl o)
+              ∙ ap (λ (y : Core). effect 0 y unchanged q []) (L .next k));
+        }
+
+    went-rolled : {q′ : List ℕ} (top bottom : ℕ) → i + 1 < length input
+        → Rolled (scrolls (c .modes)) (c .screen .wide) (segmentEnd (c .screen)) at (getD input i 0)
+        → segmentStart (c .screen) ≡ top * columns (c .screen .wide) → segmentEnd (c .screen) ≡ bottom * columns (c .screen .wide)
+        → q′ ≡ rowsShifted (columns (c .screen .wide)) false top bottom q → Went at (i + 1) q′
+    unfolding applied
+    went-rolled top bottom h r a z e =
+        let t = ready (G .running) in
+        record {
+          core = textCore c at;
+          arrived = there {i = i + 1} (omega (arith, later (G .arrived)));
+          running = turn (i + 1) (G .running) refl h (λ room.
+              rolls-on q d (t .0) (t .1 .0) (u .tabs) room (getD input i 0) (L .idle)
+              (rolled-is (ap scrolls (L .modes)) (L .wide) (L .end) (L .cursor) r)
+              ∙ ap₂ (λ (y : Core) (l : List ℕ). effect 0 y unchanged l [])
+              (ap (textCore d) (L .cursor) ∙ L .next at)
+              (rows-same (columns (d .screen .wide)) (columns (c .screen .wide)) (segmentTop (d .screen)) top (segmentBottom (d .screen)) bottom q (ap columns (L .wide)) (L .home ∙ a) (L .end ∙ z) ∙ sym e));
+        }
+
   typed-run : {at i : ℕ} {p′ : List ℕ}
-      → Typed (c .modes .protect) (textBase c) (c .screen .wide) (segmentStart (c .screen)) (segmentEnd (c .screen)) input (cursorOf (c .screen)) i₀ p at i p′
+      → Typed (c .modes .protect) (textBase c) (scrolls (c .modes)) (c .screen .wide) (segmentStart (c .screen)) (segmentEnd (c .screen)) input (cursorOf (c .screen)) i₀ p at i p′
       → Went at i p′
   typed-run none = record { core = c; arrived = here; running = R }
   typed-run (stored t h s e) = went-stored (typed-run t) h s e
   typed-run (placed t h s) = went-placed (typed-run t) h s
+  typed-run (gone t h s z o) = went-gone (typed-run t) h s z o
+  typed-run (rolled top bottom t h r a z e) = went-rolled (typed-run t) top bottom h r a z e
 
 -- the loop after a run from the byte i₀ on: it goes on at the byte i, which is left
 pub record Resumed (stop : Bool) (p₀ : List ℕ) (s₀ : State) (input w₀ p w : List ℕ) (c : Core) (g : List ℕ) (u : Setup) (i n f i₀ : ℕ) : Type 0 where

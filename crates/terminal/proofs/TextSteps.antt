@@ -1,5 +1,6 @@
 -- One byte of a run of text, by the inner step.
 --     stores, waits, places     a byte stored; a byte of ESC = that is awaited; its last byte, which moves the cursor
+--     goes, rolls, rolls-off     a byte that moves the cursor, and one that scrolls; this one with protect mode off
 -- Assumes nothing.
 use mathlib.Core.Path.{_≡_, refl, sym, ap, _∙_}
 use mathlib.Core.Bool.{Bool, true, false, not}
@@ -8,34 +9,38 @@ use Prim.Native.Nat.{ℕ, _+_, _-_, _*_, _<_, _≤_}
 use native.Mathlib.Omega.{arith}
 use lib.ListN.{length, getD, set, length-set}
 use lib.Seq.{getD-set-other}
-use borrow.Author.Tests.{lt-ltb, le-ltb, le-leb}
+use borrow.Author.Tests.{lt-ltb, le-ltb, le-leb, not-true}
 use Rattle.rules.specs.declared.Contents.the-variants as Contents
 use Rattle.rules.specs.declared.Core.{Core}
 use Rattle.rules.specs.declared.Command.the-variants as Command
 use Rattle.rules.specs.declared.Decoded.{Decoded}
 use Rattle.rules.specs.declared.Decoded.the-variants as Decoded
 use Rattle.rules.specs.declared.Land.the-variants as Land
+use Rattle.rules.specs.declared.Modes.{Modes}
+use Rattle.rules.specs.declared.Move.{Move}
+use Rattle.rules.specs.declared.Move.the-variants as Move
 use Rattle.rules.specs.declared.Pending.{Pending}
 use Rattle.rules.specs.declared.Pending.the-variants as Pending
 use Rattle.rules.specs.declared.Plan.{Plan}
+use Rattle.rules.specs.declared.Screen.{Screen}
 use Rattle.rules.specs.declared.Write.{Write}
 use Rattle.rules.specs.declared.Write.the-variants as Write
 use Rattle.rules.specs.Cell.{pick, guarded, among, both, written}
-use Rattle.rules.specs.Row.{Width}
+use Rattle.rules.specs.Row.{Width, rowStart}
 use Rattle.rules.specs.Search.{guardedAt, others, settled}
 use Rattle.rules.specs.State.{unchanged, widthOf, pageLength, segmentTop, segmentBottom, segmentStart, segmentEnd, cursorOf, withCursor, withScreen, awaiting, idle}
 use Rattle.rules.specs.Possible.{screenOk}
-use Rattle.rules.specs.Decode.{decodeRule, idleRule}
-use Rattle.rules.specs.Plan.{writing, unlessGuarded, storing, advancing, storePlan, addressPlan, movePlan, planRule}
+use Rattle.rules.specs.Decode.{decodeRule, idleRule, lookup}
+use Rattle.rules.specs.Plan.{writing, settling, unlessGuarded, storing, advancing, storePlan, addressPlan, scroll, scrolls, nextCell, atTop, upCell, downPlan, movePlan, planRule}
 use Rattle.rules.specs.Carry.{effect, applied, landed, done, carried}
 use Rattle.rules.specs.Step.{obeyed, innerRule}
-use Rattle.rules.proofs.Tests.{both-true}
-use Rattle.rules.proofs.Marks.{hit, around-here, length-guards, length-others, guard-at, open-at}
+use Rattle.rules.proofs.Tests.{both-true, both-parts}
+use Rattle.rules.proofs.Marks.{hit, hit-last, around-here, length-guards, length-others, guard-at, open-at}
 use Rattle.rules.proofs.Rows.{by-width, columns-width}
 use Rattle.rules.proofs.Lengths.{length-applied}
 use Rattle.rules.proofs.Screens.{screen-inside}
 use Rattle.page.proofs.Changes.{one-filled}
-use Rattle.terminal.specs.Text.{Stored, textCore}
+use Rattle.terminal.specs.Text.{Stored, Goes, goes-back, goes-down, goes-up, goes-right, goes-return, goes-home, goes-line, Rolled, textCore}
 use Rattle.terminal.proofs.Carrying.{below}
 
 -- an open cell: settling stays there
@@ -43,6 +48,11 @@ settled-open : (g : List Bool) (first end i : ℕ) → i < end → end ≤ lengt
 settled-open g first end i h k e =
     let t : getD (others g) i false ≡ true = open-at g i (omega arith) ∙ ap not e in
     sym (around-here (others g) first end i (sym (hit (others g) i end h (omega (arith, length-others g)) refl t)) h)
+
+-- protect mode is off where a segment scrolls
+pub rolls-off : (m : Modes) → scrolls m ≡ true → m .protect ≡ false
+unfolding scrolls
+rolls-off m e = not-true (m .protect) (both-parts (m .autoscroll) (not (m .protect)) e .1)
 
 -- so many rows begin sooner
 pub rows-below : {w : ℕ} → Width w → {a b : ℕ} → a * w < b * w → a < b
@@ -129,3 +139,57 @@ module _ (p : List ℕ) (c : Core) (size : length p ≡ pageLength (c .screen)) 
       (both-true (le-leb 0x20 k left) (lt-ltb k (0x20 + 80) right)) in
       below p c tabs k room (omega arith) refl (ap (λ (q : Pending). decodeRule q k) pending)
       ∙ rw t (rw (sym same) (carried-writing Write.Nothing i h g))
+
+  -- ---- a byte that moves the cursor, or scrolls
+
+  abbrev x : Screen
+  x = c .screen
+
+  abbrev move : Move → Plan
+  move m = movePlan (guardedAt on p) tabs (idle c) m
+
+  -- the plan of a move, when nothing is under way
+  moving : (b : ℕ) (m : Move) → c .pending ≡ Pending.Idle → b < 128 → decodeRule Pending.Idle b ≡ Decoded.Do (Command.Go m)
+      → innerRule p c tabs b room ≡ carried p c (move m) room
+  unfolding obeyed planRule
+  moving b m quiet low e = below p c tabs b room low refl (ap (λ (q : Pending). decodeRule q b) quiet ∙ e)
+
+  -- it moves to an open cell of the segment
+  settles : {b k : ℕ} (m : Move) → c .pending ≡ Pending.Idle → b < 128 → decodeRule Pending.Idle b ≡ Decoded.Do (Command.Go m)
+      → move m ≡ settling (idle c) k → k < segmentEnd x → getD (guardedAt on p) k false ≡ false
+      → innerRule p c tabs b room ≡ effect 0 (textCore c k) unchanged p []
+  unfolding applied
+  settles {b} {k} m quiet low d e h g =
+      moving b m quiet low d ∙ ap (λ (z : Plan). carried p c z room) e ∙ carried-writing Write.Nothing k h g
+
+  pub goes : (b k : ℕ) → c .pending ≡ Pending.Idle → Goes (x .wide) (segmentStart x) (cursorOf x) b k → k < segmentEnd x
+      → getD (guardedAt on p) k false ≡ false → innerRule p c tabs b room ≡ effect 0 (textCore c k) unchanged p []
+  unfolding decodeRule idleRule lookup movePlan downPlan nextCell upCell atTop
+  goes b k quiet (goes-back e j i) h g =
+      let m = others (guardedAt on p) in
+      let s = screen-inside x ok in
+      let l : cursorOf x ≤ length m = omega (arith, length-others (guardedAt on p), length-guards on p, size, s .below, s .placed .page) in
+      let t : getD m (cursorOf x - 1) false ≡ true = open-at (guardedAt on p) (cursorOf x - 1) (omega (arith, length-guards on p, size, s .below, s .placed .page)) ∙ ap not (rw i at g) in
+      settles Move.Back quiet (omega (arith, e)) (rw e refl) (ap (settling (idle c)) (hit-last (cursorOf x) m (segmentStart x) (cursorOf x) (omega arith) l refl t ∙ sym i)) h g
+  goes b k quiet (goes-down e i) h g =
+      settles Move.Down quiet (omega (arith, e)) (rw e refl) (rw (lt-ltb (cursorOf x + w) (segmentEnd x) (omega (arith, i))) (ap (settling (idle c)) (sym i))) h g
+  goes b k quiet (goes-up e j i) h g =
+      settles Move.Up quiet (omega (arith, e)) (rw e refl) (rw (le-ltb (cursorOf x) (segmentStart x + w) j) (ap (settling (idle c)) (sym i))) h g
+  goes b k quiet (goes-right e i) h g =
+      settles Move.Right quiet (omega (arith, e)) (rw e refl) (rw (lt-ltb (cursorOf x + 1) (segmentEnd x) (omega (arith, i))) (ap (settling (idle c)) (sym i))) h g
+  goes b k quiet (goes-return e i) h g = settles Move.Return quiet (omega (arith, e)) (rw e refl) (ap (settling (idle c)) (sym i)) h g
+  goes b k quiet (goes-home e i) h g = settles Move.Home quiet (omega (arith, e)) (rw e refl) (ap (settling (idle c)) (sym i)) h g
+  goes b k quiet (goes-line e i) h g =
+      settles Move.NextLine quiet (omega (arith, e)) (rw e refl)
+      (rw (lt-ltb (rowStart w (cursorOf x) + w) (segmentEnd x) (omega (arith, i))) (ap (settling (idle c)) (sym i))) h g
+
+  pub rolls : (b : ℕ) → c .pending ≡ Pending.Idle → Rolled (scrolls (c .modes)) (x .wide) (segmentEnd x) (cursorOf x) b
+      → innerRule p c tabs b room ≡ effect 0 (textCore c (cursorOf x)) unchanged (applied w on (scroll x false) p) []
+  unfolding decodeRule idleRule lookup movePlan downPlan
+  rolls b quiet r =
+      let s = screen-inside x ok in
+      let q = applied w on (scroll x false) p in
+      let h : cursorOf x < length q = omega (arith, length-applied w on (scroll x false) p, size, s .below, s .placed .page) in
+      moving b Move.Down quiet (omega (arith, r .byte)) (rw (r .byte) refl)
+      ∙ ap (λ (z : Plan). carried p c z room) (rw (le-ltb (cursorOf x + w) (segmentEnd x) (r .last), r .mode))
+      ∙ carried-writing (scroll x false) (cursorOf x) (s .below) (guard-at on q (cursorOf x) h ∙ ap (λ (t : Bool). guarded t (getD q (cursorOf x) 0)) (rolls-off (c .modes) (r .mode)))

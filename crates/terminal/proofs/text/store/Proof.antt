@@ -27,7 +27,7 @@ along a = record { begun = omega (arith, a .begun); even = omega (arith, a .even
 abbrev Inv-loop : tie.InvT-loop
 Inv-loop page₀ on base first end input from last at₀ i₀ page at i =
     (length page ≡ length page₀) × ((at < length page₀) × ((i < length input) × (Along first end from (length input) last at i
-    × ((wide : Bool) (home : ℕ) → Typed on base wide home end input first from page₀ at i page))))
+    × ((rolls wide : Bool) (home : ℕ) → Typed on base rolls wide home end input first from page₀ at i page))))
 
 abbrev μ-loop : tie.MeasureT-loop
 μ-loop page₀ on base first end input from last at₀ i₀ page at i = length input - i
@@ -43,7 +43,7 @@ store-spec =
     -- loop-holds
     (λ c.
     let p = c .before .before .before .pre in
-    (refl, (omega (arith, p), (p .1 .1 .1 .0, (record { begun = omega arith; even = refl; more = c .stop .ensures }, λ wide home. none)))))
+    (refl, (omega (arith, p), (p .1 .1 .1 .0, (record { begun = omega arith; even = refl; more = c .stop .ensures }, λ rolls wide home. none)))))
     -- shared-slice-read-b
     (λ c. search needs)
     -- is-stored-requires
@@ -74,7 +74,7 @@ store-spec =
     let k = next (l .inv .1 .1 .1 .0) (c .before .before .before .before .before .loop-test .taken) in
     let s = c .before .before .is-stored .ensures _ (k .0) (not-false _ (c .before .if1 .left)) in
     let p = c .before .before .before .before .before .before .before .before .before .before .pre in
-    (search needs, (omega (arith, k .0, p .1 .0), (k .1, (along (l .inv .1 .1 .1 .0), λ wide home. stored (l .inv .1 .1 .1 .1 wide home) (k .1) s (c .text-cell .ensures))))))
+    (search needs, (omega (arith, k .0, p .1 .0), (k .1, (along (l .inv .1 .1 .1 .0), λ rolls wide home. stored (l .inv .1 .1 .1 .1 rolls wide home) (k .1) s (c .text-cell .ensures))))))
     -- same-length-2
     (λ c. search needs)
     -- returns-2

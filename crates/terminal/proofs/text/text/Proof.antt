@@ -1,8 +1,11 @@
 -- `terminal::text::text` meets its contract.
+use mathlib.Core.Path.{ap₂, _∙_}
+use Prim.Native.Nat.{ℕ, _*_}
 use native.Mathlib.Omega.{arith}
+use Rattle.rules.specs.Row.{columns}
 use Rattle.rules.proofs.Screens.{screen-inside}
 use Rattle.terminal.specs.Text.{still, typed}
-use Rattle.terminal.proofs.TextRuns.{base-small}
+use Rattle.terminal.proofs.TextRuns.{base-small, segment}
 use borrow.Author.Needs.{needs}
 use Rattle.terminal.proofs.text.text.Statement.{statement}
 use Rattle.terminal.proofs.text.text.Tie as tie
@@ -25,6 +28,8 @@ text-spec =
     (λ c. search needs)
     -- written-cell-requires
     (λ c κs. search needs)
+    -- scrolls-requires
+    (λ c κs. search needs)
     -- cursor-of-requires
     (λ c κs. search needs)
     -- cast-runs
@@ -37,28 +42,31 @@ text-spec =
     (λ c κs. search needs)
     -- cast-runs-3
     (λ c. search needs)
+    -- segment-top-requires
+    (λ c κs. search needs)
+    -- cast-runs-4
+    (λ c. search needs)
+    -- segment-bottom-requires
+    (λ c κs. search needs)
+    -- cast-runs-5
+    (λ c. search needs)
     -- runs-requires
     (λ c κs.
-    let x = c .before .before .before .before .before .before .before .before .before .before .before .before .before in
-    let base = c .before .before .before .written-cell .ensures in
+    let x = c .before .before .before .before .before .before .before .before .before .before .before .before .before .before .before .before in
+    let base = c .before .before .before .before .before .before .written-cell .ensures in
     let small = base-small (x .args .core .modes .mark) (x .args .core .attribute) (x .pre .1 .1 .1) in
     let s = screen-inside (x .args .core .screen) (x .pre .1 .0) in
-    let first = c .before .before .cursor-of .ensures in
-    let home = c .before .segment-start .ensures in
-    let end = c .segment-end .ensures in
-    (omega (arith, x .pre .0, s .placed .most), (omega (arith, x .pre .0, end, s .placed .page), (omega (arith, home, s .placed), (omega (arith, first, end, s .below), (x .pre .1 .1 .0, omega (arith, base, small)))))))
+    let first = c .before .before .before .before .cursor-of .ensures in
+    let home = c .before .before .before .segment-start .ensures in
+    let end = c .before .before .segment-end .ensures in
+    (omega (arith, x .pre .0, s .placed .most), (omega (arith, x .pre .0, end, s .placed .page), (omega (arith, home, s .placed), (omega (arith, first, end, s .below), (x .pre .1 .1 .0, (omega (arith, base, small), segment (x .args .core .screen) s (c .before .segment-top .ensures) (c .segment-bottom .ensures) home end (x .pre .0))))))))
     -- still-requires-3
     (λ c κs. search needs)
     -- same-length
     (λ c. search needs)
     -- returns-3
     (λ c.
-    let end = c .before .before .before in
-    let home = end .before in
-    let first = home .before in
-    let base = first .before in
-    let idle = base .before .before in
-    typed (idle .enum-told .given .1) (idle .before .before .before .if2 .left)
-    (rw (base .written-cell .ensures, first .cursor-of .ensures, home .segment-start .ensures, end .segment-end .ensures) at (c .before .before .runs .ensures)))
+    typed (c .before .before .before .before .before .before .before .before .before .before .before .enum-told .given .1) (c .before .before .before .before .before .before .before .before .before .before .before .before .before .before .if2 .left)
+    (rw (c .before .before .before .before .before .before .before .before .before .written-cell .ensures, c .before .before .before .before .before .before .before .before .scrolls .ensures, c .before .before .before .before .before .before .before .cursor-of .ensures, c .before .before .before .before .before .before .segment-start .ensures, c .before .before .before .before .before .segment-end .ensures) at (c .before .before .runs .ensures)))
     -- returns-4
     (λ c. rw (c .still3 .ensures) still))
