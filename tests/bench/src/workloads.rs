@@ -24,7 +24,7 @@ pub struct Workload {
     round: fn(&mut Writer),
 }
 
-pub const WORKLOADS: [Workload; 5] = [
+pub const WORKLOADS: [Workload; 7] = [
     Workload { name: "text", what: "lines of 20 to 79 characters, which scroll", translated: true, plain: true, wy60: false, start: nothing, round: line },
     Workload { name: "addressed", what: "ESC = and 4 to 40 characters", translated: true, plain: false, wy60: false, start: nothing, round: addressed },
     Workload {
@@ -53,6 +53,24 @@ pub const WORKLOADS: [Workload; 5] = [
         wy60: true,
         start: nothing,
         round: attributed,
+    },
+    Workload {
+        name: "insert",
+        what: "in insert mode: lines of 20 to 79 characters, which scroll",
+        translated: false,
+        plain: false,
+        wy60: false,
+        start: insert_on,
+        round: line,
+    },
+    Workload {
+        name: "moves",
+        what: "any of 08h, 0Ah, 0Bh, 0Ch, 0Dh, 1Eh and 1Fh, and nothing else",
+        translated: false,
+        plain: false,
+        wy60: false,
+        start: nothing,
+        round: moves,
     },
 ];
 
@@ -292,6 +310,18 @@ fn nothing(_: &mut Writer) {}
 fn line(w: &mut Writer) {
     w.text(20, 79);
     w.both(b"\r\n");
+}
+
+fn insert_on(w: &mut Writer) {
+    w.only(b"\x1bq");
+}
+
+fn moves(w: &mut Writer) {
+    const MOVES: &[u8] = b"\x08\x0a\x0b\x0c\x0d\x1e\x1f";
+    for _ in 0..64 {
+        let one = w.random.below(MOVES.len());
+        w.only(&[MOVES[one]]);
+    }
 }
 
 fn attributed(w: &mut Writer) {
