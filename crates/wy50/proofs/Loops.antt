@@ -1,8 +1,9 @@
 -- Laws of the loops that translate an array, and of the tables of sequences and sends.
---     begin, go, finish     such a loop's start, a turn, its end
+--     begin, go, at, finish     such a loop's start, a turn, its count by another name, its end
+--     eight     eight bytes one by one
 --     not-found     a number that is none of the table's
 -- Assumes nothing.
-use mathlib.Core.Path.{_≡_, refl, sym, _∙_}
+use mathlib.Core.Path.{_≡_, refl, sym, _∙_, subst}
 use mathlib.Core.List.{List, [], _∷_, map}
 use Prim.Native.Nat.{ℕ, _+_, _≤_, _<_}
 use native.Mathlib.Omega.{arith}
@@ -32,9 +33,25 @@ module _ {A B : Type 0} (f : A → B) (l : List A) (t : List B) where
         front = rw (add-one, take-suc-set t i v h′, x .front, take-suc (map f l) i (f d) m, List·getD-map f l i d, e);
       }
 
+  pub at : (i k : ℕ) → i ≡ k → Translated f l t i → Translated f l t k
+  at i k e x = subst (λ (n : ℕ). Translated f l t n) e x
+
   pub finish : (i : ℕ) → Translated f l t i → length l ≤ i → t ≡ map f l
   finish i x h =
       sym (take-all i t (omega (arith, x .size))) ∙ x .front ∙ take-all i (map f l) (omega (arith, length-map l f))
+
+-- eight bytes one by one are the eight bytes
+pub eight : (l : List ℕ) → length l ≡ 8 → getD l 0 0 ∷ getD l 1 0 ∷ getD l 2 0 ∷ getD l 3 0 ∷ getD l 4 0 ∷ getD l 5 0 ∷ getD l 6 0 ∷ getD l 7 0 ∷ [] ≡ l
+eight [] n = absurd (omega arith)
+eight (a ∷ []) n = absurd (omega arith)
+eight (a ∷ b ∷ []) n = absurd (omega arith)
+eight (a ∷ b ∷ c ∷ []) n = absurd (omega arith)
+eight (a ∷ b ∷ c ∷ d ∷ []) n = absurd (omega arith)
+eight (a ∷ b ∷ c ∷ d ∷ e ∷ []) n = absurd (omega arith)
+eight (a ∷ b ∷ c ∷ d ∷ e ∷ f ∷ []) n = absurd (omega arith)
+eight (a ∷ b ∷ c ∷ d ∷ e ∷ f ∷ g ∷ []) n = absurd (omega arith)
+eight (a ∷ b ∷ c ∷ d ∷ e ∷ f ∷ g ∷ h ∷ []) n = refl
+eight (a ∷ b ∷ c ∷ d ∷ e ∷ f ∷ g ∷ h ∷ i ∷ l) n = absurd (omega arith)
 
 -- what the last arm of a match on a number knows: the number is none of the keys, the last key outermost
 abbrev pub NoneOf : {A : Type 0} → Type 0 → ℕ → List (ℕ × A) → Type 0

@@ -157,13 +157,22 @@ fn raw_modes(m: Modes) -> RawModes
     }
 }
 
+// Byte by byte, and below eight texts a turn: so the machine copies sixteen bytes at a time.
 fn raw_key(k: ShortText) -> RawKey
     ensures { λ r. ⌜ r ≡ rawKey k ⌝ }
 {
-    let bytes = k.bytes;
     RawKey {
         len: k.len,
-        bytes: bytes,
+        bytes: [
+            k.bytes[0],
+            k.bytes[1],
+            k.bytes[2],
+            k.bytes[3],
+            k.bytes[4],
+            k.bytes[5],
+            k.bytes[6],
+            k.bytes[7],
+        ],
     }
 }
 
@@ -188,9 +197,13 @@ fn raw_keys(keys: [ShortText; 32]) -> [RawKey; 32]
     };
     let mut t = [none; 32];
     let mut i = 0;
-    while i < 32 {
-        let k = keys[i];
-        t[i] = raw_key(k);
+    while i < 4 {
+        let mut j = 0;
+        while j < 8 {
+            let k = keys[8 * i + j];
+            t[8 * i + j] = raw_key(k);
+            j += 1;
+        }
         i += 1;
     }
     t
@@ -205,9 +218,13 @@ fn raw_labels(labels: [ShortText; 16]) -> [RawKey; 16]
     };
     let mut t = [none; 16];
     let mut i = 0;
-    while i < 16 {
-        let k = labels[i];
-        t[i] = raw_key(k);
+    while i < 2 {
+        let mut j = 0;
+        while j < 8 {
+            let k = labels[8 * i + j];
+            t[8 * i + j] = raw_key(k);
+            j += 1;
+        }
         i += 1;
     }
     t

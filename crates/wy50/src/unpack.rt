@@ -215,13 +215,22 @@ fn modes_of(m: RawModes) -> Modes
     }
 }
 
+// Byte by byte, and below eight texts a turn: so the machine copies sixteen bytes at a time.
 fn key_of(k: RawKey) -> ShortText
     ensures { λ r. ⌜ r ≡ keyOf k ⌝ }
 {
-    let bytes = k.bytes;
     ShortText {
         len: k.len,
-        bytes: bytes,
+        bytes: [
+            k.bytes[0],
+            k.bytes[1],
+            k.bytes[2],
+            k.bytes[3],
+            k.bytes[4],
+            k.bytes[5],
+            k.bytes[6],
+            k.bytes[7],
+        ],
     }
 }
 
@@ -243,9 +252,13 @@ fn keys_of(keys: [RawKey; 32]) -> [ShortText; 32]
     let none = no_text();
     let mut t = [none; 32];
     let mut i = 0;
-    while i < 32 {
-        let k = keys[i];
-        t[i] = key_of(k);
+    while i < 4 {
+        let mut j = 0;
+        while j < 8 {
+            let k = keys[8 * i + j];
+            t[8 * i + j] = key_of(k);
+            j += 1;
+        }
         i += 1;
     }
     t
@@ -257,9 +270,13 @@ fn labels_of(labels: [RawKey; 16]) -> [ShortText; 16]
     let none = no_text();
     let mut t = [none; 16];
     let mut i = 0;
-    while i < 16 {
-        let k = labels[i];
-        t[i] = key_of(k);
+    while i < 2 {
+        let mut j = 0;
+        while j < 8 {
+            let k = labels[8 * i + j];
+            t[8 * i + j] = key_of(k);
+            j += 1;
+        }
         i += 1;
     }
     t
