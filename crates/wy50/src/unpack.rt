@@ -172,7 +172,7 @@ fn are_tabs(tabs: [u8; 132]) -> bool
     all
 }
 
-// Whether the numbers name a state.
+// Whether the numbers name a state. The tab stops come behind the sequence and the send, so that the machine need not put them aside.
 pub fn is_named(x: RawState) -> bool
     ensures { λ r. ⌜ r ≡ named x ⌝ }
 {
@@ -180,10 +180,12 @@ pub fn is_named(x: RawState) -> bool
     let sequence = x.sequence;
     let sending = x.sending;
     let tabs = x.tabs;
+    let begun = is_sequence(sequence);
+    let sends = is_sending(sending);
     let width = and(x.wish < 2, x.screen.wide < 2);
     let choices = and(and(x.shifted < 2, width), is_personality(x.personality));
     let settings = and(are_tabs(tabs), choices);
-    let rest = and(is_sequence(sequence), and(is_sending(sending), settings));
+    let rest = and(begun, and(sends, settings));
     and(are_flags(modes), and(x.bells < 256, rest))
 }
 

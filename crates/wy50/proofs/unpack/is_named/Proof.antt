@@ -10,6 +10,10 @@ unfolding named
 is-named-spec =
     tie.close
     (tie.spec
+    -- is-sequence-requires
+    (λ c κs. search needs)
+    -- is-sending-requires
+    (λ c κs. search needs)
     -- and-requires
     (λ c κs. search needs)
     -- and-requires-2
@@ -21,10 +25,6 @@ is-named-spec =
     -- are-tabs-requires
     (λ c κs. search needs)
     -- and-requires-4
-    (λ c κs. search needs)
-    -- is-sequence-requires
-    (λ c κs. search needs)
-    -- is-sending-requires
     (λ c κs. search needs)
     -- and-requires-5
     (λ c κs. search needs)
@@ -40,9 +40,11 @@ is-named-spec =
     (λ c.
     let flags = c .before .before .before in
     let rest = flags .before in
-    let settings = rest .before .before .before .before in
+    let settings = rest .before .before in
     let choices = settings .before .before in
     let shifted = choices .before .before in
+    let width = shifted .before .before in
+    let sends = width .before .before .before in
     c .and8 .ensures
     ∙ rw (
       c .before .and7 .ensures,
@@ -51,8 +53,8 @@ is-named-spec =
       settings .and4 .ensures,
       choices .and3 .ensures,
       shifted .and2 .ensures,
-      shifted .before .before .and .ensures,
+      width .and .ensures,
       choices .before .is-personality .ensures,
       flags .are-flags .ensures,
     )
-    (rw (settings .before .are-tabs .ensures, rest .before .before .is-sending .ensures, rest .before .before .before .is-sequence .ensures))))
+    (rw (settings .before .are-tabs .ensures, sends .is-sending .ensures, sends .before .is-sequence .ensures))))
