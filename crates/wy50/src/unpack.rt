@@ -137,6 +137,16 @@ fn sending_of(x: RawSending) -> Sending
     }
 }
 
+// The send of the numbers. Mostly there is none, and no command is looked for.
+fn send_under_way(x: RawSending) -> Sending
+    ensures { λ r. ⌜ r ≡ sendingOf x ⌝ }
+{
+    if x.command == 0 {
+        return Sending::Nothing;
+    }
+    sending_of(x)
+}
+
 fn same_sending(a: RawSending, b: RawSending) -> bool
     ensures { λ r. ⌜ r ≡ sameSending a b ⌝ }
 {
@@ -144,10 +154,13 @@ fn same_sending(a: RawSending, b: RawSending) -> bool
     and(a.command == b.command, places)
 }
 
-// Whether the numbers are those of a send: it gives them back.
+// Whether the numbers are those of a send: it gives them back. Where nothing is sent they are all 0.
 fn is_sending(x: RawSending) -> bool
     ensures { λ r. ⌜ r ≡ isSending x ⌝ }
 {
+    if x.command == 0 {
+        return and(x.kind == 0, x.place == 0);
+    }
     let y = sending_of(x);
     same_sending(raw_sending(y), x)
 }
@@ -324,7 +337,7 @@ pub fn unpack(x: RawState) -> State
             personality: personality_at(x.personality),
             attribute: x.remembered,
         },
-        sending: sending_of(sending),
+        sending: send_under_way(sending),
         gathered: gathered,
         setup: Setup {
             tabs: tabs_of(tabs),

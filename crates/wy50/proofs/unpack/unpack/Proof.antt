@@ -20,7 +20,7 @@ unpack-spec =
     (λ c κs. search needs)
     -- personality-at-requires
     (λ c κs. search needs)
-    -- sending-of-requires
+    -- send-under-way-requires
     (λ c κs. search needs)
     -- tabs-of-requires
     (λ c κs. search needs)
@@ -40,7 +40,7 @@ unpack-spec =
       l .labels-of .ensures,
       k .keys-of .ensures,
       k .before .tabs-of .ensures,
-      k .before .before .sending-of .ensures,
+      k .before .before .send-under-way .ensures,
       k .before .before .before .personality-at .ensures,
       q .pending-of .ensures,
       q .before .before .modes-of .ensures,
