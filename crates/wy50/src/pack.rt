@@ -1,8 +1,7 @@
 // The numbers of a state.
 ghost use mathlib.Core.Path.{_≡_};
 ghost use mathlib.Core.List.{map};
-ghost use Prim.Native.Nat.{_<_};
-ghost use lib.ListN.{getD};
+ghost use Rattle.rules.specs.Cell.{pick};
 ghost use Rattle.wy50.specs.Raw.{flag, personalityNumber, gatheredIn, zeroed, kindOf, textSequence, spoiltSequence, sequenceOf, textSending, rawSending, rawModes, rawKey, rawMessage, packed};
 use crate::raw::RawKey;
 use crate::raw::RawMessage;
@@ -259,21 +258,23 @@ fn gathered_in(q: RawSequence) -> u8
     }
 }
 
-fn byte_or_zero(gathered: [u8; 46], n: u8, i: usize) -> u8
-    requires { ⌜ i < 46 ⌝ }
-    ensures { λ r. ⌜ r ≡ getD (zeroed n gathered) i 0 ⌝ }
+fn kept(b: u8, keep: bool) -> u8
+    ensures { λ r. ⌜ r ≡ pick keep b 0 ⌝ }
 {
-    if i < n as usize { gathered[i] } else { 0 }
+    if keep { b } else { 0 }
 }
 
 // Zeros behind the first n bytes.
 fn raw_gathered(gathered: [u8; 46], n: u8) -> [u8; 46]
     ensures { λ r. ⌜ r ≡ zeroed n gathered ⌝ }
 {
+    if n == 0 {
+        return [0u8; 46];
+    }
     let mut t = [0u8; 46];
     let mut i = 0;
     while i < 46 {
-        t[i] = byte_or_zero(gathered, n, i);
+        t[i] = kept(gathered[i], i < n as usize);
         i += 1;
     }
     t
