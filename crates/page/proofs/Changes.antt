@@ -5,23 +5,29 @@
 --     length-right, right-kept, right-new
 --     at-front, at-part, at-back               what stands before, in and behind a part that was changed
 --     filled-up                                a shift ends by a fill of the cells that come in
+--     put-start, put-turn, put-done            the loop that puts one number into cells
 --     left-turn, left-filled                   the loop of a shift to the left: a turn, and the fill after it
 --     right-turn, right-filled                 to the right
+--     left-one, right-one                      after the loop of a shift by one cell
+--     none-shifted, none-within                where nothing moves
+--     whole-rows                               the cells of whole rows
 --     column-step                              one row of a column
 -- Assumes nothing.
 use mathlib.Core.Path.{_≡_, refl, sym, ap, _∙_}
 use mathlib.Core.List.{List, [], _∷_, _++_}
-use mathlib.Core.Bool.{Bool, false}
+use mathlib.Core.Bool.{Bool, true, false}
 use mathlib.Core.Logic.{_⊎_, inl, inr, ⊎-elim}
 use Prim.Native.Nat.{ℕ, zero, suc, _+_, _-_, _*_, _≤_, _<_}
-use native.Mathlib.Nat.{le-of-suc-le-suc, not-suc-le-zero}
+use native.Mathlib.Nat.{le-of-suc-le-suc, not-suc-le-zero, eq-or-lt-of-le, suc-mul}
 use native.Mathlib.Numerals.{add-one}
 use native.Mathlib.Omega.{arith}
 use lib.ListN.{length, getD, set, take, drop, replicate, length-append, length-drop, length-map, length-replicate, getD-replicate, List·getD-append}
 use lib.Seq.{length-take-le, getD-drop, getD-take, getD-append-add, drop-cons, set-split, ext-getD}
 use borrow.Rule.Slice.PartMut.{putMid, mid-len, same-len-mid}
-use Rattle.page.proofs.Loop.{Joined, step-up, step-down}
-use Rattle.rules.specs.Change.{within, fillCell, filled, shiftLeft, shiftRight, columnFilled}
+use Rattle.page.proofs.Loop.{Joined, step-up, step-down, joined-all, joined-none}
+use Rattle.rules.specs.Row.{Width}
+use Rattle.rules.specs.Change.{within, fillCell, filled, shiftLeft, shiftRight, shifted, columnFilled}
+use Rattle.rules.proofs.Rows.{rows-le}
 
 -- a part was lent, `&mut page[a..e]`, and came back as q, which f makes of it
 pub lent : (a e : ℕ) (f : List ℕ → List ℕ) (p : List ℕ) {q : List ℕ} → q ≡ f (take (e - a) (drop a p)) → putMid a (e - a) p q ≡ within a e f p
@@ -161,6 +167,36 @@ module _ (a e v : ℕ) (p x : List ℕ) (h : a ≤ e) (k : e ≤ length p) where
       (lt-or-le i e))
       (lt-or-le i a))
 
+-- ---- k cells from a on become v
+
+module _ (a k v : ℕ) (p : List ℕ) (fits : a + k ≤ length p) where
+  size-filled : length (filled false v (take (a + k - a) (drop a p))) ≡ length (take (a + k - a) (drop a p))
+  size-filled = length-filled false v (take (a + k - a) (drop a p))
+
+  pub put-start : Joined a (within a (a + k) (filled false v) p) p p
+  put-start = record {
+    even = length-within a (a + k) (filled false v) p (omega arith) fits size-filled;
+    long = refl;
+    below = λ j h. sym (at-front a (a + k) (filled false v) p (omega arith) fits size-filled j h);
+    above = λ j h. refl;
+  }
+
+  module _ {i : ℕ} {l : List ℕ} (j : Joined (a + i) (within a (a + k) (filled false v) p) p l) where
+    pub put-turn : i < k → Joined (a + (i + 1)) (within a (a + k) (filled false v) p) p (set l (a + i) v)
+    put-turn h =
+        let e : a + i + 1 ≡ a + (i + 1) = omega arith in
+        rw (← e) (step-up j (omega arith)
+        (sym (at-part a (a + k) (filled false v) p (omega arith) fits size-filled i (omega arith)
+        ∙ filled-at false v (take (a + k - a) (drop a p)) i (omega (arith, mid-len a (a + k) p fits)))))
+
+    pub put-done : k ≤ i → i ≤ k → l ≡ within a (a + k) (filled false v) p
+    put-done h n =
+        ext-getD 0 l (within a (a + k) (filled false v) p) (j .long ∙ sym (j .even))
+        (λ m b. ⊎-elim
+        (λ c. j .below m (omega arith))
+        (λ c. j .above m (omega arith) ∙ sym (at-back a (a + k) (filled false v) p (omega arith) fits size-filled m c))
+        (lt-or-le m (a + k)))
+
 -- ---- the loops of the shifts
 
 module _ (k v : ℕ) (p : List ℕ) {l : List ℕ} {i : ℕ} where
@@ -168,11 +204,12 @@ module _ (k v : ℕ) (p : List ℕ) {l : List ℕ} {i : ℕ} where
       → Joined (i + 1) (shiftLeft k v p) p (set l i (getD l (i + k) 0))
   left-turn h j = step-up j (omega arith) (j .above (i + k) (omega arith) ∙ sym (left-kept k v p i (omega arith)))
 
-  pub left-filled : {f : ℕ} → f ≡ length p - k → f ≤ i → i ≤ f → Joined i (shiftLeft k v p) p l
-      → within f (length p) (filled false v) l ≡ shiftLeft k v p
-  left-filled {f} e h n j =
-      filled-up f (length p) v l (shiftLeft k v p) (omega arith) (omega (arith, j .long)) (j .long ∙ sym (j .even))
-      (λ m b. j .below m (omega arith)) (λ m b d. left-new k v p m d (omega arith)) (λ m b d. absurd (omega (arith, j .long)))
+  pub left-filled : {f : ℕ} → k ≤ length p → f ≡ length p - k → f ≤ i → i ≤ f → Joined i (shiftLeft k v p) p l
+      → within f (f + k) (filled false v) l ≡ shiftLeft k v p
+  left-filled {f} fits e h n j =
+      filled-up f (f + k) v l (shiftLeft k v p) (omega arith) (omega (arith, j .long)) (j .long ∙ sym (j .even))
+      (λ m b. j .below m (omega arith)) (λ m b d. left-new k v p m (omega arith) (omega arith))
+      (λ m b d. absurd (omega (arith, j .long)))
 
   pub right-turn : 0 < i → i ≤ length p - k → Joined (i + k) p (shiftRight k v p) l
       → Joined (i - 1 + k) p (shiftRight k v p) (set l (i - 1 + k) (getD l (i - 1) 0))
@@ -181,12 +218,53 @@ module _ (k v : ℕ) (p : List ℕ) {l : List ℕ} {i : ℕ} where
       rw (← e) (step-down j (omega arith) (omega (arith, length-right k v p))
       (j .below (i - 1) (omega arith) ∙ rw e (sym (right-kept k v p (i - 1) (omega arith)))))
 
-  pub right-filled : {f : ℕ} → f ≡ length p - k → i ≤ 0 → Joined (i + k) p (shiftRight k v p) l
-      → within 0 (length p - f) (filled false v) l ≡ shiftRight k v p
-  right-filled {f} e n j =
-      filled-up 0 (length p - f) v l (shiftRight k v p) (omega arith) (omega (arith, j .long, length-right k v p)) (j .long)
+  pub right-filled : k ≤ length p → i ≤ 0 → Joined (i + k) p (shiftRight k v p) l
+      → within 0 (0 + k) (filled false v) l ≡ shiftRight k v p
+  right-filled fits n j =
+      filled-up 0 (0 + k) v l (shiftRight k v p) (omega arith) (omega (arith, j .long, length-right k v p)) (j .long)
       (λ m b. absurd (omega arith)) (λ m b d. right-new k v p m (omega arith) (omega arith))
-      (λ m b d. j .above m (omega (arith, j .long, length-right k v p)))
+      (λ m b d. j .above m (omega arith))
+
+-- ---- by one cell: what comes in
+
+module _ (v : ℕ) (p : List ℕ) {l : List ℕ} {i : ℕ} (some : 0 < length p) where
+  pub left-one : {f : ℕ} → f ≡ length p - 1 → f ≤ i → i ≤ f → Joined i (shiftLeft 1 v p) p l → set l f v ≡ shiftLeft 1 v p
+  left-one {f} e h n j =
+      let m : i ≡ f = omega arith in
+      joined-all (step-up (rw m at j) (omega arith) (sym (left-new 1 v p f (omega arith) (omega arith)))) (omega arith)
+
+  pub right-one : i ≤ 0 → Joined (i + 1) p (shiftRight 1 v p) l → set l 0 v ≡ shiftRight 1 v p
+  right-one n j =
+      let m : i + 1 ≡ 1 = omega arith in
+      joined-none (step-down (rw m at j) (omega arith) (omega (arith, length-right 1 v p)) (sym (right-new 1 v p 0 some (omega arith)))) (omega arith)
+
+-- ---- where nothing moves
+
+pub length-shifted : (right : Bool) (k v : ℕ) (p : List ℕ) → length (shifted right k v p) ≡ length p
+length-shifted true k v p = length-right k v p
+length-shifted false k v p = length-left k v p
+
+pub none-shifted : (right : Bool) (k v : ℕ) (p : List ℕ) → (length p ≡ 0) ⊎ (k ≤ length p) → length p < k → p ≡ shifted right k v p
+none-shifted right k v p h n =
+    ext-getD 0 p (shifted right k v p) (sym (length-shifted right k v p))
+    (λ i b. absurd (⊎-elim (λ e. omega arith) (λ e. omega arith) h))
+
+pub none-within : (a e : ℕ) (right : Bool) (k v : ℕ) (p : List ℕ) → e ≤ length p → a ≡ e → p ≡ within a e (shifted right k v) p
+none-within a e right k v p h n =
+    let f = shifted right k v in
+    let s = length-shifted right k v (take (e - a) (drop a p)) in
+    sym (ext-getD 0 (within a e f p) p (length-within a e f p (omega arith) h s)
+    (λ i b. ⊎-elim (λ c. at-front a e f p (omega arith) h s i c) (λ c. at-back a e f p (omega arith) h s i (omega arith)) (lt-or-le i a)))
+
+-- whole rows are none, or one at least
+pub whole-rows : {w : ℕ} → Width w → (top bottom : ℕ) (p : List ℕ) → top ≤ bottom → bottom * w ≤ length p
+    → let q = take (bottom * w - top * w) (drop (top * w) p) in (length q ≡ 0) ⊎ (w ≤ length q)
+whole-rows {w} k top bottom p h n =
+    let m = mid-len (top * w) (bottom * w) p n in
+    ⊎-elim
+    (λ e. inl (m ∙ rw e (omega arith)))
+    (λ e. inr (omega (arith, m, suc-mul top w, rows-le k {a = suc top} {b = bottom} e)))
+    (eq-or-lt-of-le h)
 
 -- ---- one row of a column
 

@@ -1,5 +1,7 @@
-// Changes of cells: fills, the one shift, and the row shift that rests on it.
+// Changes of cells: fills, the shift by one cell, and the shift by rows.
 ghost use mathlib.Core.Path.{_≡_};
+ghost use mathlib.Core.Bool.{false};
+ghost use mathlib.Core.Logic.{_⊎_};
 ghost use Prim.Native.Nat.{_+_, _-_, _*_, _<_, _≤_};
 ghost use lib.ListN.{length};
 ghost use Rattle.rules.specs.Row.{Width};
@@ -62,47 +64,92 @@ pub fn fill_column(
     }
 }
 
-// How many of n cells are left when `count` have gone.
-fn kept(n: usize, count: usize) -> usize
-    ensures { λ r. ⌜ r ≡ n - count ⌝ }
+// `count` cells from `from` on become `value`. Where the count is known when the program is built, this is a few stores.
+fn put_cells(part: &mut [u16], from: usize, count: usize, value: u16)
+    requires { ⌜ from + count ≤ length (now part) ⌝ }
+    ensures { λ r. ⌜ now (part .exit) ≡ within from (from + count) (filled false value) (now (part .entry)) ⌝ }
 {
-    if count < n { n - count } else { 0 }
+    let mut i = 0;
+    while i < count {
+        part[from + i] = value;
+        i += 1;
+    }
 }
 
 fn shift_left(part: &mut [u16], count: usize, value: u16)
+    requires { ⌜ count ≤ length (now part) ⌝ }
     ensures { λ r. ⌜ now (part .exit) ≡ shiftLeft count value (now (part .entry)) ⌝ }
 {
-    let n = part.len();
-    let end = kept(n, count);
+    let end = part.len() - count;
     let mut i = 0;
     while i < end {
         part[i] = part[i + count];
         i += 1;
     }
-    fill_cells(part, false, end, n, value);
+    put_cells(part, end, count, value);
 }
 
 fn shift_right(part: &mut [u16], count: usize, value: u16)
+    requires { ⌜ count ≤ length (now part) ⌝ }
     ensures { λ r. ⌜ now (part .exit) ≡ shiftRight count value (now (part .entry)) ⌝ }
 {
-    let n = part.len();
-    let rest = kept(n, count);
-    let mut i = rest;
+    let mut i = part.len() - count;
     while 0 < i {
         i -= 1;
         part[i + count] = part[i];
     }
-    fill_cells(part, false, 0, n - rest, value);
+    put_cells(part, 0, count, value);
 }
 
-// The one shift, by `count` cells: 1 for an insert or a delete, the width for rows.
-fn shift(part: &mut [u16], right: bool, count: usize, value: u16)
-    ensures { λ r. ⌜ now (part .exit) ≡ shifted right count value (now (part .entry)) ⌝ }
+// The shift of rows, `count` being their width: the part is empty, or has as many cells.
+fn shift(part: &mut [u16], down: bool, count: usize, value: u16)
+    requires { ⌜ (length (now part) ≡ 0) ⊎ (count ≤ length (now part)) ⌝ }
+    ensures { λ r. ⌜ now (part .exit) ≡ shifted down count value (now (part .entry)) ⌝ }
 {
-    if right {
+    if part.len() < count {
+        return;
+    }
+    if down {
         shift_right(part, count, value);
     } else {
         shift_left(part, count, value);
+    }
+}
+
+// The shifts by one cell, of a part that has one. As functions of their own they become block moves.
+fn insert_cell(part: &mut [u16], value: u16)
+    requires { ⌜ 0 < length (now part) ⌝ }
+    ensures { λ r. ⌜ now (part .exit) ≡ shiftRight 1 value (now (part .entry)) ⌝ }
+{
+    let mut at = part.len() - 1;
+    while 0 < at {
+        at -= 1;
+        part[at + 1] = part[at];
+    }
+    part[0] = value;
+}
+
+fn delete_cell(part: &mut [u16], value: u16)
+    requires { ⌜ 0 < length (now part) ⌝ }
+    ensures { λ r. ⌜ now (part .exit) ≡ shiftLeft 1 value (now (part .entry)) ⌝ }
+{
+    let last = part.len() - 1;
+    let mut i = 0;
+    while i < last {
+        part[i] = part[i + 1];
+        i += 1;
+    }
+    part[last] = value;
+}
+
+fn shift_cell(part: &mut [u16], right: bool, value: u16)
+    requires { ⌜ 0 < length (now part) ⌝ }
+    ensures { λ r. ⌜ now (part .exit) ≡ shifted right 1 value (now (part .entry)) ⌝ }
+{
+    if right {
+        insert_cell(part, value);
+    } else {
+        delete_cell(part, value);
     }
 }
 
@@ -111,7 +158,10 @@ fn shift_cells(page: &mut [u16], right: bool, from: usize, to: usize, value: u16
     requires { ⌜ (from ≤ to) × (to ≤ length (now page)) ⌝ }
     ensures { λ r. ⌜ now (page .exit) ≡ within from to (shifted right 1 value) (now (page .entry)) ⌝ }
 {
-    shift(&mut page[from..to], right, 1, value);
+    if from == to {
+        return;
+    }
+    shift_cell(&mut page[from..to], right, value);
 }
 
 // The edit run at a cell moves by one cell: right for an insert, left for a delete; `value` comes in.
@@ -132,7 +182,7 @@ pub fn shift_edit_run(
 
 // The cells of whole rows move by one row. Each distance is a number that is known when the program is built: these become block moves.
 fn shift_by_row(part: &mut [u16], width: usize, down: bool)
-    requires { ⌜ Width width ⌝ }
+    requires { ⌜ Width width × ((length (now part) ≡ 0) ⊎ (width ≤ length (now part))) ⌝ }
     ensures { λ r. ⌜ now (part .exit) ≡ shifted down width space (now (part .entry)) ⌝ }
 {
     if width == 132 {

@@ -14,9 +14,11 @@ shift-by-row-spec =
     tie.close
     (tie.spec
     -- shift-requires
-    (λ c κs. search needs)
+    (λ c κs. rw (c .before .if1 .taken) at (c .before .before .before .pre .1))
     -- shift-requires-2
-    (λ c κs. search needs)
+    (λ c κs.
+    let k = c .before .before .before .pre in
+    ⊎-elim (λ e. rw e at (k .1)) (λ e. absurd (c .before .if1 .left e)) (k .0))
     -- same-length
     (λ c. search needs)
     -- returns
@@ -31,4 +33,4 @@ shift-by-row-spec =
     ⊎-elim
     (λ e. c .before .before .shift2 .ensures ∙ sym (ap (λ (k : ℕ). shifted (x .down) k space (now (x .part))) e))
     (λ e. absurd (c .before .before .before .before .if1 .left e))
-    (c .before .before .before .before .before .before .pre)))
+    (c .before .before .before .before .before .before .pre .0)))

@@ -13,11 +13,11 @@ use Rattle.page.proofs.change.shift_left.Statement.{statement}
 use Rattle.page.proofs.change.shift_left.Tie as tie
 
 abbrev Inv-loop : tie.InvT-loop
-Inv-loop part₀ count value n end i₀ part i =
-    (n ≡ length part₀) × ((end ≡ length part₀ - count) × ((i ≤ end) × Joined i (shiftLeft count value part₀) part₀ part))
+Inv-loop part₀ count value end i₀ part i =
+    (end ≡ length part₀ - count) × ((i ≤ end) × Joined i (shiftLeft count value part₀) part₀ part)
 
 abbrev μ-loop : tie.MeasureT-loop
-μ-loop part₀ count value n end i₀ part i = end - i
+μ-loop part₀ count value end i₀ part i = end - i
 
 pub shift-left-spec : {M : Type 1} → statement M
 shift-left-spec =
@@ -25,12 +25,12 @@ shift-left-spec =
     (tie.spec
     Inv-loop
     μ-loop
-    -- kept-requires
-    (λ c κs. search needs)
+    -- sub-end
+    (λ c. search needs)
     -- loop-holds
     (λ c.
-    let x = c .before .before .args in
-    (refl, (c .kept .ensures, (omega arith, joined-start (length-left (x .count) (x .value) (now (x .part)))))))
+    let x = c .before .args in
+    (refl, (omega arith, joined-start (length-left (x .count) (x .value) (now (x .part))))))
     -- add-part
     (λ c. search needs)
     -- mul-part
@@ -47,18 +47,17 @@ shift-left-spec =
     (λ c. search needs)
     -- loop-again
     (λ c.
-    let x = c .before .before .before .before .before .args in
+    let x = c .before .before .before .before .args in
     let l = c .before .before .loop in
-    let e = c .before .before .before .kept .ensures in
     let more = c .before .loop-test .taken in
-    (refl, (e, (rw add-one more, left-turn (x .count) (x .value) (now (x .part)) (rw e at more) (l .inv .1 .1 .1)))))
-    -- fill-cells-requires
-    (λ c κs. (omega arith, omega arith))
+    (refl, (rw add-one more, left-turn (x .count) (x .value) (now (x .part)) more (l .inv .1 .1))))
+    -- put-cells-requires
+    (λ c κs. let l = c .before .before .loop in omega (arith, l .inv .1 .1 .long, c .before .before .before .before .pre))
     -- same-length
     (λ c. search needs)
     -- returns
     (λ c.
-    let x = c .before .before .before .before .before .before .before .before .args in
+    let x = c .before .before .before .before .before .before .before .args in
     let l = c .before .before .before .before .before .loop in
-    c .before .before .fill-cells .ensures ∙ left-filled (x .count) (x .value) (now (x .part)) (l .inv .1 .0)
-    (c .before .before .before .before .loop-test .left) (l .inv .1 .1 .0) (l .inv .1 .1 .1)))
+    c .before .before .put-cells .ensures ∙ left-filled (x .count) (x .value) (now (x .part))
+    (c .before .before .before .before .before .before .before .pre) refl (c .before .before .before .before .loop-test .left) (l .inv .1 .0) (l .inv .1 .1)))

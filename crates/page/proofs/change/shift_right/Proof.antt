@@ -1,5 +1,5 @@
 -- `page::change::shift_right` meets its contract. The loop: from i + count on the cells are shifted, below they are as they were.
-use mathlib.Core.Path.{_≡_, refl, sym, _∙_}
+use mathlib.Core.Path.{_≡_, sym, _∙_}
 use Prim.Native.Nat.{_+_, _-_, _≤_}
 use native.Mathlib.Omega.{arith}
 use borrow.Author.Needs.{needs}
@@ -12,11 +12,11 @@ use Rattle.page.proofs.change.shift_right.Statement.{statement}
 use Rattle.page.proofs.change.shift_right.Tie as tie
 
 abbrev Inv-loop : tie.InvT-loop
-Inv-loop part₀ count value n rest i₀ part i =
-    (n ≡ length part₀) × ((rest ≡ length part₀ - count) × ((i ≤ rest) × Joined (i + count) part₀ (shiftRight count value part₀) part))
+Inv-loop part₀ count value i₀ part i =
+    (i ≤ length part₀ - count) × Joined (i + count) part₀ (shiftRight count value part₀) part
 
 abbrev μ-loop : tie.MeasureT-loop
-μ-loop part₀ count value n rest i₀ part i = i
+μ-loop part₀ count value i₀ part i = i
 
 pub shift-right-spec : {M : Type 1} → statement M
 shift-right-spec =
@@ -24,20 +24,19 @@ shift-right-spec =
     (tie.spec
     Inv-loop
     μ-loop
-    -- kept-requires
-    (λ c κs. search needs)
-    -- loop-holds
-    (λ c.
-    let x = c .before .before .args in
-    let e = c .kept .ensures in
-    (refl, (e, (omega arith, joined-end (sym (length-right (x .count) (x .value) (now (x .part)))) (omega arith)))))
     -- sub-i
     (λ c. search needs)
-    -- add-part
+    -- loop-holds
+    (λ c.
+    let x = c .before .args in
+    (omega arith, joined-end (sym (length-right (x .count) (x .value) (now (x .part)))) (omega arith)))
+    -- sub-i-2
     (λ c. search needs)
     -- mul-part
     (λ c. search needs)
     -- slice-read-part
+    (λ c. search needs)
+    -- add-part
     (λ c. search needs)
     -- mul-part-2
     (λ c. search needs)
@@ -47,21 +46,17 @@ shift-right-spec =
     (λ c. search needs)
     -- loop-again
     (λ c.
-    let x = c .before .before .before .before .before .args in
+    let x = c .before .before .before .before .args in
     let l = c .before .before .loop in
-    let e = c .before .before .before .kept .ensures in
     let more = c .before .loop-test .taken in
-    let top = l .inv .1 .1 .0 in
-    (refl, (e, (omega arith, right-turn (x .count) (x .value) (now (x .part)) (omega (arith, more)) (rw e at top) (l .inv .1 .1 .1)))))
-    -- sub-fill-cells
-    (λ c. search needs)
-    -- fill-cells-requires
-    (λ c κs. (omega arith, omega arith))
+    (omega arith, right-turn (x .count) (x .value) (now (x .part)) (omega (arith, more)) (l .inv .0) (l .inv .1)))
+    -- put-cells-requires
+    (λ c κs. let x = c .before .before .before .before .args in let l = c .before .before .loop in omega (arith, l .inv .1 .long, length-right (x .count) (x .value) (now (x .part)), c .before .before .before .before .pre))
     -- same-length
     (λ c. search needs)
     -- returns
     (λ c.
-    let x = c .before .before .before .before .before .before .before .before .args in
+    let x = c .before .before .before .before .before .before .before .args in
     let l = c .before .before .before .before .before .loop in
-    c .before .before .fill-cells .ensures ∙ right-filled (x .count) (x .value) (now (x .part)) (l .inv .1 .0)
-    (c .before .before .before .before .loop-test .left) (l .inv .1 .1 .1)))
+    c .before .before .put-cells .ensures ∙ right-filled (x .count) (x .value) (now (x .part))
+    (c .before .before .before .before .before .before .before .pre) (c .before .before .before .before .loop-test .left) (l .inv .1)))

@@ -5,7 +5,7 @@ use denote.Ref.{now}
 use Rattle.rules.specs.Cell.{space}
 use Rattle.rules.specs.Change.{shifted, rowsShifted}
 use Rattle.rules.proofs.Rows.{rows-le, rows-small}
-use Rattle.page.proofs.Changes.{lent}
+use Rattle.page.proofs.Changes.{lent, whole-rows}
 use Rattle.page.proofs.change.shift_rows.Statement.{statement}
 use Rattle.page.proofs.change.shift_rows.Tie as tie
 
@@ -27,7 +27,10 @@ shift-rows-spec =
     -- part-shift-by-row-end
     (λ c. let k = c .before .pre in omega (arith, rows-le (k .0) (k .1 .1 .0)))
     -- shift-by-row-requires
-    (λ c κs. search needs)
+    (λ c κs.
+    let x = c .before .before .args in
+    let k = c .before .before .pre in
+    (k .0, whole-rows (k .0) (x .top) (x .bottom) (now (x .page)) (k .1 .0) (omega (arith, rows-le (k .0) (k .1 .1 .0)))))
     -- same-length
     (λ c. search needs)
     -- returns
