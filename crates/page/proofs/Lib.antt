@@ -6,3 +6,4 @@ pub mod Room
 pub mod Sends
 pub mod RowList
 pub mod RowSearch
+mod OpenSearch

@@ -1,7 +1,7 @@
 // Searches: one loop up and one down over the marks of the cells, and the same over the tab stops.
 ghost use mathlib.Core.Path.{_≡_};
-ghost use mathlib.Core.Bool.{false};
-ghost use Prim.Native.Nat.{_-_, _*_, _/_, _<_, _≤_};
+ghost use mathlib.Core.Bool.{true, false};
+ghost use Prim.Native.Nat.{ℕ, _+_, _-_, _*_, _/_, _<_, _≤_};
 ghost use lib.Dec.{eqb};
 ghost use lib.ListN.{length, getD};
 ghost use Rattle.rules.specs.Cell.{either};
@@ -130,12 +130,51 @@ fn marked_back(
     last_marked(page, protect, mark, first, end, first)
 }
 
+fn both(a: bool, b: bool) -> bool
+    ensures { λ r. ⌜ (r ≡ true → (a ≡ true) × (b ≡ true)) ⌝ }
+{
+    if a { b } else { false }
+}
+
+// Whether the eight cells from `at` on are guarded: looked at together.
+fn are_guarded(page: &[u16], protect: bool, at: usize) -> bool
+    requires { ⌜ at + 8 ≤ length (now page) ⌝ }
+    ensures { λ r. ⌜ (r ≡ true → (j : ℕ) → j < 8 → getD (guardedAt protect (now (page .entry))) (at + j) false ≡ true) ⌝ }
+{
+    let mut all = true;
+    let mut i = 0;
+    while i < 8 {
+        all = both(all, is_guarded_at(page, protect, at + i));
+        i += 1;
+    }
+    all
+}
+
+// A cell near the first open one from `from` up to `end`: guarded cells are passed by eights.
+fn near_open(page: &[u16], protect: bool, from: usize, end: usize) -> usize
+    requires { ⌜ (from ≤ end) × (end ≤ length (now page)) ⌝ }
+    ensures { λ r. ⌜ (r ≤ end) × (firstIn (marksOf Mark.Open (guardedAt protect (now (page .entry)))) from end ≡ firstIn (marksOf Mark.Open (guardedAt protect (now (page .entry)))) r end) ⌝ }
+{
+    let mut at = from;
+    while at + 8 <= end {
+        if !are_guarded(page, protect, at) {
+            return at;
+        }
+        at += 8;
+    }
+    at
+}
+
 // Settle from a cell of the segment `first` up to `end`.
 pub fn settle(page: &[u16], protect: bool, first: usize, end: usize, from: usize) -> usize
     requires { ⌜ (first ≤ end) × ((from ≤ end) × (end ≤ length (now page))) ⌝ }
     ensures { λ r. ⌜ r ≡ settled (guardedAt protect (now (page .entry))) first end from ⌝ }
 {
-    marked_around(page, protect, Mark::Open, first, end, from)
+    if protect {
+        let near = near_open(page, protect, from, end);
+        return marked_around(page, protect, Mark::Open, first, end, near);
+    }
+    if from < end { from } else { first }
 }
 
 // 08h: the previous open cell of the segment, or `at`.
