@@ -3,6 +3,7 @@ pub mod Carrying
 pub mod Loop
 pub mod TextSteps
 pub mod TextRuns
+pub mod Sequences
 pub mod Calls
 pub mod Converting
 pub mod Noninterference

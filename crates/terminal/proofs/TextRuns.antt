@@ -1,7 +1,7 @@
 -- Runs of text are the repeated step.
 --     segment     the rows of the active segment
 --     typed-then, typed-range, text-range     a run after a run; where a run ends
---     resumed     the loop over host bytes goes on after a run as before it
+--     waited, resumed     the loop over host bytes goes on after an awaited byte, and after a run, as before it
 -- Assumes nothing.
 use mathlib.Core.Path.{_≡_, refl, sym, ap, ap₂, _∙_}
 use mathlib.Core.Bool.{Bool, true, false}
@@ -116,7 +116,7 @@ same-room : (n : ℕ) (w : List ℕ) → backTail n w (lentTail n w) ≡ w
 same-room n w = tail-back n w (lentTail n w) ∙ ap (λ (l : List ℕ). take n w ++ l) (tail-lent n w) ∙ take-append-drop n w
 
 module _ {stop : Bool} {p₀ : List ℕ} {s₀ : State} {input w₀ : List ℕ} {g : List ℕ} {u : Setup} {n f : ℕ} {w : List ℕ} where
-  turn : {p : List ℕ} {c : Core} {i : ℕ} (j : ℕ) → Running stop p₀ s₀ input w₀ p w c g u i n f → j ≡ i + 1 → j < length input
+  turn : {p : List ℕ} {c : Core} {i : ℕ} (j : ℕ) → Running stop p₀ s₀ input w₀ p w c g u i n f → j ≡ i + 1 → j ≤ length input
       → {p′ : List ℕ} {c′ : Core} → ((room : ℕ) → innerRule p c (u .tabs) (getD input i 0) room ≡ effect 0 c′ unchanged p′ [])
       → Running stop p₀ s₀ input w₀ p′ w c′ g u j n f
   turn {p} {c} {i} j R e h {p′} {c′} E =
@@ -127,7 +127,7 @@ module _ {stop : Bool} {p₀ : List ℕ} {s₀ : State} {input w₀ : List ℕ} 
       rw (same-room n w, add-zero n, add-zero f, sym e) at G
 
   -- a byte that is awaited, and leaves q under way
-  waited : {p : List ℕ} {c : Core} {i : ℕ} (j : ℕ) (q : Pending) → Running stop p₀ s₀ input w₀ p w c g u i n f → j ≡ i + 1 → j < length input
+  pub waited : {p : List ℕ} {c : Core} {i : ℕ} (j : ℕ) (q : Pending) → Running stop p₀ s₀ input w₀ p w c g u i n f → j ≡ i + 1 → j ≤ length input
       → getD input i 0 < 128 → decodeRule (c .pending) (getD input i 0) ≡ Decoded.Wait q
       → Running stop p₀ s₀ input w₀ p w (awaiting c q) g u j n f
   waited {p} {c} {i} j q R e h low d =
@@ -248,7 +248,7 @@ module _ {stop : Bool} {p₀ : List ℕ} {s₀ : State} {input w₀ : List ℕ} 
         record {
           core = textCore c (at + 1);
           arrived = there {i = i + 1} (omega (arith, later (G .arrived)));
-          running = turn (i + 1) (G .running) refl h (λ room.
+          running = turn (i + 1) (G .running) refl (omega (arith, h)) (λ room.
               stores q d (k .0) (k .1 .0) (u .tabs) room b (L .idle) (ap (λ (m : Modes). m .insert) (L .modes) ∙ over) (like-stored L s)
               ∙ ap₂ (λ (x : Core) (y : List ℕ). effect 0 x unchanged y [])
               (ap (λ (j : ℕ). textCore d (j + 1)) (L .cursor) ∙ L .next (at + 1))
@@ -272,7 +272,7 @@ module _ {stop : Bool} {p₀ : List ℕ} {s₀ : State} {input w₀ : List ℕ} 
         record {
           core = textCore c k;
           arrived = there {i = i + 4} (omega (arith, later (G .arrived)));
-          running = turn (i + 4) R3 (omega arith) h (λ room.
+          running = turn (i + 4) R3 (omega arith) (omega (arith, h)) (λ room.
               places q (awaiting d (Pending.AddressRow r)) (g .0) (g .1 .0) (u .tabs) room r (getD input (i + 3) 0) k
               refl (s .row) (s .column) (s .most) (rw (L .home, L .wide) (s .place)) (omega (arith, s .inside, L .end))
               (like-guard L q refl (s .unguarded))
@@ -286,7 +286,7 @@ module _ {stop : Bool} {p₀ : List ℕ} {s₀ : State} {input w₀ : List ℕ} 
         record {
           core = textCore c k;
           arrived = there {i = i + 1} (omega (arith, later (G .arrived)));
-          running = turn (i + 1) (G .running) refl h (λ room.
+          running = turn (i + 1) (G .running) refl (omega (arith, h)) (λ room.
               goes q d (t .0) (t .1 .0) (u .tabs) room (getD input i 0) k (L .idle) (goes-is (L .wide) (L .home) (L .cursor) s)
               (omega (arith, z, L .end)) (like-guard L q refl o)
               ∙ ap (λ (y : Core). effect 0 y unchanged q []) (L .next k));
@@ -302,7 +302,7 @@ module _ {stop : Bool} {p₀ : List ℕ} {s₀ : State} {input w₀ : List ℕ} 
         record {
           core = textCore c at;
           arrived = there {i = i + 1} (omega (arith, later (G .arrived)));
-          running = turn (i + 1) (G .running) refl h (λ room.
+          running = turn (i + 1) (G .running) refl (omega (arith, h)) (λ room.
               rolls-on q d (t .0) (t .1 .0) (u .tabs) room (getD input i 0) (L .idle)
               (rolled-is (ap scrolls (L .modes)) (L .wide) (L .end) (L .cursor) r)
               ∙ ap₂ (λ (y : Core) (l : List ℕ). effect 0 y unchanged l [])
@@ -319,11 +319,11 @@ module _ {stop : Bool} {p₀ : List ℕ} {s₀ : State} {input w₀ : List ℕ} 
   typed-run (gone t h s z o) = went-gone (typed-run t) h s z o
   typed-run (rolled top bottom t h r a z e) = went-rolled (typed-run t) top bottom h r a z e
 
--- the loop after a run from the byte i₀ on: it goes on at the byte i, which is left
+-- the loop after a run from the byte i₀ on: it goes on at the byte i
 pub record Resumed (stop : Bool) (p₀ : List ℕ) (s₀ : State) (input w₀ p w : List ℕ) (c : Core) (g : List ℕ) (u : Setup) (i n f i₀ : ℕ) : Type 0 where
   pub running : Running stop p₀ s₀ input w₀ p w c g u i n f
   pub from : i₀ ≤ i
-  pub left : i < length input
+  pub left : i ≤ length input
 
 module _ {stop : Bool} {p₀ : List ℕ} {s₀ : State} {input w₀ : List ℕ} {g : List ℕ} {u : Setup} {n f : ℕ} {w p : List ℕ} {c : Core} {i₀ : ℕ}
     (R : Running stop p₀ s₀ input w₀ p w c g u i₀ n f) where
@@ -351,4 +351,4 @@ module _ {stop : Bool} {p₀ : List ℕ} {s₀ : State} {input w₀ : List ℕ} 
       → Resumed stop p₀ s₀ input w₀ p′ w d g u i n f i₀
   resumed h t e =
       let r = text-range h t in
-      record { running = rw e (arriving t); from = r .from; left = r .within }
+      record { running = rw e (arriving t); from = r .from; left = omega (arith, r .within) }

@@ -17,6 +17,7 @@ ghost use Rattle.rules.specs.declared.Answer.the-variants as Answer;
 ghost use Rattle.terminal.specs.Loop.{keepsSetup, isNothing, stateOf, Looped};
 ghost use Rattle.terminal.specs.Rows.{closedNone, Behind};
 use crate::inner::inner;
+use crate::sequence::awaited;
 use crate::text::moved;
 use crate::text::text;
 use page::rows::rebuild;
@@ -26,6 +27,7 @@ use rules::Core;
 use rules::Sending;
 use rules::Setup;
 use rules::SetupChange;
+use state::core::awaiting;
 use state::logic::and;
 use state::logic::or;
 use state::sending::is_sending;
@@ -204,7 +206,28 @@ pub fn repeat(
             c.modes.mark,
             same,
         );
-        let t = inner(page, rows, &u.tabs, c, input[taken], &mut room[replied..]);
+        if input.len() <= taken {
+            continue;
+        }
+        let q = c.pending;
+        let s = awaited(q, input, taken);
+        let pending = s.pending;
+        let waiting = awaiting(c, pending);
+        c = waiting;
+        taken = s.taken;
+        if input.len() <= taken {
+            continue;
+        }
+        let d = s.decoded;
+        let t = inner(
+            page,
+            rows,
+            &u.tabs,
+            c,
+            input[taken],
+            d,
+            &mut room[replied..],
+        );
         let a = t.answer;
         if is_no_room(a) {
             return finished(

@@ -9,6 +9,7 @@ ghost use Rattle.rules.specs.State.{number, widthOf, pageLength, idle as idleOf
 ghost use Rattle.rules.specs.RowList.{Beside};
 ghost use Rattle.rules.specs.Search.{guardedAt};
 ghost use Rattle.rules.specs.Possible.{screenOk, pendingOk};
+ghost use Rattle.rules.specs.Decode.{decodeRule};
 ghost use Rattle.rules.specs.Plan.{planRule};
 ghost use Rattle.rules.specs.Carry.{effect, carried};
 ghost use Rattle.rules.specs.Step.{innerRule};
@@ -26,7 +27,6 @@ use rules::Pending;
 use rules::SetupChange;
 use state::core::awaiting;
 use state::core::idle;
-use state::decode::decode;
 
 // A byte that writes nothing and replies nothing.
 fn quiet(answer: Answer, core: Core, change: Change) -> CoreResult
@@ -57,22 +57,22 @@ fn obey(
     carry_out(page, rows, core, plan, room)
 }
 
+// A byte b that comes to d, if it is below 80h.
 pub fn inner(
     page: &mut [u16],
     rows: &mut [u16],
     tabs: &[bool; 132],
     core: Core,
     b: u8,
+    d: Decoded,
     room: &mut [u8],
 ) -> CoreResult
-    requires { ⌜ (length (now page) ≡ pageLength (core .screen)) × ((screenOk (core .screen) ≡ true) × (((g : List ℕ) × (pendingOk (core .pending) g ≡ true)) × ((core .attribute < 32) × Beside (widthOf (core .screen)) (guardedAt (core .modes .protect) (now page)) (now rows)))) ⌝ }
+    requires { ⌜ (length (now page) ≡ pageLength (core .screen)) × ((screenOk (core .screen) ≡ true) × (((g : List ℕ) × (pendingOk (core .pending) g ≡ true)) × ((core .attribute < 32) × (Beside (widthOf (core .screen)) (guardedAt (core .modes .protect) (now page)) (now rows) × (b < 128 → d ≡ decodeRule (core .pending) b))))) ⌝ }
     ensures { λ r. ⌜ Carried (innerRule (now (page .entry)) core (now (tabs .entry)) b (length (now (room .entry)))) r (now (page .exit)) (now (room .entry)) (now (room .exit)) × BesideAfter (widthOf (core .screen)) (innerRule (now (page .entry)) core (now (tabs .entry)) b (length (now (room .entry)))) (now (rows .exit)) ⌝ }
 {
     if 128 <= b {
         return quiet(Answer::HighByte, core, Change::Set(SetupChange::Nothing));
     }
-    let q = core.pending;
-    let d = decode(q, b);
     match d {
         Decoded::Wait(next) => {
             quiet(

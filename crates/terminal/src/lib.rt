@@ -4,6 +4,7 @@
 mod bytes; // the loop over host bytes
 mod inner; // one byte
 mod key; // what a key sends
+mod sequence; // awaited bytes
 mod text; // runs of text
 pub mod width; // the state at the other width
 

@@ -12,14 +12,15 @@ use borrow.Author.Needs.{needs}
 use Rattle.terminal.proofs.inner.inner.Statement.{statement}
 use Rattle.terminal.proofs.inner.inner.Tie as tie
 
-abbrev start : tie.After-decode → tie.Start
-start k = k .before .before .before .before .before
+-- from a byte below 80h back to the function's start
+abbrev start : tie.Else1 → tie.Start
+start k = k .before .before .before .before
 
 -- the effect of a byte below 80h, by what it decodes to
-came : (k : tie.After-decode) {d : Decoded} → k .decode .result ≡ d
+came : (k : tie.Else1) {d : Decoded} → start k .args .d ≡ d
     → let x = start k .args in let p = now (x .page) in let tabs = now (x .tabs) in let room = length (now (x .room)) in
     innerRule p (x .core) tabs (x .b) room ≡ obeyed p (x .core) tabs d room
-came k e = below _ _ _ _ _ (k .before .if1 .left) (k .decode .ensures) e
+came k e = below _ _ _ _ _ (k .if1 .left) (start k .pre .1 .1 .1 .1 .1 (k .if1 .left)) e
 
 pub inner-spec : {M : Type 1} → statement M
 unfolding obeyed
@@ -31,9 +32,7 @@ inner-spec =
     -- returns
     (λ c.
     let h = above _ _ _ _ _ (c .before .if1 .taken) in
-    (quietly h refl (c .quiet .ensures), effect-beside _ h (c .before .before .before .before .before .pre .1 .1 .1 .1)))
-    -- decode-requires
-    (λ c κs. c .before .before .before .before .pre .1 .1 .0)
+    (quietly h refl (c .quiet .ensures), effect-beside _ h (c .before .before .before .before .before .pre .1 .1 .1 .1 .0)))
     -- enum-known-d
     (λ c. search needs)
     -- awaiting-requires
@@ -42,11 +41,11 @@ inner-spec =
     (λ c κs. search needs)
     -- enum-known-d-2
     (λ c. search needs)
-    -- add-t28
+    -- add-t27
     (λ c.
     let k = c .before .before .before in
     let g = start k .pre .1 .1 .0 in
-    let h = gather-room _ (g .0) _ (k .before .if1 .left) (g .1) (k .decode .ensures) (c .before .d2 .given .1) in
+    let h = gather-room _ (g .0) _ (k .if1 .left) (g .1) (start k .pre .1 .1 .1 .1 .1 (k .if1 .left)) (c .before .d2 .given .1) in
     omega arith)
     -- awaiting-requires-2
     (λ c κs. search needs)
@@ -67,27 +66,27 @@ inner-spec =
     -- enum-known-d-5
     (λ c. search needs)
     -- obey-requires
-    (λ c κs. let p = start (c .before .before .before .before .before .before) .pre in (p .0, (p .1 .0, p .1 .1 .1)))
+    (λ c κs. let p = start (c .before .before .before .before .before .before) .pre in (p .0, (p .1 .0, (p .1 .1 .1 .0, p .1 .1 .1 .1 .0))))
     -- returns-2
     (λ c.
     let k = c .before .before .before .before .before in
     let h = came k (c .before .before .before .d .given .1) in
-    (quietly h (c .before .awaiting .ensures) (c .quiet2 .ensures), effect-beside _ h (start k .pre .1 .1 .1 .1)))
+    (quietly h (c .before .awaiting .ensures) (c .quiet2 .ensures), effect-beside _ h (start k .pre .1 .1 .1 .1 .0)))
     -- returns-3
     (λ c.
     let k = c .before .before .before .before .before in
     let h = came k (c .before .before .before .d2 .given .1) in
-    (quietly h (c .before .awaiting2 .ensures) (c .quiet3 .ensures), effect-beside _ h (start k .pre .1 .1 .1 .1)))
+    (quietly h (c .before .awaiting2 .ensures) (c .quiet3 .ensures), effect-beside _ h (start k .pre .1 .1 .1 .1 .0)))
     -- returns-4
     (λ c.
     let k = c .before .before .before .before .before in
     let h = came k (c .before .before .before .d3 .given .1) in
-    (quietly h (c .before .idle .ensures) (c .quiet4 .ensures), effect-beside _ h (start k .pre .1 .1 .1 .1)))
+    (quietly h (c .before .idle .ensures) (c .quiet4 .ensures), effect-beside _ h (start k .pre .1 .1 .1 .1 .0)))
     -- returns-5
     (λ c.
     let k = c .before .before .before .before .before in
     let h = came k (c .before .before .before .d4 .given .1) in
-    (quietly h (c .before .idle2 .ensures) (c .quiet5 .ensures), effect-beside _ h (start k .pre .1 .1 .1 .1)))
+    (quietly h (c .before .idle2 .ensures) (c .quiet5 .ensures), effect-beside _ h (start k .pre .1 .1 .1 .1 .0)))
     -- same-length
     (λ c. search needs)
     -- same-length-2
