@@ -12,7 +12,7 @@ ghost use Rattle.carry.specs.Rows.{BesideAfter};
 
 mod landing; // where the cursor goes
 pub mod replies; // what is sent of a reply
-mod writes; // what is written
+pub mod writes; // what is written
 
 use landing::land;
 use replies::send;

@@ -1,8 +1,10 @@
 // What a plan writes to the page, and the row list after it.
 ghost use mathlib.Core.Path.{_≡_};
+ghost use mathlib.Core.Bool.{true};
 ghost use Prim.Native.Nat.{_*_};
 ghost use lib.ListN.{length};
 ghost use Rattle.rules.specs.Row.{Width};
+ghost use Rattle.rules.specs.declared.Write.the-variants as Write;
 ghost use Rattle.rules.specs.Good.{GoodWrite};
 ghost use Rattle.rules.specs.Carry.{applied};
 ghost use Rattle.rules.specs.Search.{guardedAt};
@@ -19,7 +21,7 @@ use page::search::row_of;
 use rules::Write;
 use state::logic::and;
 
-fn write(page: &mut [u16], width: usize, on: bool, w: Write)
+pub fn write(page: &mut [u16], width: usize, on: bool, w: Write)
     requires { ⌜ (length (now page) ≡ 24 * width) × (GoodWrite width w × Width width) ⌝ }
     ensures { λ r. ⌜ now (page .exit) ≡ applied width on w (now (page .entry)) ⌝ }
 {
@@ -65,6 +67,27 @@ fn write(page: &mut [u16], width: usize, on: bool, w: Write)
             bottom as usize,
         ),
     }
+}
+
+// Whether it writes no cell.
+fn is_nothing(w: Write) -> bool
+    ensures { λ r. ⌜ (r ≡ true → w ≡ Write.Nothing) ⌝ }
+{
+    match w {
+        Write::Nothing => true,
+        _ => false,
+    }
+}
+
+// The same, without a call for a write of nothing.
+fn write_some(page: &mut [u16], width: usize, on: bool, w: Write)
+    requires { ⌜ (length (now page) ≡ 24 * width) × (GoodWrite width w × Width width) ⌝ }
+    ensures { λ r. ⌜ now (page .exit) ≡ applied width on w (now (page .entry)) ⌝ }
+{
+    if is_nothing(w) {
+        return;
+    }
+    write(page, width, on, w);
 }
 
 // Whether a write leaves which cells are guarded as it is.
@@ -165,8 +188,8 @@ pub fn write_both(
     requires { ⌜ (length (now page) ≡ 24 * width) × (GoodWrite width first × (GoodWrite width second × (Width width × Beside width (guardedAt on (now page)) (now rows)))) ⌝ }
     ensures { λ r. ⌜ (now (page .exit) ≡ applied width on second (applied width on first (now (page .entry)))) × Beside width (guardedAt after (now (page .exit))) (now (rows .exit)) ⌝ }
 {
-    write(page, width, on, first);
-    write(page, width, on, second);
+    write_some(page, width, on, first);
+    write_some(page, width, on, second);
     if rows.len() == 0 {
         return;
     }

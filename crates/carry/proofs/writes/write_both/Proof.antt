@@ -20,13 +20,13 @@ use Rattle.carry.proofs.writes.write_both.Statement.{statement}
 use Rattle.carry.proofs.writes.write_both.Tie as tie
 
 -- the writes and the start, each from the next place
-abbrev start : tie.After-write → tie.Start
+abbrev start : tie.After-write-some → tie.Start
 start w = w .before .before .before .before
 
-abbrev first : tie.After-write2 → tie.After-write
+abbrev first : tie.After-write-some2 → tie.After-write-some
 first v = v .before .before .before .before
 
-abbrev second : tie.Else1 → tie.After-write2
+abbrev second : tie.Else1 → tie.After-write-some2
 second e = e .before .before .before
 
 -- a list is there; the second write and protect mode are tested; and leave the guarded cells
@@ -40,20 +40,20 @@ abbrev kept : tie.Else3 → tie.Else2
 kept e = e .before .before
 
 -- the page after both
-written : (v : tie.After-write2)
+written : (v : tie.After-write-some2)
     → let x = start (first v) .args in
-    v .write2 .last .0 ≡ applied (x .width) (x .on) (x .second) (applied (x .width) (x .on) (x .first) (now (x .page)))
+    v .write-some2 .last .0 ≡ applied (x .width) (x .on) (x .second) (applied (x .width) (x .on) (x .first) (now (x .page)))
 written v =
     let x = start (first v) .args in
-    v .write2 .ensures ∙ ap (applied (x .width) (x .on) (x .second)) (first v .write .ensures)
+    v .write-some2 .ensures ∙ ap (applied (x .width) (x .on) (x .second)) (first v .write-some .ensures)
 
-size : (v : tie.After-write2) → length (v .write2 .last .0) ≡ length (now (start (first v) .args .page))
-size v = v .write2 .kept .0 ∙ first v .write .kept .0
+size : (v : tie.After-write-some2) → length (v .write-some2 .last .0) ≡ length (now (start (first v) .args .page))
+size v = v .write-some2 .kept .0 ∙ first v .write-some .kept .0
 
 -- the guarded cells after both are those after the first
 after-first : (e : tie.Else2)
     → let v = second (there (tested e)) in let x = start (first v) .args in
-    guardedAt (x .after) (v .write2 .last .0) ≡ guardedAt (x .on) (applied (x .width) (x .on) (x .first) (now (x .page)))
+    guardedAt (x .after) (v .write-some2 .last .0) ≡ guardedAt (x .on) (applied (x .width) (x .on) (x .first) (now (x .page)))
 after-first e =
     let a = tested e in
     let v = second (there a) in
@@ -64,7 +64,7 @@ after-first e =
 
 others : (t : tie.After-touched)
     → let v = second (there (tested (kept (t .before)))) in let x = start (first v) .args in
-    AllBut (x .width) (guardedAt (x .after) (v .write2 .last .0)) (now (x .rows)) (t .touched .result .top) (t .touched .result .bottom)
+    AllBut (x .width) (guardedAt (x .after) (v .write-some2 .last .0)) (now (x .rows)) (t .touched .result .top) (t .touched .result .bottom)
 others t =
     let e = kept (t .before) in
     let l = there (tested e) in
@@ -72,7 +72,7 @@ others t =
     let s = start (first v) in
     let x = s .args in
     let p = now (x .page) in
-    let g = guardedAt (x .after) (v .write2 .last .0) in
+    let g = guardedAt (x .after) (v .write-some2 .last .0) in
     subst₂ (λ (i j : ℕ). AllBut (x .width) g (now (x .rows)) i j) (sym (t .touched .ensures .0)) (sym (t .touched .ensures .1))
     (others-kept (s .pre .1 .1 .1 .0) (x .first) (s .pre .1 .0) (x .on) p (s .pre .0) g (after-first e)
     (listed (x .width) (guardedAt (x .on) p) (s .pre .1 .1 .1 .1) (l .if1 .left)))
@@ -81,10 +81,10 @@ pub write-both-spec : {M : Type 1} → statement M
 write-both-spec =
     tie.close
     (tie.spec
-    -- write-requires
+    -- write-some-requires
     (λ c κs. let p = c .before .before .before .pre in (p .0, (p .1 .0, p .1 .1 .1 .0)))
-    -- write-requires-2
-    (λ c κs. let w = c .before .before .before in let p = start w .pre in (w .write .kept .0 ∙ p .0, (p .1 .1 .0, p .1 .1 .1 .0)))
+    -- write-some-requires-2
+    (λ c κs. let w = c .before .before .before in let p = start w .pre in (w .write-some .kept .0 ∙ p .0, (p .1 .1 .0, p .1 .1 .1 .0)))
     -- same-length
     (λ c. size (c .before .before .before))
     -- returns
