@@ -1,6 +1,7 @@
 pub mod Gathered
 pub mod Carrying
 pub mod Loop
+pub mod Along
 pub mod TextSteps
 pub mod TextRuns
 pub mod Sequences

@@ -1,114 +1,185 @@
--- Runs of text are the repeated step.
---     segment     the rows of the active segment
---     typed-then, typed-range, text-range     a run after a run; where a run ends
---     waited, resumed     the loop over host bytes goes on after an awaited byte, and after a run, as before it
+-- Runs are the repeated step.
+--     run-fits, fits-size, line-end, line-inside     the segment of a run lies in the page
+--     stored-page, edited-page, rolled-page, write-page, nothing-written     what the code writes is the write of an act
+--     edits-good     it lies in the page
+--     typed-then, typed-range, typed-same, text-range     a run after a run; where a run ends
+--     turn, waited     a byte that changes the core and the page alone
+--     resumed     the loop over host bytes goes on after a run as before it
 -- Assumes nothing.
 use mathlib.Core.Path.{_≡_, refl, sym, ap, ap₂, _∙_}
 use mathlib.Core.Bool.{Bool, true, false}
 use mathlib.Core.List.{List, [], _++_}
-use Prim.Native.Nat.{ℕ, _+_, _-_, _*_, _<_, _≤_}
+use Prim.Native.Nat.{ℕ, _+_, _-_, _*_, _/_, _%_, _<_, _≤_}
 use native.Mathlib.Nat.{add-zero}
 use native.Mathlib.Omega.{arith}
 use lib.Dec.{eqb}
-use lib.ListN.{length, getD, set, take, drop, length-set, take-append-drop}
-use lib.Seq.{drop-cons}
-use borrow.Author.Tests.{eq-eqb, ne-eqb}
+use lib.ListN.{length, getD, set, take, drop, take-append-drop}
+use borrow.Author.Tests.{eq-eqb, eqb-true}
 use Rattle.rules.specs.declared.Answer.the-variants as Answer
+use Rattle.rules.specs.declared.Argument.the-variants as Argument
 use Rattle.rules.specs.declared.Contents.the-variants as Contents
 use Rattle.rules.specs.declared.Core.{Core}
 use Rattle.rules.specs.declared.Decoded.the-variants as Decoded
-use Rattle.rules.specs.declared.Modes.{Modes}
 use Rattle.rules.specs.declared.Pending.{Pending}
 use Rattle.rules.specs.declared.Pending.the-variants as Pending
 use Rattle.rules.specs.declared.Screen.{Screen}
 use Rattle.rules.specs.declared.Setup.{Setup}
 use Rattle.rules.specs.declared.State.{State}
-use Rattle.rules.specs.Cell.{pick, written, space}
+use Rattle.rules.specs.declared.Write.{Write}
+use Rattle.rules.specs.declared.Write.the-variants as Write
+use Rattle.rules.specs.Cell.{pick, guarded, written}
+use Rattle.rules.specs.Row.{Width, columns, rowStart, rowEnd}
 use Rattle.rules.specs.Search.{guardedAt}
-use Rattle.rules.specs.State.{Inside, pageLength, unchanged, number, segmentStart, segmentEnd, segmentTop, segmentBottom, cursorOf, withCursor, withScreen, awaiting, idle, sends}
-use Rattle.rules.specs.declared.Argument.the-variants as Argument
+use Rattle.rules.specs.State.{Inside, pageLength, unchanged, segmentStart, segmentEnd, segmentTop, segmentBottom, cursorOf, withCursor, withScreen, awaiting, idle}
 use Rattle.rules.specs.Step.{innerRule}
 use Rattle.rules.specs.Decode.{argumentRule, decodeRule, idleRule, escapeRule, lookup}
-use Rattle.rules.specs.Carry.{effect}
-use Rattle.rules.specs.declared.Write.the-variants as Write
-use Rattle.rules.specs.Row.{columns}
-use Rattle.rules.specs.Change.{within, shifted, rowsShifted}
-use Rattle.rules.specs.Plan.{scroll, scrolls}
-use Rattle.rules.specs.Carry.{applied}
+use Rattle.rules.specs.Change.{editShifted, rowsShifted}
+use Rattle.rules.specs.Carry.{effect, applied}
+use Rattle.rules.specs.Good.{GoodWrite}
 use Rattle.rules.proofs.Lengths.{length-applied}
-use Rattle.rules.proofs.Rows.{columns-width}
+use Rattle.rules.proofs.Marks.{guard-at}
+use Rattle.rules.proofs.Rows.{by-width, columns-width, row-inside, placed}
 use Rattle.rules.proofs.Screens.{screen-inside}
+use Rattle.page.proofs.Changes.{one-filled}
 use Rattle.carry.proofs.Carrying.{carried-is}
+use Rattle.terminal.specs.declared.runs.Run.{Run}
 use Rattle.terminal.specs.Loop.{stateOf}
-use Rattle.terminal.specs.Text.{Stored, Addressed, Goes, Rolled, Segment, Typed, none, stored, placed, gone, rolled, TextRun, still, typed, textBase, textCore}
+use Rattle.terminal.specs.Text.{textBase, runOf, runWidth, Fits, openAt, Addressed, Edits, edits-cell, edits-row, reverses, clears-row, clears-rest, clears-all, Acts, stores, inserts, places, goes, rolls, edits, Typed, none, acted, TextRun, still, typed, textCore}
 use Rattle.terminal.proofs.Carrying.{quiet-carried}
 use Rattle.terminal.proofs.Loop.{Running, ready, go, nothing-made, lentTail, backTail, tail-lent, tail-back}
-use Rattle.terminal.proofs.TextSteps.{rows-below, stores, waits, places, goes, rolls as rolls-on}
+use Rattle.terminal.proofs.TextSteps.{rows-below, cursor-same, stores-on, inserts-on, waits, places-at, goes-on, rolls-on, edits-on}
+
+-- ---- the segment
 
 -- a text cell's number is its code and what stands beside it
 base-is : (b : ℕ) (p : Bool) (a : ℕ) → written (Contents.Text b) p a ≡ written (Contents.Text 0) p a + b
 base-is b true a = omega arith
 base-is b false a = omega arith
 
-pub base-small : (p : Bool) (a : ℕ) → a < 32 → written (Contents.Text 0) p a < 32768
+base-small : (p : Bool) (a : ℕ) → a < 32 → written (Contents.Text 0) p a < 32768
 base-small true a h = omega arith
 base-small false a h = omega arith
 
--- the active segment of a screen
-pub segment : (x : Screen) → Inside x → {t b h e n : ℕ} → t ≡ segmentTop x → b ≡ segmentBottom x → h ≡ segmentStart x → e ≡ segmentEnd x
-    → n ≡ pageLength x → Segment (x .wide) t b h e n
-segment x s a b c d f = record {
-  rows = omega (arith, a, b, s .rows);
-  most = omega (arith, b, s .most);
-  first = rw a c;
-  past = rw b d;
-  whole = f;
+most-cells : {w : ℕ} → Width w → 24 * w ≤ 3168
+most-cells k = by-width (λ (w : ℕ). 24 * w ≤ 3168) (omega arith) (omega arith) k
+
+pub run-fits : (c : Core) {p : List ℕ} → length p ≡ pageLength (c .screen) → Inside (c .screen) → c .attribute < 32 → Fits (runOf c) p
+run-fits c size s a = record {
+  whole = size;
+  size = omega (arith, size, most-cells (columns-width (c .screen .wide)));
+  inside = omega (arith, size, s .placed .page);
+  rows = s .rows;
+  most = s .most;
+  first = omega (arith, s .placed .row, s .placed .least);
+  past = refl;
+  row = omega (arith, s .placed .row);
+  base = base-small (c .modes .mark) (c .attribute) a;
 }
 
--- a run stays in the segment
-pub typed-inside : {on : Bool} {base : ℕ} {rolls wide : Bool} {home end : ℕ} {l : List ℕ} {at₀ i₀ : ℕ} {p₀ : List ℕ} {at i : ℕ} {p : List ℕ}
-    → Typed on base rolls wide home end l at₀ i₀ p₀ at i p → at₀ < end → at < end
-typed-inside none h = h
-typed-inside (stored t k s e) h = s .inside
-typed-inside (placed t k s) h = s .inside
-typed-inside (gone t k s i g) h = i
-typed-inside (rolled top bottom t k r a b e) h = typed-inside t h
+pub fits-size : {z : Run} {p q : List ℕ} → Fits z p → length q ≡ length p → Fits z q
+fits-size f e = record {
+  whole = e ∙ f .whole;
+  size = omega (arith, e, f .size);
+  inside = omega (arith, e, f .inside);
+  rows = f .rows;
+  most = f .most;
+  first = f .first;
+  past = f .past;
+  row = f .row;
+  base = f .base;
+}
 
--- where a run over l from the byte i₀ and the page p₀ ends
-pub record Range (l : List ℕ) (i₀ : ℕ) (p₀ : List ℕ) (at i : ℕ) (p : List ℕ) : Type 0 where
+-- the end of a row
+pub line-end : (wide : Bool) (at : ℕ) → rowStart (columns wide) at + columns wide ≡ rowEnd (columns wide) at
+unfolding rowEnd
+line-end wide at = by-width (λ (w : ℕ). at - at % w + w ≡ (at / w + 1) * w) (omega arith) (omega arith) (columns-width wide)
+
+module _ {z : Run} {p : List ℕ} (f : Fits z p) {at : ℕ} (h : at < z .end) where
+  row-most : rowEnd (runWidth z) at ≤ 24 * runWidth z
+  row-most = row-inside (columns-width (z .wide)) at (omega (arith, h, f .inside, f .whole))
+
+  pub line-inside : rowEnd (runWidth z) at ≤ 3168
+  line-inside = omega (arith, row-most, most-cells (columns-width (z .wide)))
+
+  pub edits-good : {b k : ℕ} {w : Write} → Edits z p at b w k → GoodWrite (runWidth z) w
+  edits-good (edits-cell right e g) = omega (arith, h, f .inside, f .whole)
+  edits-good (edits-row down e o) =
+      let l = placed (columns-width (z .wide)) {top = 0} {bottom = z .bottom} {at = at} (omega (arith, f .rows)) (f .most) (omega arith) (omega (arith, h, f .past)) in
+      (omega (arith, l .lower), f .most)
+  edits-good (reverses e o t) = (omega (arith, f .rows), f .most)
+  edits-good (clears-row s e) = let l = placed (columns-width (z .wide)) {top = 0} {bottom = 24} {at = at} (omega arith) (omega arith) (omega arith) (omega (arith, h, f .inside, f .whole)) in
+      (omega (arith, l .last, l .column, l .before), row-most)
+  edits-good (clears-rest s e) = (omega (arith, h), omega (arith, f .inside, f .whole))
+  edits-good (clears-all s e g) = (omega (arith, f .first), omega (arith, f .inside, f .whole))
+
+-- ---- what the code writes
+
+module _ (z : Run) where
+  pub stored-page : (p : List ℕ) (at v : ℕ) → at < length p → openAt z p at
+      → set p at v ≡ applied (runWidth z) (z .protect) (Write.Fill at (at + 1) v) p
+  unfolding applied
+  stored-page p at v h e =
+      sym (ap (λ (t : Bool). set p at (pick t (getD p at 0) v)) (sym (guard-at (z .protect) p at h) ∙ e)) ∙ one-filled (z .protect) v p at h
+
+  pub nothing-written : (p : List ℕ) → p ≡ applied (runWidth z) (z .protect) Write.Nothing p
+  unfolding applied
+  nothing-written p = refl
+
+  module _ (p : List ℕ) {n : ℕ} {q : List ℕ} where
+    pub write-page : (w : Write) → q ≡ applied n (z .protect) w p → n ≡ runWidth z → (q ≡ applied (runWidth z) (z .protect) w p) × (length q ≡ length p)
+    write-page w e f =
+        let g = e ∙ ap (λ (n : ℕ). applied n (z .protect) w p) f in
+        (g, ap length g ∙ length-applied (runWidth z) (z .protect) w p)
+
+    pub edited-page : (right : Bool) (at v : ℕ) → q ≡ editShifted n (z .protect) right v at p → n ≡ runWidth z
+        → (q ≡ applied (runWidth z) (z .protect) (Write.Edit right at v) p) × (length q ≡ length p)
+    unfolding applied
+    edited-page right at v e f = write-page (Write.Edit right at v) e f
+
+    pub rolled-page : (down : Bool) (top bottom : ℕ) → q ≡ rowsShifted n down top bottom p → n ≡ runWidth z
+        → (q ≡ applied (runWidth z) (z .protect) (Write.Rows down top bottom) p) × (length q ≡ length p)
+    unfolding applied
+    rolled-page down top bottom e f = write-page (Write.Rows down top bottom) e f
+
+-- ---- where a run ends
+
+-- an act takes a byte
+acts-some : {z : Run} {l : List ℕ} {i : ℕ} {p : List ℕ} {at n k : ℕ} {w : Write} → Acts z l i p at n w k → 1 ≤ n
+acts-some (stores m s e) = omega arith
+acts-some (inserts m s e f) = omega arith
+acts-some (places a o) = omega arith
+acts-some (goes g o) = omega arith
+acts-some (rolls r) = omega arith
+acts-some (edits e d) = omega arith
+
+-- from the byte i₀ of l and the page p₀
+pub record Range (z : Run) (l : List ℕ) (i₀ : ℕ) (p₀ : List ℕ) (at i : ℕ) (p : List ℕ) : Type 0 where
   pub from : i₀ ≤ i
-  pub within : i < length l
-  pub below : at < length p₀
+  pub within : i ≤ length l
+  pub below : at < z .end
   pub size : length p ≡ length p₀
 
-module _ {on : Bool} {base : ℕ} {rolls wide : Bool} {home end : ℕ} {l : List ℕ} {at₀ i₀ : ℕ} {p₀ : List ℕ} where
-  pub typed-then : {at i : ℕ} {p : List ℕ} → Typed on base rolls wide home end l at₀ i₀ p₀ at i p
-      → {at′ i′ : ℕ} {p′ : List ℕ} → Typed on base rolls wide home end l at i p at′ i′ p′ → Typed on base rolls wide home end l at₀ i₀ p₀ at′ i′ p′
+module _ {z : Run} {l : List ℕ} {at₀ i₀ : ℕ} {p₀ : List ℕ} where
+  pub typed-then : {at i : ℕ} {p : List ℕ} → Typed z l at₀ i₀ p₀ at i p
+      → {at′ i′ : ℕ} {p′ : List ℕ} → Typed z l at i p at′ i′ p′ → Typed z l at₀ i₀ p₀ at′ i′ p′
   typed-then t none = t
-  typed-then t (stored u h s e) = stored (typed-then t u) h s e
-  typed-then t (placed u h s) = placed (typed-then t u) h s
-  typed-then t (gone u h s i g) = gone (typed-then t u) h s i g
-  typed-then t (rolled top bottom u h r a b e) = rolled top bottom (typed-then t u) h r a b e
+  typed-then t (acted u a h k e) = acted (typed-then t u) a h k e
 
-  pub typed-range : {at i : ℕ} {p : List ℕ} → Typed on base rolls wide home end l at₀ i₀ p₀ at i p → i₀ < length l → at₀ < length p₀ → end ≤ length p₀
-      → Range l i₀ p₀ at i p
-  unfolding applied
-  typed-range none h a e = record { from = omega arith; within = h; below = a; size = refl }
-  typed-range (stored {at} {i} {v} {p} u k s w) h a e =
-      let r = typed-range u h a e in
-      record { from = omega (arith, r .from); within = k; below = omega (arith, s .inside); size = length-set p at v ∙ r .size }
-  typed-range (placed u k s) h a e =
-      let r = typed-range u h a e in record { from = omega (arith, r .from); within = k; below = omega (arith, s .inside); size = r .size }
-  typed-range (gone u k s i g) h a e =
-      let r = typed-range u h a e in record { from = omega (arith, r .from); within = k; below = omega (arith, i); size = r .size }
-  typed-range (rolled {at} {i} {p} top bottom u k s x y q) h a e =
-      let r = typed-range u h a e in
+  pub typed-range : {at i : ℕ} {p : List ℕ} → Typed z l at₀ i₀ p₀ at i p → i₀ ≤ length l → at₀ < z .end → Range z l i₀ p₀ at i p
+  typed-range none h b = record { from = omega arith; within = h; below = b; size = refl }
+  typed-range (acted {w = w} {p = p} u a k j e) h b =
+      let r = typed-range u h b in
       record {
         from = omega (arith, r .from);
         within = k;
-        below = r .below;
-        size = ap length q ∙ length-applied (columns wide) on (Write.Rows false top bottom) p ∙ r .size;
+        below = j;
+        size = ap length e ∙ length-applied (runWidth z) (z .protect) w p ∙ r .size;
       }
+
+  -- a run that took no byte
+  pub typed-same : {at i : ℕ} {p : List ℕ} → Typed z l at₀ i₀ p₀ at i p → i₀ ≤ length l → at₀ < z .end → i ≡ i₀ → (at ≡ at₀) × (p ≡ p₀)
+  typed-same none h b e = (refl, refl)
+  typed-same (acted u a k j q) h b e = absurd (omega (arith, e, acts-some a, typed-range u h b .from))
 
 -- ---- a turn of the loop that changes the core and the page alone
 
@@ -116,7 +187,7 @@ same-room : (n : ℕ) (w : List ℕ) → backTail n w (lentTail n w) ≡ w
 same-room n w = tail-back n w (lentTail n w) ∙ ap (λ (l : List ℕ). take n w ++ l) (tail-lent n w) ∙ take-append-drop n w
 
 module _ {stop : Bool} {p₀ : List ℕ} {s₀ : State} {input w₀ : List ℕ} {g : List ℕ} {u : Setup} {n f : ℕ} {w : List ℕ} where
-  turn : {p : List ℕ} {c : Core} {i : ℕ} (j : ℕ) → Running stop p₀ s₀ input w₀ p w c g u i n f → j ≡ i + 1 → j ≤ length input
+  pub turn : {p : List ℕ} {c : Core} {i : ℕ} (j : ℕ) → Running stop p₀ s₀ input w₀ p w c g u i n f → j ≡ i + 1 → j ≤ length input
       → {p′ : List ℕ} {c′ : Core} → ((room : ℕ) → innerRule p c (u .tabs) (getD input i 0) room ≡ effect 0 c′ unchanged p′ [])
       → Running stop p₀ s₀ input w₀ p′ w c′ g u j n f
   turn {p} {c} {i} j R e h {p′} {c′} E =
@@ -135,17 +206,6 @@ module _ {stop : Bool} {p₀ : List ℕ} {s₀ : State} {input w₀ : List ℕ} 
       turn j R e h (λ room. waits p c (k .0) (k .1 .0) (u .tabs) room (getD input i 0) q low d)
 
 -- ---- the cores of a run
-
--- d is c but for the cursor, and nothing is under way
-record Like (c d : Core) (at : ℕ) : Type 0 where
-  idle : d .pending ≡ Pending.Idle
-  modes : d .modes ≡ c .modes
-  attribute : d .attribute ≡ c .attribute
-  cursor : cursorOf (d .screen) ≡ at
-  wide : d .screen .wide ≡ c .screen .wide
-  home : segmentStart (d .screen) ≡ segmentStart (c .screen)
-  end : segmentEnd (d .screen) ≡ segmentEnd (c .screen)
-  next : (i : ℕ) → textCore d i ≡ textCore c i
 
 cursor-set : (x : Screen) (i : ℕ) → cursorOf (withCursor x i) ≡ i
 unfolding cursorOf withCursor
@@ -166,158 +226,77 @@ cursor-twice x i j = by (eqb (x .active) 0)
     by true = refl
     by false = refl
 
-like-text : (c : Core) (at : ℕ) → Like c (textCore c at) at
+text-twice : (c : Core) (i j : ℕ) → textCore (textCore c i) j ≡ textCore c j
+text-twice c i j = ap (λ (x : Screen). withScreen (idle c) x) (cursor-twice (c .screen) i j)
+
+-- the core itself, where nothing is under way
+text-same : (c : Core) → c .pending ≡ Pending.Idle → textCore c (cursorOf (c .screen)) ≡ c
+text-same c e =
+    ap (λ (x : Screen). withScreen (idle c) x) (cursor-same (c .screen)) ∙ ap (awaiting c) (sym e)
+
+run-same : (c : Core) (at : ℕ) → runOf (textCore c at) ≡ runOf c
 unfolding segmentTop segmentBottom withCursor
-like-text c at = record {
-  idle = refl;
-  modes = refl;
-  attribute = refl;
-  cursor = cursor-set (c .screen) at;
-  wide = refl;
-  home = refl;
-  end = refl;
-  next = λ i. ap (λ (x : Screen). withScreen (idle c) x) (cursor-twice (c .screen) at i);
-}
+run-same c at = refl
 
--- the core where a run from c and the byte i₀ has come to
-data Arrived (c : Core) (i₀ : ℕ) : ℕ → ℕ → Core → Type 0 where
-  here : Arrived c i₀ (cursorOf (c .screen)) i₀ c
-  there : {at i : ℕ} → i₀ < i → Arrived c i₀ at i (textCore c at)
-
-like : {c d : Core} {i₀ at i : ℕ} → c .pending ≡ Pending.Idle → Arrived c i₀ at i d → Like c d at
-like {c} q here = record { idle = q; modes = refl; attribute = refl; cursor = refl; wide = refl; home = refl; end = refl; next = λ i. refl }
-like {c} q (there {at} h) = like-text c at
-
-later : {c d : Core} {i₀ at i : ℕ} → Arrived c i₀ at i d → i₀ ≤ i
-later here = omega arith
-later (there h) = omega arith
-
-arrived-core : {c d : Core} {i₀ at i : ℕ} → Arrived c i₀ at i d → pick (eqb i i₀) c (textCore c at) ≡ d
-arrived-core {i₀ = i₀} here = rw (eq-eqb i₀ i₀ refl)
-arrived-core {i₀ = i₀} (there {at} {i} h) = rw (ne-eqb i i₀ (λ e. omega arith))
-
-module _ {c d : Core} {at : ℕ} (L : Like c d at) where
-  like-guard : (p : List ℕ) {i j : ℕ} → i ≡ j
-      → getD (guardedAt (c .modes .protect) p) j false ≡ false → getD (guardedAt (d .modes .protect) p) i false ≡ false
-  like-guard p e g = ap₂ (λ (m : Modes) (i : ℕ). getD (guardedAt (m .protect) p) i false) (L .modes) e ∙ g
-
-  like-stored : {p : List ℕ} {b : ℕ} → Stored (c .modes .protect) (segmentEnd (c .screen)) at p b
-      → Stored (d .modes .protect) (segmentEnd (d .screen)) (cursorOf (d .screen)) p b
-  like-stored {p} s = record {
-    low = s .low;
-    high = s .high;
-    inside = omega (arith, s .inside, L .cursor, L .end);
-    here = like-guard p (L .cursor) (s .here);
-    next = like-guard p (ap (λ (i : ℕ). i + 1) (L .cursor)) (s .next);
-  }
-
--- a move and a scroll, by other names of what they depend on
-goes-is : {wide wide′ : Bool} {home home′ at at′ b k : ℕ} → wide ≡ wide′ → home ≡ home′ → at ≡ at′ → Goes wide′ home′ at′ b k → Goes wide home at b k
-goes-is e f g s = rw (e, f, g) s
-
-rolled-is : {rolls rolls′ wide wide′ : Bool} {end end′ at at′ b : ℕ} → rolls ≡ rolls′ → wide ≡ wide′ → end ≡ end′ → at ≡ at′
-    → Rolled rolls′ wide′ end′ at′ b → Rolled rolls wide end at b
-rolled-is e f g h r = rw (e, f, g, h) r
-
-rows-same : (w w′ t t′ b b′ : ℕ) (p : List ℕ) → w ≡ w′ → t * w ≡ t′ * w′ → b * w ≡ b′ * w′ → rowsShifted w false t b p ≡ rowsShifted w′ false t′ b′ p
-unfolding rowsShifted
-rows-same w w′ t t′ b b′ p e f g =
-    ap₂ (λ (a z : ℕ). within a z (shifted false w space) p) f g ∙ ap (λ (v : ℕ). within (t′ * w′) (b′ * w′) (shifted false v space) p) e
+acts-is : {z z′ : Run} {l : List ℕ} {i : ℕ} {p : List ℕ} {at at′ n k : ℕ} {w : Write} → z ≡ z′ → at ≡ at′ → Acts z′ l i p at′ n w k → Acts z l i p at n w k
+acts-is e f a = rw (e, f) a
 
 -- ---- a run
 
-module _ {stop : Bool} {p₀ : List ℕ} {s₀ : State} {input w₀ : List ℕ} {g : List ℕ} {u : Setup} {n f : ℕ} {w p : List ℕ} (c : Core) {i₀ : ℕ}
-    (R : Running stop p₀ s₀ input w₀ p w c g u i₀ n f) (quiet : c .pending ≡ Pending.Idle) (over : c .modes .insert ≡ false) where
-  record Went (at i : ℕ) (p′ : List ℕ) : Type 0 where
-    core : Core
-    arrived : Arrived c i₀ at i core
-    running : Running stop p₀ s₀ input w₀ p′ w core g u i n f
+module _ {stop : Bool} {p₀ : List ℕ} {s₀ : State} {input w₀ : List ℕ} {g : List ℕ} {u : Setup} {n f : ℕ} {w : List ℕ} where
+  -- an act from a core d, where nothing is under way
+  act : (d : Core) {p : List ℕ} {i m k : ℕ} {y : Write} → Running stop p₀ s₀ input w₀ p w d g u i n f → d .pending ≡ Pending.Idle
+      → Acts (runOf d) input i p (cursorOf (d .screen)) m y k → i + m ≤ length input → k < segmentEnd (d .screen)
+      → Running stop p₀ s₀ input w₀ (applied (runWidth (runOf d)) (d .modes .protect) y p) w (textCore d k) g u (i + m) n f
+  unfolding decodeRule argumentRule idleRule escapeRule lookup applied
+  act d {p} {i} R quiet (stores {v} e s q) h k =
+      let r = ready R in
+      let b = getD input i 0 in
+      turn (i + 1) R refl h (λ room.
+      rw (q ∙ sym (base-is b (d .modes .mark) (d .attribute))) (stores-on p d (r .0) (r .1 .0) (u .tabs) room b quiet s k e))
+  act d {p} {i} R quiet (inserts {v} e s q free) h k =
+      let r = ready R in
+      let b = getD input i 0 in
+      let same = q ∙ sym (base-is b (d .modes .mark) (d .attribute)) in
+      turn (i + 1) R refl h (λ room.
+      rw same (inserts-on p d (r .0) (r .1 .0) (u .tabs) room b quiet s k e (ap (guarded (d .modes .protect)) (sym same) ∙ free)))
+  act d {p} {i} {k = k} R quiet (places s o) h l =
+      let r = getD input (i + 2) 0 in
+      let inside = screen-inside (d .screen) (ready R .1 .0) in
+      let row = rows-below (columns-width (d .screen .wide)) {a = r - 0x20} {b = segmentBottom (d .screen)} (omega (arith, s .place, l)) in
+      let escape = ap₂ (λ (x : Pending) (b : ℕ). decodeRule x b) quiet (s .escape) in
+      let R1 = waited (i + 1) Pending.Escape R refl (omega (arith, h)) (omega (arith, s .escape)) escape in
+      let equals = ap (decodeRule Pending.Escape) (s .equals) in
+      let R2 = waited (i + 2) (Pending.Awaits Argument.Address) R1 (omega arith) (omega (arith, h)) (omega (arith, s .equals)) equals in
+      let R3 = waited (i + 3) (Pending.AddressRow r) R2 (omega arith) (omega (arith, h)) (omega (arith, row, inside .most)) refl in
+      let t = ready R3 in
+      turn (i + 4) R3 (omega arith) h (λ room.
+      places-at p (awaiting d (Pending.AddressRow r)) (t .0) (t .1 .0) (u .tabs) room r (getD input (i + 3) 0) k
+      refl (s .row) (s .column) (s .most) (s .place) l o)
+  act d {p} {i} {k = k} R quiet (goes s o) h l =
+      let r = ready R in
+      turn (i + 1) R refl h (λ room. goes-on p d (r .0) (r .1 .0) (u .tabs) room (getD input i 0) k quiet s l o)
+  act d {p} {i} {k = k} R quiet (rolls s) h l =
+      let r = ready R in
+      turn (i + 1) R refl h (λ room. rolls-on p d (r .0) (r .1 .0) (u .tabs) room (getD input i 0) k quiet s l)
+  act d {p} {i} {k = k} {y = y} R quiet (edits e s) h l =
+      let escape = ap₂ (λ (x : Pending) (b : ℕ). decodeRule x b) quiet e in
+      let R1 = waited (i + 1) Pending.Escape R refl (omega (arith, h)) (omega (arith, e)) escape in
+      let t = ready R1 in
+      turn (i + 2) R1 (omega arith) h (λ room.
+      edits-on p (awaiting d Pending.Escape) (t .0) (t .1 .0) (u .tabs) room (getD input (i + 1) 0) k y refl s l)
 
-  module _ {at i : ℕ} {q : List ℕ} (G : Went at i q) where
-    abbrev d : Core
-    d = G .core
-
-    L : Like c d at
-    L = like quiet (G .arrived)
-
-    went-stored : {v : ℕ} → i + 1 < length input → Stored (c .modes .protect) (segmentEnd (c .screen)) at q (getD input i 0)
-        → v ≡ textBase c + getD input i 0 → Went (at + 1) (i + 1) (set q at v)
-    went-stored h s e =
-        let b = getD input i 0 in
-        let k = ready (G .running) in
-        record {
-          core = textCore c (at + 1);
-          arrived = there {i = i + 1} (omega (arith, later (G .arrived)));
-          running = turn (i + 1) (G .running) refl (omega (arith, h)) (λ room.
-              stores q d (k .0) (k .1 .0) (u .tabs) room b (L .idle) (ap (λ (m : Modes). m .insert) (L .modes) ∙ over) (like-stored L s)
-              ∙ ap₂ (λ (x : Core) (y : List ℕ). effect 0 x unchanged y [])
-              (ap (λ (j : ℕ). textCore d (j + 1)) (L .cursor) ∙ L .next (at + 1))
-              (ap₂ (set q) (L .cursor) (ap₂ (λ (m : Modes) (a : ℕ). written (Contents.Text b) (m .mark) a) (L .modes) (L .attribute)
-              ∙ (base-is b (c .modes .mark) (c .attribute) ∙ sym e))));
-        }
-
-    went-placed : {k : ℕ} → i + 4 < length input
-        → Addressed (c .modes .protect) (c .screen .wide) (segmentStart (c .screen)) (segmentEnd (c .screen)) input i q k → Went k (i + 4) q
-    unfolding decodeRule argumentRule idleRule escapeRule lookup
-    went-placed {k} h s =
-        let r = getD input (i + 2) 0 in
-        let inside = screen-inside (c .screen) (ready R .1 .0) in
-        let row = rows-below (columns-width (c .screen .wide)) {a = r - 0x20} {b = segmentBottom (c .screen)} (omega (arith, s .place, s .inside)) in
-        let escape = ap₂ (λ (x : Pending) (b : ℕ). decodeRule x b) (L .idle) (s .escape) in
-        let R1 = waited (i + 1) Pending.Escape (G .running) refl (omega arith) (omega (arith, s .escape)) escape in
-        let equals = ap (decodeRule Pending.Escape) (s .equals) in
-        let R2 = waited (i + 2) (Pending.Awaits Argument.Address) R1 (omega arith) (omega arith) (omega (arith, s .equals)) equals in
-        let R3 = waited (i + 3) (Pending.AddressRow r) R2 (omega arith) (omega arith) (omega (arith, row, inside .most)) refl in
-        let g = ready R3 in
-        record {
-          core = textCore c k;
-          arrived = there {i = i + 4} (omega (arith, later (G .arrived)));
-          running = turn (i + 4) R3 (omega arith) (omega (arith, h)) (λ room.
-              places q (awaiting d (Pending.AddressRow r)) (g .0) (g .1 .0) (u .tabs) room r (getD input (i + 3) 0) k
-              refl (s .row) (s .column) (s .most) (rw (L .home, L .wide) (s .place)) (omega (arith, s .inside, L .end))
-              (like-guard L q refl (s .unguarded))
-              ∙ ap (λ (x : Core). effect 0 x unchanged q []) (L .next k));
-        }
-
-    went-gone : {k : ℕ} → i + 1 < length input → Goes (c .screen .wide) (segmentStart (c .screen)) at (getD input i 0) k
-        → k < segmentEnd (c .screen) → getD (guardedAt (c .modes .protect) q) k false ≡ false → Went k (i + 1) q
-    went-gone {k} h s z o =
-        let t = ready (G .running) in
-        record {
-          core = textCore c k;
-          arrived = there {i = i + 1} (omega (arith, later (G .arrived)));
-          running = turn (i + 1) (G .running) refl (omega (arith, h)) (λ room.
-              goes q d (t .0) (t .1 .0) (u .tabs) room (getD input i 0) k (L .idle) (goes-is (L .wide) (L .home) (L .cursor) s)
-              (omega (arith, z, L .end)) (like-guard L q refl o)
-              ∙ ap (λ (y : Core). effect 0 y unchanged q []) (L .next k));
-        }
-
-    went-rolled : {q′ : List ℕ} (top bottom : ℕ) → i + 1 < length input
-        → Rolled (scrolls (c .modes)) (c .screen .wide) (segmentEnd (c .screen)) at (getD input i 0)
-        → segmentStart (c .screen) ≡ top * columns (c .screen .wide) → segmentEnd (c .screen) ≡ bottom * columns (c .screen .wide)
-        → q′ ≡ rowsShifted (columns (c .screen .wide)) false top bottom q → Went at (i + 1) q′
-    unfolding applied
-    went-rolled top bottom h r a z e =
-        let t = ready (G .running) in
-        record {
-          core = textCore c at;
-          arrived = there {i = i + 1} (omega (arith, later (G .arrived)));
-          running = turn (i + 1) (G .running) refl (omega (arith, h)) (λ room.
-              rolls-on q d (t .0) (t .1 .0) (u .tabs) room (getD input i 0) (L .idle)
-              (rolled-is (ap scrolls (L .modes)) (L .wide) (L .end) (L .cursor) r)
-              ∙ ap₂ (λ (y : Core) (l : List ℕ). effect 0 y unchanged l [])
-              (ap (textCore d) (L .cursor) ∙ L .next at)
-              (rows-same (columns (d .screen .wide)) (columns (c .screen .wide)) (segmentTop (d .screen)) top (segmentBottom (d .screen)) bottom q (ap columns (L .wide)) (L .home ∙ a) (L .end ∙ z) ∙ sym e));
-        }
-
-  typed-run : {at i : ℕ} {p′ : List ℕ}
-      → Typed (c .modes .protect) (textBase c) (scrolls (c .modes)) (c .screen .wide) (segmentStart (c .screen)) (segmentEnd (c .screen)) input (cursorOf (c .screen)) i₀ p at i p′
-      → Went at i p′
-  typed-run none = record { core = c; arrived = here; running = R }
-  typed-run (stored t h s e) = went-stored (typed-run t) h s e
-  typed-run (placed t h s) = went-placed (typed-run t) h s
-  typed-run (gone t h s z o) = went-gone (typed-run t) h s z o
-  typed-run (rolled top bottom t h r a z e) = went-rolled (typed-run t) top bottom h r a z e
+  -- a run from a core c
+  module _ (c : Core) (quiet : c .pending ≡ Pending.Idle) {p : List ℕ} {i₀ : ℕ} (R : Running stop p₀ s₀ input w₀ p w c g u i₀ n f) where
+    typed-run : {at i : ℕ} {p′ : List ℕ} → Typed (runOf c) input (cursorOf (c .screen)) i₀ p at i p′
+        → Running stop p₀ s₀ input w₀ p′ w (textCore c at) g u i n f
+    typed-run none = rw (text-same c quiet) R
+    typed-run (acted {at = at} {k = k} {w = y} {p = q} t a h l e) =
+        let d = textCore c at in
+        let same = run-same c at in
+        let G = act d (typed-run t) refl (acts-is same (cursor-set (c .screen) at) a) h (rw (ap (λ (z : Run). z .end) same) l) in
+        let page = e ∙ ap (λ (z : Run). applied (runWidth z) (z .protect) y q) (sym same) in
+        rw (page, sym (text-twice c at k)) G
 
 -- the loop after a run from the byte i₀ on: it goes on at the byte i
 pub record Resumed (stop : Bool) (p₀ : List ℕ) (s₀ : State) (input w₀ p w : List ℕ) (c : Core) (g : List ℕ) (u : Setup) (i n f i₀ : ℕ) : Type 0 where
@@ -327,28 +306,33 @@ pub record Resumed (stop : Bool) (p₀ : List ℕ) (s₀ : State) (input w₀ p 
 
 module _ {stop : Bool} {p₀ : List ℕ} {s₀ : State} {input w₀ : List ℕ} {g : List ℕ} {u : Setup} {n f : ℕ} {w p : List ℕ} {c : Core} {i₀ : ℕ}
     (R : Running stop p₀ s₀ input w₀ p w c g u i₀ n f) where
-  arriving : {at i : ℕ} {p′ : List ℕ} → TextRun c input i₀ p at i p′
-      → Running stop p₀ s₀ input w₀ p′ w (pick (eqb i i₀) c (textCore c at)) g u i n f
-  arriving still = rw (eq-eqb i₀ i₀ refl) R
-  arriving (typed quiet over t) = let G = typed-run c R quiet over t in rw (arrived-core (G .arrived)) (G .running)
-
-  pub text-range : i₀ < length input → {at i : ℕ} {p′ : List ℕ} → TextRun c input i₀ p at i p′ → Range input i₀ p at i p′
-  text-range h t =
-      let s = screen-inside (c .screen) (ready R .1 .0) in
-      by t (omega (arith, s .below, s .placed .page, ready R .0)) (omega (arith, s .placed .page, ready R .0))
+  pub text-range : i₀ ≤ length input → {at i : ℕ} {p′ : List ℕ} → TextRun c input i₀ p at i p′ → Range (runOf c) input i₀ p at i p′
+  text-range h t = by (screen-inside (c .screen) (ready R .1 .0)) t
     where
-      by : {at i : ℕ} {p′ : List ℕ} → TextRun c input i₀ p at i p′ → cursorOf (c .screen) < length p → segmentEnd (c .screen) ≤ length p
-          → Range input i₀ p at i p′
-      by still l e = record { from = omega arith; within = h; below = l; size = refl }
-      by (typed quiet over t) l e = typed-range t h l e
+      by : Inside (c .screen) → {at i : ℕ} {p′ : List ℕ} → TextRun c input i₀ p at i p′ → Range (runOf c) input i₀ p at i p′
+      by s still = record { from = omega arith; within = h; below = s .below; size = refl }
+      by s (typed quiet t) = typed-range t h (s .below)
+
+  arriving : {at i : ℕ} {p′ : List ℕ} → i₀ ≤ length input → TextRun c input i₀ p at i p′
+      → Running stop p₀ s₀ input w₀ p′ w (pick (eqb i i₀) c (textCore c at)) g u i n f
+  arriving h still = rw (eq-eqb i₀ i₀ refl) R
+  arriving {at} {i} {p′} h (typed quiet t) = by (eqb i i₀) refl
+    where
+      by : (b : Bool) → eqb i i₀ ≡ b → Running stop p₀ s₀ input w₀ p′ w (pick b c (textCore c at)) g u i n f
+      by true e =
+          let s = typed-same t h (screen-inside (c .screen) (ready R .1 .0) .below) (eqb-true i i₀ e) in
+          rw (ap (textCore c) (s .0) ∙ text-same c quiet) at (typed-run c quiet R t)
+      by false e = typed-run c quiet R t
 
   -- a page's cell fits
-  pub text-fits : i₀ < length input → {at i : ℕ} {p′ : List ℕ} → TextRun c input i₀ p at i p′ → at < 3168
-  text-fits h t = omega (arith, text-range h t .below, ready R .0, screen-inside (c .screen) (ready R .1 .0) .placed .most)
+  pub text-fits : i₀ ≤ length input → {at i : ℕ} {p′ : List ℕ} → TextRun c input i₀ p at i p′ → at < 3168
+  text-fits h t =
+      let s = screen-inside (c .screen) (ready R .1 .0) in
+      omega (arith, text-range h t .below, s .placed .page, most-cells (columns-width (c .screen .wide)))
 
   -- d is the core after it
-  pub resumed : {at i : ℕ} {p′ : List ℕ} {d : Core} → i₀ < length input → TextRun c input i₀ p at i p′ → d ≡ pick (eqb i i₀) c (textCore c at)
+  pub resumed : {at i : ℕ} {p′ : List ℕ} {d : Core} → i₀ ≤ length input → TextRun c input i₀ p at i p′ → d ≡ pick (eqb i i₀) c (textCore c at)
       → Resumed stop p₀ s₀ input w₀ p′ w d g u i n f i₀
   resumed h t e =
       let r = text-range h t in
-      record { running = rw e (arriving t); from = r .from; left = omega (arith, r .within) }
+      record { running = rw e (arriving h t); from = r .from; left = r .within }

@@ -1,86 +1,131 @@
--- Runs of text: host bytes that are stored, ESC = and the bytes that move the cursor, and the scroll of 0Ah, without a plan for each. They go
--- on in one segment, on open cells alone, and leave the last byte of the input to the single step.
+-- Runs: host bytes that are carried out without a plan for each. They go on in one segment while nothing is under way, and the cursor lands on
+-- open cells alone.
 use mathlib.Core.Path.{_≡_}
 use mathlib.Core.Bool.{Bool, true, false}
 use mathlib.Core.List.{List}
+use mathlib.Core.Logic.{_⊎_}
 use Prim.Native.Nat.{ℕ, _+_, _-_, _*_, _<_, _≤_}
-use lib.ListN.{length, getD, set}
+use lib.ListN.{length, getD}
 use Rattle.rules.specs.declared.Contents.the-variants as Contents
 use Rattle.rules.specs.declared.Core.{Core}
 use Rattle.rules.specs.declared.Pending.the-variants as Pending
-use Rattle.rules.specs.Cell.{written}
-use Rattle.rules.specs.Row.{columns, addressed, rowStart}
-use Rattle.rules.specs.Search.{guardedAt}
-use Rattle.rules.specs.Change.{rowsShifted}
+use Rattle.rules.specs.declared.Write.{Write}
+use Rattle.rules.specs.declared.Write.the-variants as Write
+use Rattle.rules.specs.Cell.{pick, guarded, written, space, null}
+use Rattle.rules.specs.Row.{height, columns, addressed, wideCells, rowOf, columnOf, rowStart, rowEnd}
+use Rattle.rules.specs.Search.{guardedAt, nextField}
+use Rattle.rules.specs.Carry.{applied}
 use Rattle.rules.specs.Plan.{scrolls}
-use Rattle.rules.specs.State.{segmentStart, segmentEnd, cursorOf, withCursor, withScreen, idle}
-
--- b is stored at a cell, and the cursor goes on to the next one: both are open
-pub record Stored (on : Bool) (end at : ℕ) (p : List ℕ) (b : ℕ) : Type 0 where
-  pub low : 0x20 ≤ b
-  pub high : b ≤ 0x7e
-  pub inside : at + 1 < end
-  pub here : getD (guardedAt on p) at false ≡ false
-  pub next : getD (guardedAt on p) (at + 1) false ≡ false
-
--- the bytes i to i + 3 are ESC = row column, and k is that cell, an open one of the segment `home` up to `end`
-pub record Addressed (on wide : Bool) (home end : ℕ) (l : List ℕ) (i : ℕ) (p : List ℕ) (k : ℕ) : Type 0 where
-  pub escape : getD l i 0 ≡ 0x1b
-  pub equals : getD l (i + 1) 0 ≡ 0x3d
-  pub row : 0x20 ≤ getD l (i + 2) 0
-  pub column : 0x20 ≤ getD l (i + 3) 0
-  pub most : getD l (i + 3) 0 < 0x20 + addressed
-  pub place : k ≡ home + (getD l (i + 2) 0 - 0x20) * columns wide + (getD l (i + 3) 0 - 0x20)
-  pub inside : k < end
-  pub unguarded : getD (guardedAt on p) k false ≡ false
-
--- the byte b moves the cursor from a cell to k, with no wrap and no scroll: `home` is the first cell of the segment
-pub data Goes (wide : Bool) (home at b k : ℕ) : Type 0 where
-  goes-back : b ≡ 0x08 → home + 1 ≤ at → k ≡ at - 1 → Goes wide home at b k
-  goes-down : b ≡ 0x0a → k ≡ at + columns wide → Goes wide home at b k
-  goes-up : b ≡ 0x0b → home + columns wide ≤ at → k ≡ at - columns wide → Goes wide home at b k
-  goes-right : b ≡ 0x0c → k ≡ at + 1 → Goes wide home at b k
-  goes-return : b ≡ 0x0d → k ≡ rowStart (columns wide) at → Goes wide home at b k
-  goes-home : b ≡ 0x1e → k ≡ home → Goes wide home at b k
-  goes-line : b ≡ 0x1f → k ≡ rowStart (columns wide) at + columns wide → Goes wide home at b k
-
--- the byte b scrolls the segment up, its last row being the cursor's; `rolls` says whether that scrolls
-pub record Rolled (rolls wide : Bool) (end at b : ℕ) : Type 0 where
-  pub byte : b ≡ 0x0a
-  pub mode : rolls ≡ true
-  pub last : end ≤ at + columns wide
-
--- the rows of the segment `home` up to `end` on a page of so many cells
-pub record Segment (wide : Bool) (top bottom home end size : ℕ) : Type 0 where
-  pub rows : top ≤ bottom
-  pub most : bottom ≤ 24
-  pub first : home ≡ top * columns wide
-  pub past : end ≡ bottom * columns wide
-  pub whole : size ≡ 24 * columns wide
+use Rattle.rules.specs.State.{segmentTop, segmentBottom, segmentStart, segmentEnd, cursorOf, withCursor, withScreen, idle}
+use Rattle.terminal.specs.declared.runs.Run.{Run}
 
 -- what the number of a text cell that a core stores has beside its code
 abbrev pub textBase : Core → ℕ
 textBase c = written (Contents.Text 0) (c .modes .mark) (c .attribute)
 
--- base is that; from the cursor at₀, the byte i₀ of the input l and the page p₀, to the cursor, the byte and the page given last
-pub data Typed (on : Bool) (base : ℕ) (rolls wide : Bool) (home end : ℕ) (l : List ℕ) (at₀ i₀ : ℕ) (p₀ : List ℕ) : ℕ → ℕ → List ℕ → Type 0 where
-  none : Typed on base rolls wide home end l at₀ i₀ p₀ at₀ i₀ p₀
-  stored : {at i v : ℕ} {p : List ℕ} → Typed on base rolls wide home end l at₀ i₀ p₀ at i p → i + 1 < length l → Stored on end at p (getD l i 0)
-      → v ≡ base + getD l i 0 → Typed on base rolls wide home end l at₀ i₀ p₀ (at + 1) (i + 1) (set p at v)
-  placed : {at i k : ℕ} {p : List ℕ} → Typed on base rolls wide home end l at₀ i₀ p₀ at i p → i + 4 < length l → Addressed on wide home end l i p k
-      → Typed on base rolls wide home end l at₀ i₀ p₀ k (i + 4) p
-  gone : {at i k : ℕ} {p : List ℕ} → Typed on base rolls wide home end l at₀ i₀ p₀ at i p → i + 1 < length l → Goes wide home at (getD l i 0) k
-      → k < end → getD (guardedAt on p) k false ≡ false → Typed on base rolls wide home end l at₀ i₀ p₀ k (i + 1) p
-  rolled : {at i : ℕ} {p q : List ℕ} (top bottom : ℕ) → Typed on base rolls wide home end l at₀ i₀ p₀ at i p → i + 1 < length l
-      → Rolled rolls wide end at (getD l i 0) → home ≡ top * columns wide → end ≡ bottom * columns wide
-      → q ≡ rowsShifted (columns wide) false top bottom p → Typed on base rolls wide home end l at₀ i₀ p₀ at (i + 1) q
+-- the run from a core
+abbrev pub runOf : Core → Run
+runOf c = record {
+  protect = c .modes .protect;
+  insert = c .modes .insert;
+  rolls = scrolls (c .modes);
+  wide = c .screen .wide;
+  base = textBase c;
+  home = segmentStart (c .screen);
+  end = segmentEnd (c .screen);
+  top = segmentTop (c .screen);
+  bottom = segmentBottom (c .screen);
+}
 
--- such a run from a core on, where nothing is under way and insert mode is off; or nothing is done
+abbrev pub runWidth : Run → ℕ
+runWidth z = columns (z .wide)
+
+-- its segment lies in the page
+pub record Fits (z : Run) (p : List ℕ) : Type 0 where
+  pub whole : length p ≡ height * runWidth z
+  pub size : length p ≤ wideCells
+  pub inside : z .end ≤ length p
+  pub rows : z .top < z .bottom
+  pub most : z .bottom ≤ height
+  pub first : z .home < z .end
+  pub past : z .end ≡ z .bottom * runWidth z
+  pub row : runWidth z ≤ z .end
+  pub base : z .base < 32768
+
+-- a cell is open
+abbrev pub openAt : Run → List ℕ → ℕ → Type 0
+openAt z p i = getD (guardedAt (z .protect) p) i false ≡ false
+
+-- b is text, and the cursor's cell and the next one are open
+pub record Stored (z : Run) (p : List ℕ) (at b : ℕ) : Type 0 where
+  pub low : 0x20 ≤ b
+  pub high : b ≤ 0x7e
+  pub here : openAt z p at
+  pub next : openAt z p (at + 1)
+
+-- the bytes i to i + 3 are ESC = row column, and k is that cell
+pub record Addressed (z : Run) (l : List ℕ) (i k : ℕ) : Type 0 where
+  pub escape : getD l i 0 ≡ 0x1b
+  pub equals : getD l (i + 1) 0 ≡ 0x3d
+  pub row : 0x20 ≤ getD l (i + 2) 0
+  pub column : 0x20 ≤ getD l (i + 3) 0
+  pub most : getD l (i + 3) 0 < 0x20 + addressed
+  pub place : k ≡ z .home + (getD l (i + 2) 0 - 0x20) * runWidth z + (getD l (i + 3) 0 - 0x20)
+
+-- the byte b moves the cursor to k, with no scroll
+pub data Goes (z : Run) (p : List ℕ) (at b k : ℕ) : Type 0 where
+  goes-back : b ≡ 0x08 → z .home + 1 ≤ at → k ≡ at - 1 → Goes z p at b k
+  goes-first : b ≡ 0x08 → at ≤ z .home → k ≡ at → Goes z p at b k
+  goes-field : b ≡ 0x09 → z .protect ≡ true → k ≡ nextField (guardedAt true p) (z .home) (z .end) at → Goes z p at b k
+  goes-down : b ≡ 0x0a → k ≡ at + runWidth z → Goes z p at b k
+  goes-up : b ≡ 0x0b → z .home + runWidth z ≤ at → k ≡ at - runWidth z → Goes z p at b k
+  goes-bottom : b ≡ 0x0b → at < z .home + runWidth z → k ≡ z .end - runWidth z + columnOf (runWidth z) at → Goes z p at b k
+  goes-right : b ≡ 0x0c → at + 1 < z .end → k ≡ at + 1 → Goes z p at b k
+  goes-round : b ≡ 0x0c → z .end ≤ at + 1 → k ≡ z .home → Goes z p at b k
+  goes-return : b ≡ 0x0d → k ≡ rowStart (runWidth z) at → Goes z p at b k
+  goes-home : b ≡ 0x1e → k ≡ z .home → Goes z p at b k
+  goes-line : b ≡ 0x1f → k ≡ rowStart (runWidth z) at + runWidth z → Goes z p at b k
+
+-- the byte b scrolls the segment up and leaves the cursor at k, in its last row
+pub record Rolled (z : Run) (at b k : ℕ) : Type 0 where
+  pub from : ((b ≡ 0x0a) × (k ≡ at)) ⊎ ((b ≡ 0x1f) × (k ≡ rowStart (runWidth z) at))
+  pub mode : z .rolls ≡ true
+  pub last : z .end ≤ k + runWidth z
+
+-- what clears write: spaces, or nulls
+abbrev pub blank : Bool → ℕ
+blank spaces = pick spaces space null
+
+-- the byte b after ESC writes, and leaves the cursor at k
+pub data Edits (z : Run) (p : List ℕ) (at b : ℕ) : Write → ℕ → Type 0 where
+  edits-cell : (right : Bool) → b ≡ pick right 0x51 0x57 → openAt z p at → Edits z p at b (Write.Edit right at space) at
+  edits-row : (down : Bool) → b ≡ pick down 0x45 0x52 → z .protect ≡ false
+      → Edits z p at b (Write.Rows down (rowOf (runWidth z) at) (z .bottom)) (rowStart (runWidth z) at)
+  reverses : b ≡ 0x6a → z .protect ≡ false → at < z .home + runWidth z → Edits z p at b (Write.Rows true (z .top) (z .bottom)) at
+  clears-row : (spaces : Bool) → b ≡ pick spaces 0x54 0x74 → Edits z p at b (Write.Fill at (rowEnd (runWidth z) at) (blank spaces)) at
+  clears-rest : (spaces : Bool) → b ≡ pick spaces 0x59 0x79 → Edits z p at b (Write.Fill at (z .end) (blank spaces)) at
+  clears-all : (spaces : Bool) → b ≡ pick spaces 0x3b 0x3a → openAt z p (z .home) → Edits z p at b (Write.Fill (z .home) (z .end) (blank spaces)) (z .home)
+
+-- the n bytes from i on write w, and leave the cursor at k
+pub data Acts (z : Run) (l : List ℕ) (i : ℕ) (p : List ℕ) (at : ℕ) : ℕ → Write → ℕ → Type 0 where
+  stores : {v : ℕ} → z .insert ≡ false → Stored z p at (getD l i 0) → v ≡ z .base + getD l i 0 → Acts z l i p at 1 (Write.Fill at (at + 1) v) (at + 1)
+  inserts : {v : ℕ} → z .insert ≡ true → Stored z p at (getD l i 0) → v ≡ z .base + getD l i 0 → guarded (z .protect) v ≡ false
+      → Acts z l i p at 1 (Write.Edit true at v) (at + 1)
+  places : {k : ℕ} → Addressed z l i k → openAt z p k → Acts z l i p at 4 Write.Nothing k
+  goes : {k : ℕ} → Goes z p at (getD l i 0) k → openAt z p k → Acts z l i p at 1 Write.Nothing k
+  rolls : {k : ℕ} → Rolled z at (getD l i 0) k → Acts z l i p at 1 (Write.Rows false (z .top) (z .bottom)) k
+  edits : {k : ℕ} {w : Write} → getD l i 0 ≡ 0x1b → Edits z p at (getD l (i + 1) 0) w k → Acts z l i p at 2 w k
+
+-- from the cursor at₀, the byte i₀ of the input l and the page p₀, to the cursor, the byte and the page given last
+pub data Typed (z : Run) (l : List ℕ) (at₀ i₀ : ℕ) (p₀ : List ℕ) : ℕ → ℕ → List ℕ → Type 0 where
+  none : Typed z l at₀ i₀ p₀ at₀ i₀ p₀
+  acted : {at i n k : ℕ} {w : Write} {p q : List ℕ} → Typed z l at₀ i₀ p₀ at i p → Acts z l i p at n w k → i + n ≤ length l → k < z .end
+      → q ≡ applied (runWidth z) (z .protect) w p → Typed z l at₀ i₀ p₀ k (i + n) q
+
+-- such a run from a core on, where nothing is under way; or nothing is done
 pub data TextRun (c : Core) (l : List ℕ) (i₀ : ℕ) (p₀ : List ℕ) : ℕ → ℕ → List ℕ → Type 0 where
   still : TextRun c l i₀ p₀ (cursorOf (c .screen)) i₀ p₀
-  typed : {at i : ℕ} {p : List ℕ} → c .pending ≡ Pending.Idle → c .modes .insert ≡ false
-      → Typed (c .modes .protect) (textBase c) (scrolls (c .modes)) (c .screen .wide) (segmentStart (c .screen)) (segmentEnd (c .screen)) l (cursorOf (c .screen)) i₀ p₀ at i p
-      → TextRun c l i₀ p₀ at i p
+  typed : {at i : ℕ} {p : List ℕ} → c .pending ≡ Pending.Idle → Typed (runOf c) l (cursorOf (c .screen)) i₀ p₀ at i p → TextRun c l i₀ p₀ at i p
 
 -- the core after it
 abbrev pub textCore : Core → ℕ → Core

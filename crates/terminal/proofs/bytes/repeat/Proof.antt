@@ -84,7 +84,7 @@ run : (m : Moved)
     → let x = start m .args in let l = turn m .before .loop in let r = text m .text in
     Resumed (x .stop) (now (x .page)) (stateOf (x .core) (x .gathered) (x .setup)) (now (x .input)) (now (x .room)) (r .last .0) (l .room) (m .moved .result)
     (l .g) (l .u) (r .result .taken) (l .replied) (l .refused) (l .taken)
-run m = resumed (turn m .before .loop .inv .0) (turn m .loop-test .taken) (text m .text .ensures) (m .moved .ensures)
+run m = resumed (turn m .before .loop .inv .0) (omega (arith, turn m .loop-test .taken)) (text m .text .ensures) (m .moved .ensures)
 
 -- and behind the awaited bytes
 past : (w : Waiting)
@@ -136,7 +136,7 @@ repeat-spec =
     -- moved-requires
     (λ c κs.
     let t = c .before .before .before in
-    text-fits (t .before .before .before .loop .inv .0) (t .before .before .loop-test .taken) (t .text .ensures))
+    text-fits (t .before .before .before .loop .inv .0) (omega (arith, t .before .before .loop-test .taken)) (t .text .ensures))
     -- follow-text-requires
     (λ c κs.
     let m = c .before .before in
@@ -146,7 +146,7 @@ repeat-spec =
     let same = eqb (text m .text .result .taken) (l .taken) in (
       ready (run m .running) .0,
       moved-behind (l .c) same (text m .text .result .at) same (text m .text .last .0) (m .moved .ensures)
-          (text-behind (l .c) (g .1 .0) (g .0) (t .loop-test .taken) (text m .text .ensures) (l .inv .1 .0)),
+          (text-behind (l .c) (g .1 .0) (omega (arith, t .loop-test .taken)) (text m .text .ensures) (l .inv .1 .0)),
     ))
     -- loop-less
     (λ c. let m = moved (c .before .before .before) in omega (arith, c .if1 .taken, turn m .loop-test .taken))

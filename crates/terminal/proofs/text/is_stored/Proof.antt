@@ -12,22 +12,21 @@ is-stored-spec =
     tie.close
     (tie.spec
     -- returns
-    (λ c end e z. absurd (false≢true z))
+    (λ c z. absurd (false≢true z))
     -- returns-2
-    (λ c end e z. absurd (false≢true z))
+    (λ c z. absurd (false≢true z))
     -- is-guarded-at-requires
-    (λ c κs. search needs)
+    (λ c κs. let p = c .before .before .before .pre in omega (arith, p .1, p .0 .inside))
     -- returns-3
-    (λ c end e z. absurd (false≢true z))
+    (λ c z. absurd (false≢true z))
     -- add-is-guarded-at
-    (λ c. search needs)
+    (λ c. let p = c .before .before .before .before .before .pre in omega (arith, p .1, p .0 .inside, p .0 .size))
     -- is-guarded-at-requires-2
-    (λ c κs. search needs)
+    (λ c κs. let p = c .before .before .before .before .before .pre in omega (arith, p .1, p .0 .inside))
     -- returns-4
-    (λ c end e z. record {
+    (λ c z. record {
       low = omega arith;
       high = omega arith;
-      inside = e;
       here = sym (c .before .before .is-guarded-at .ensures) ∙ c .before .if3 .left;
       next = sym (c .is-guarded-at2 .ensures) ∙ not-true _ z;
     }))

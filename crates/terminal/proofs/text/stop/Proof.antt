@@ -14,13 +14,9 @@ stop-spec =
     (λ c. search needs)
     -- sub-if1
     (λ c. search needs)
-    -- sub-if1-2
-    (λ c. search needs)
     -- add-result
     (λ c. search needs)
     -- returns
     (λ c n h. (omega arith, omega arith))
-    -- sub-result
-    (λ c. search needs)
     -- returns-2
     (λ c n h. (omega arith, omega arith)))

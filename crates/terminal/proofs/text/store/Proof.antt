@@ -1,36 +1,22 @@
 -- `terminal::text::store` meets its contract. The loop: the bytes from `from` up to i are stored in the cells from `first` up to `at`.
 use Prim.Native.Nat.{ℕ, _+_, _-_, _<_, _≤_}
 use mathlib.Core.Path.{_≡_, refl}
-use mathlib.Core.Bool.{Bool}
 use native.Mathlib.Omega.{arith}
 use lib.ListN.{length}
 use borrow.Author.Tests.{not-false}
-use Rattle.terminal.specs.Text.{Typed, none, stored}
+use Rattle.terminal.specs.Text.{Typed, none, acted, stores}
+use Rattle.terminal.proofs.Along.{Along, next, along}
+use Rattle.terminal.proofs.TextRuns.{fits-size, stored-page}
 use borrow.Author.Needs.{needs}
 use Rattle.terminal.proofs.text.store.Statement.{statement}
 use Rattle.terminal.proofs.text.store.Tie as tie
 
--- so many cells as bytes, and before the byte `last` one cell and one byte more are there
-record Along (first end from size last at i : ℕ) : Type 0 where
-  begun : from ≤ i
-  even : at + from ≡ first + i
-  more : (n : ℕ) → from + n < last → (first + n + 1 < end) × (from + n + 1 < size)
-
-next : {first end from size last at i : ℕ} → Along first end from size last at i → i < last → (at + 1 < end) × (i + 1 < size)
-next {first} {end} {from} {size} {last} {at} {i} a h =
-    let k = a .more (i - from) (omega (arith, a .begun, h)) in
-    (omega (arith, k .0, a .even, a .begun), omega (arith, k .1, a .begun))
-
-along : {first end from size last at i : ℕ} → Along first end from size last at i → Along first end from size last (at + 1) (i + 1)
-along a = record { begun = omega (arith, a .begun); even = omega (arith, a .even); more = a .more }
-
 abbrev Inv-loop : tie.InvT-loop
-Inv-loop page₀ on base first end input from last at₀ i₀ page at i =
-    (length page ≡ length page₀) × ((at < length page₀) × ((i < length input) × (Along first end from (length input) last at i
-    × ((rolls wide : Bool) (home : ℕ) → Typed on base rolls wide home end input first from page₀ at i page))))
+Inv-loop page₀ z first input from last at₀ i₀ page at i =
+    (length page ≡ length page₀) × ((at < length page₀) × (Along first (z .end) from (length input) last at i × Typed z input first from page₀ at i page))
 
 abbrev μ-loop : tie.MeasureT-loop
-μ-loop page₀ on base first end input from last at₀ i₀ page at i = length input - i
+μ-loop page₀ z first input from last at₀ i₀ page at i = last - i
 
 pub store-spec : {M : Type 1} → statement M
 store-spec =
@@ -43,21 +29,20 @@ store-spec =
     -- loop-holds
     (λ c.
     let p = c .before .before .before .pre in
-    (refl, (omega (arith, p), (p .1 .1 .1 .0, (record { begun = omega arith; even = refl; more = c .stop .ensures }, λ rolls wide home. none)))))
+    (refl, (omega (arith, p .1 .0, p .0 .inside), (record { begun = omega arith; even = refl; more = c .stop .ensures }, none))))
     -- shared-slice-read-b
-    (λ c. search needs)
+    (λ c. next (c .before .before .loop .inv .1 .1 .0) (c .before .loop-test .taken) .1)
     -- is-stored-requires
     (λ c κs.
     let l = c .before .before .before .loop in
-    let k = next (l .inv .1 .1 .1 .0) (c .before .before .loop-test .taken) in
     let p = c .before .before .before .before .before .before .before .pre in
-    (omega (arith, l .inv .0, p .0), omega (arith, k .0, l .inv .0, p .1 .0)))
+    (fits-size (p .0) (l .inv .0), next (l .inv .1 .1 .0) (c .before .before .loop-test .taken) .0))
     -- same-length
     (λ c. search needs)
     -- returns
-    (λ c. c .before .before .before .before .before .loop .inv .1 .1 .1 .1)
+    (λ c. c .before .before .before .before .before .loop .inv .1 .1 .1)
     -- text-cell-requires
-    (λ c κs. search needs)
+    (λ c κs. c .before .before .before .before .before .before .before .before .before .pre .0 .base)
     -- mul-page
     (λ c. search needs)
     -- slice-write-page
@@ -71,11 +56,12 @@ store-spec =
     -- loop-again
     (λ c.
     let l = c .before .before .before .before .before .before .loop in
-    let k = next (l .inv .1 .1 .1 .0) (c .before .before .before .before .before .loop-test .taken) in
-    let s = c .before .before .is-stored .ensures _ (k .0) (not-false _ (c .before .if1 .left)) in
+    let k = next (l .inv .1 .1 .0) (c .before .before .before .before .before .loop-test .taken) in
+    let s = c .before .before .is-stored .ensures (not-false _ (c .before .if1 .left)) in
     let p = c .before .before .before .before .before .before .before .before .before .before .pre in
-    (search needs, (omega (arith, k .0, p .1 .0), (k .1, (along (l .inv .1 .1 .1 .0), λ rolls wide home. stored (l .inv .1 .1 .1 .1 rolls wide home) (k .1) s (c .text-cell .ensures))))))
+    let z = c .before .before .before .before .before .before .before .before .before .before .args .run in
+    (search needs, (omega (arith, k .0, p .0 .inside), (along (l .inv .1 .1 .0), acted (l .inv .1 .1 .1) (stores (p .1 .1 .1) s (c .text-cell .ensures)) (omega (arith, k .1)) (k .0) (stored-page z (l .page) (l .at) (c .text-cell .result) (omega (arith, l .inv .0, l .inv .1 .0)) (s .here))))))
     -- same-length-2
     (λ c. search needs)
     -- returns-2
-    (λ c. c .before .loop .inv .1 .1 .1 .1))
+    (λ c. c .before .loop .inv .1 .1 .1))

@@ -1,0 +1,18 @@
+-- `terminal::moves::back` meets its contract.
+use mathlib.Core.Path.{refl}
+use native.Mathlib.Omega.{arith}
+use Rattle.terminal.specs.Text.{goes-back, goes-first}
+use borrow.Author.Needs.{needs}
+use Rattle.terminal.proofs.moves.back.Statement.{statement}
+use Rattle.terminal.proofs.moves.back.Tie as tie
+
+pub back-spec : {M : Type 1} → statement M
+back-spec =
+    tie.close
+    (tie.spec
+    -- sub-result
+    (λ c. search needs)
+    -- returns
+    (λ c p. goes-back refl (omega arith) refl)
+    -- returns-2
+    (λ c p. goes-first refl (omega arith) refl))

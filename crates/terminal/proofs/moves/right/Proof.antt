@@ -1,0 +1,20 @@
+-- `terminal::moves::right` meets its contract.
+use mathlib.Core.Path.{refl}
+use native.Mathlib.Omega.{arith}
+use Rattle.terminal.specs.Text.{goes-right, goes-round}
+use borrow.Author.Needs.{needs}
+use Rattle.terminal.proofs.moves.right.Statement.{statement}
+use Rattle.terminal.proofs.moves.right.Tie as tie
+
+pub right-spec : {M : Type 1} → statement M
+right-spec =
+    tie.close
+    (tie.spec
+    -- add-if1
+    (λ c. search needs)
+    -- add-result
+    (λ c. search needs)
+    -- returns
+    (λ c p. goes-right refl (omega arith) refl)
+    -- returns-2
+    (λ c p. goes-round refl (omega arith) refl))
