@@ -1,5 +1,6 @@
 // Which states are possible.
 ghost use mathlib.Core.Path.{_≡_};
+ghost use mathlib.Core.Bool.{true};
 ghost use Prim.Native.Nat.{_^_, _≤_};
 ghost use lib.Dec.{leb, ltb};
 ghost use lib.ListN.{length, take};
@@ -94,9 +95,46 @@ fn message_ok(t: LongText) -> bool
     text_ok(&bytes, t.len, 0x20)
 }
 
+// Whether a key's text is plain, and those before it: at most eight bytes, and all eight of them at most 7Eh, those behind its end too.
+fn is_plain(k: ShortText, before: bool) -> bool
+    ensures { λ r. ⌜ (r ≡ true → (before ≡ true) × (textOk 0 8 (k .len) (k .bytes) ≡ true)) ⌝ }
+{
+    let a = and(before, k.len < 9);
+    let b = and(a, k.bytes[0] < 0x7f);
+    let c = and(b, k.bytes[1] < 0x7f);
+    let d = and(c, k.bytes[2] < 0x7f);
+    let e = and(d, k.bytes[3] < 0x7f);
+    let f = and(e, k.bytes[4] < 0x7f);
+    let g = and(f, k.bytes[5] < 0x7f);
+    let h = and(g, k.bytes[6] < 0x7f);
+    and(h, k.bytes[7] < 0x7f)
+}
+
+// Whether every key is plain. Bytes in their order in one chain, eight keys a turn: so the machine tests sixteen bytes at a time.
+fn are_plain(keys: [ShortText; 32]) -> bool
+    ensures { λ r. ⌜ (r ≡ true → textsOk 0 keys ≡ true) ⌝ }
+{
+    let mut plain = true;
+    let mut i = 0;
+    while i < 4 {
+        let mut j = 0;
+        while j < 8 {
+            let k = keys[8 * i + j];
+            plain = is_plain(k, plain);
+            j += 1;
+        }
+        i += 1;
+    }
+    plain
+}
+
+// Keys as the terminal keeps them are plain; else each is looked at.
 fn keys_ok(keys: [ShortText; 32]) -> bool
     ensures { λ r. ⌜ r ≡ textsOk 0 keys ⌝ }
 {
+    if are_plain(keys) {
+        return true;
+    }
     let mut i = 0;
     while i < 32 {
         let k = keys[i];

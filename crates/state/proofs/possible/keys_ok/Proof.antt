@@ -18,38 +18,38 @@ Inv-loop keys i₀ i = (i ≤ 32) × (textsOk 0 keys ≡ textsOk 0 (drop i keys)
 abbrev μ-loop : tie.MeasureT-loop
 μ-loop keys i₀ i = 32 - i
 
-returns : tie.Need-returns Inv-loop μ-loop
+returns-2 : tie.Need-returns-2 Inv-loop μ-loop
 unfolding textsOk
-returns c =
+returns-2 c =
     let x = c .before .before .before .before .loop in
-    let keys = c .before .before .before .before .before .args .t1 in
+    let keys = c .before .before .before .before .before .before .before .args .t1 in
     let h : x .i < length keys = search needs in
     sym (x .inv .1 ∙ rw (
       drop-cons keys (x .i) record { len = 0; bytes = [] } h,
       ← c .before .short-ok .ensures,
-      not-true (c .before .short-ok .result) (c .if1 .taken),
+      not-true (c .before .short-ok .result) (c .if2 .taken),
     ))
 
 loop-again : tie.Need-loop-again Inv-loop μ-loop
 unfolding textsOk
 loop-again c =
     let x = c .before .before .before .before .loop in
-    let keys = c .before .before .before .before .before .args .t1 in
+    let keys = c .before .before .before .before .before .before .before .args .t1 in
     let h : x .i < length keys = search needs in (
       omega arith,
       x .inv .1 ∙ rw (
         drop-cons keys (x .i) record { len = 0; bytes = [] } h,
         ← c .before .short-ok .ensures,
-        not-false (c .before .short-ok .result) (c .if1 .left),
+        not-false (c .before .short-ok .result) (c .if2 .left),
         add-one,
       ),
     )
 
-returns-2 : tie.Need-returns-2 Inv-loop μ-loop
+returns-3 : tie.Need-returns-3 Inv-loop μ-loop
 unfolding textsOk
-returns-2 c =
+returns-3 c =
     let x = c .before .loop in
-    let i : length (c .before .before .args .t1) ≡ x .i = search needs in
+    let i : length (c .before .before .before .before .args .t1) ≡ x .i = search needs in
     sym (x .inv .1 ∙ rw (← i, drop-length))
 
 pub keys-ok-spec : {M : Type 1} → statement M
@@ -58,6 +58,10 @@ keys-ok-spec =
     (tie.spec
     Inv-loop
     μ-loop
+    -- are-plain-requires
+    (λ c κs. search needs)
+    -- returns
+    (λ c. sym (c .before .are-plain .ensures (c .if1 .taken)))
     -- loop-holds
     (λ c. search needs)
     -- mul-k
@@ -66,13 +70,13 @@ keys-ok-spec =
     (λ c. search needs)
     -- short-ok-requires
     (λ c κs. search needs)
-    -- returns
-    returns
+    -- returns-2
+    returns-2
     -- add-i
     (λ c. search needs)
     -- loop-less
     (λ c. search needs)
     -- loop-again
     loop-again
-    -- returns-2
-    returns-2)
+    -- returns-3
+    returns-3)
