@@ -175,16 +175,16 @@ fn raw_key(k: ShortText) -> RawKey
     }
 }
 
-// Two tab stops at a time, twelve a turn: so the machine copies sixteen at a time.
+// Two tab stops at a time, 22 a turn: so the machine copies sixteen at a time.
 fn raw_tabs(tabs: [bool; 132]) -> [u8; 132]
     ensures { λ r. ⌜ r ≡ map flag tabs ⌝ }
 {
     let mut t = [0u8; 132];
     let mut i = 0;
-    while i < 11 {
+    while i < 6 {
         let mut j = 0;
-        while j < 6 {
-            let at = 12 * i + 2 * j;
+        while j < 11 {
+            let at = 22 * i + 2 * j;
             t[at] = flag(tabs[at]);
             t[at + 1] = flag(tabs[at + 1]);
             j += 1;

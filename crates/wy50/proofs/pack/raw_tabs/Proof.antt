@@ -1,4 +1,4 @@
--- `wy50::pack::raw_tabs` meets its contract. The loops: the first 12 i and 2 j tab stops are translated.
+-- `wy50::pack::raw_tabs` meets its contract. The loops: the first 22 i and 2 j tab stops are translated.
 use mathlib.Core.Bool.{false}
 use mathlib.Core.Path.{_≡_}
 use Prim.Native.Nat.{_+_, _*_, _-_, _≤_, _<_}
@@ -11,16 +11,16 @@ use Rattle.wy50.proofs.pack.raw_tabs.Statement.{statement}
 use Rattle.wy50.proofs.pack.raw_tabs.Tie as tie
 
 abbrev Inv-loop2 : tie.InvT-loop2
-Inv-loop2 tabs t₀ i j₀ t j = Translated flag tabs t (12 * i + 2 * j) × (j ≤ 6)
+Inv-loop2 tabs t₀ i j₀ t j = Translated flag tabs t (22 * i + 2 * j) × (j ≤ 11)
 
 abbrev μ-loop2 : tie.MeasureT-loop2
-μ-loop2 tabs t₀ i j₀ t j = 6 - j
+μ-loop2 tabs t₀ i j₀ t j = 11 - j
 
 abbrev Inv-loop : tie.InvT-loop
-Inv-loop tabs t₀ i₀ t i = Translated flag tabs t (12 * i)
+Inv-loop tabs t₀ i₀ t i = Translated flag tabs t (22 * i)
 
 abbrev μ-loop : tie.MeasureT-loop
-μ-loop tabs t₀ i₀ t i = 11 - i
+μ-loop tabs t₀ i₀ t i = 6 - i
 
 pub raw-tabs-spec : {M : Type 1} → statement M
 raw-tabs-spec =
@@ -69,7 +69,7 @@ raw-tabs-spec =
     let x = l .before .loop in
     let tabs = l .before .before .args .t1 in
     let n : length tabs ≡ 132 = search needs in
-    let k = 12 * x .i + 2 * y .j in
+    let k = 22 * x .i + 2 * y .j in
     let h : k + 1 < length tabs = omega (arith, n, l .loop-test .taken, c .before .before .loop2-test .taken) in
     let first = go flag _ (y .t) k false (y .inv .0) (omega (arith, h)) (c .before .flag .ensures) in
     (at flag _ _ _ _ (omega arith) (go flag _ _ (k + 1) false first h (c .flag2 .ensures)), search needs))
@@ -83,4 +83,4 @@ raw-tabs-spec =
     (λ c.
     let tabs = c .before .before .args .t1 in
     let n : length tabs ≡ 132 = search needs in
-    finish flag _ _ (12 * c .before .loop .i) (c .before .loop .inv) (omega (arith, n, c .loop-test .left))))
+    finish flag _ _ (22 * c .before .loop .i) (c .before .loop .inv) (omega (arith, n, c .loop-test .left))))
