@@ -6,6 +6,7 @@
 --     at-front, at-part, at-back               what stands before, in and behind a part that was changed
 --     filled-up                                a shift ends by a fill of the cells that come in
 --     put-start, put-turn, put-done            the loop that puts one number into cells
+--     block-filled, last-filled                a fill by blocks: one block more, and the last, which may overlap the one before
 --     left-turn, left-filled                   the loop of a shift to the left: a turn, and the fill after it
 --     right-turn, right-filled                 to the right
 --     left-one, right-one                      after the loop of a shift by one cell
@@ -196,6 +197,34 @@ module _ (a k v : ℕ) (p : List ℕ) (fits : a + k ≤ length p) where
         (λ c. j .below m (omega arith))
         (λ c. j .above m (omega arith) ∙ sym (at-back a (a + k) (filled false v) p (omega arith) fits size-filled m c))
         (lt-or-le m (a + k)))
+
+-- ---- a fill by blocks: below i it is done
+
+module _ (v : ℕ) (p : List ℕ) {i : ℕ} {l : List ℕ} (j : Joined i (filled false v p) p l) where
+  pub block-filled : (k : ℕ) → i + k ≤ length p → Joined (i + k) (filled false v p) p (within i (i + k) (filled false v) l)
+  block-filled k h =
+      let f = filled false v in
+      let fits : i + k ≤ length l = omega (arith, j .long) in
+      let s = length-filled false v (take (i + k - i) (drop i l)) in
+      record {
+        even = j .even;
+        long = length-within i (i + k) f l (omega arith) fits s ∙ j .long;
+        below = λ m b. ⊎-elim
+            (λ c. at-front i (i + k) f l (omega arith) fits s m c ∙ j .below m c)
+            (λ c.
+            let e : i + (m - i) ≡ m = omega arith in
+            rw e at (at-part i (i + k) f l (omega arith) fits s (m - i) (omega arith))
+            ∙ filled-at false v (take (i + k - i) (drop i l)) (m - i) (omega (arith, mid-len i (i + k) l fits))
+            ∙ sym (filled-at false v p m (omega arith)))
+            (lt-or-le m i);
+        above = λ m b. at-back i (i + k) f l (omega arith) fits s m b ∙ j .above m (omega arith);
+      }
+
+  pub last-filled : (a k : ℕ) → a ≤ i → a + k ≡ length p → within a (a + k) (filled false v) l ≡ filled false v p
+  last-filled a k h e =
+      filled-up a (a + k) v l (filled false v p) (omega arith) (omega (arith, j .long)) (j .long ∙ sym (j .even))
+      (λ m b. j .below m (omega arith)) (λ m b d. filled-at false v p m (omega arith))
+      (λ m b d. absurd (omega (arith, j .long)))
 
 -- ---- the loops of the shifts
 

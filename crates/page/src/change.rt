@@ -1,6 +1,6 @@
 // Changes of cells: fills, the shift by one cell, and the shift by rows.
 ghost use mathlib.Core.Path.{_≡_};
-ghost use mathlib.Core.Bool.{false};
+ghost use mathlib.Core.Bool.{true, false};
 ghost use mathlib.Core.Logic.{_⊎_};
 ghost use Prim.Native.Nat.{_+_, _-_, _*_, _<_, _≤_};
 ghost use lib.ListN.{length};
@@ -18,13 +18,67 @@ fn filled_cell(protect: bool, v: u16, value: u16) -> u16
     if is_guarded(protect, v) { v } else { value }
 }
 
-fn fill(part: &mut [u16], protect: bool, value: u16)
-    ensures { λ r. ⌜ now (part .exit) ≡ filled protect value (now (part .entry)) ⌝ }
+fn fill_open(part: &mut [u16], value: u16)
+    ensures { λ r. ⌜ now (part .exit) ≡ filled true value (now (part .entry)) ⌝ }
 {
     let mut i = 0;
     while i < part.len() {
-        part[i] = filled_cell(protect, part[i], value);
+        part[i] = filled_cell(true, part[i], value);
         i += 1;
+    }
+}
+
+// `count` cells from `from` on become `value`. Where the count is known when the program is built, this is a few stores.
+fn put_cells(part: &mut [u16], from: usize, count: usize, value: u16)
+    requires { ⌜ from + count ≤ length (now part) ⌝ }
+    ensures { λ r. ⌜ now (part .exit) ≡ within from (from + count) (filled false value) (now (part .entry)) ⌝ }
+{
+    let mut i = 0;
+    while i < count {
+        part[from + i] = value;
+        i += 1;
+    }
+}
+
+// Up to 32 cells: sixteen from the front and sixteen up to the end, which may overlap.
+fn fill_few(part: &mut [u16], value: u16)
+    requires { ⌜ length (now part) ≤ 32 ⌝ }
+    ensures { λ r. ⌜ now (part .exit) ≡ filled false value (now (part .entry)) ⌝ }
+{
+    let size = part.len();
+    if size < 16 {
+        put_cells(part, 0, size, value);
+        return;
+    }
+    put_cells(part, 0, 16, value);
+    put_cells(part, size - 16, 16, value);
+}
+
+// Blocks of 32 cells, the last of which ends where the part ends and may overlap the one before: no cells are left over.
+fn fill_all(part: &mut [u16], value: u16)
+    ensures { λ r. ⌜ now (part .exit) ≡ filled false value (now (part .entry)) ⌝ }
+{
+    let size = part.len();
+    if size < 32 {
+        fill_few(part, value);
+        return;
+    }
+    let last = size - 32;
+    let mut i = 0;
+    while i < last {
+        put_cells(part, i, 32, value);
+        i += 32;
+    }
+    put_cells(part, last, 32, value);
+}
+
+fn fill(part: &mut [u16], protect: bool, value: u16)
+    ensures { λ r. ⌜ now (part .exit) ≡ filled protect value (now (part .entry)) ⌝ }
+{
+    if protect {
+        fill_open(part, value);
+    } else {
+        fill_all(part, value);
     }
 }
 
@@ -61,18 +115,6 @@ pub fn fill_column(
     while row < bottom {
         fill_cell(page, protect, row * width + column, value);
         row += 1;
-    }
-}
-
-// `count` cells from `from` on become `value`. Where the count is known when the program is built, this is a few stores.
-fn put_cells(part: &mut [u16], from: usize, count: usize, value: u16)
-    requires { ⌜ from + count ≤ length (now part) ⌝ }
-    ensures { λ r. ⌜ now (part .exit) ≡ within from (from + count) (filled false value) (now (part .entry)) ⌝ }
-{
-    let mut i = 0;
-    while i < count {
-        part[from + i] = value;
-        i += 1;
     }
 }
 

@@ -1,55 +1,31 @@
--- `page::change::fill` meets its contract. The loop: below i the cells are filled, from i on they are as they were.
+-- `page::change::fill` meets its contract.
 use mathlib.Core.Path.{sym, ap, _∙_}
-use Prim.Native.Nat.{_-_, _≤_}
-use native.Mathlib.Omega.{arith}
+use mathlib.Core.Bool.{Bool}
 use borrow.Author.Needs.{needs}
 use denote.Ref.{now}
-use lib.ListN.{length}
-use Rattle.rules.specs.Change.{fillCell, filled}
-use Rattle.page.proofs.Loop.{Joined, joined-start, step-up, joined-all}
-use Rattle.page.proofs.Changes.{length-filled, filled-at}
+use Rattle.rules.specs.Change.{filled}
 use Rattle.page.proofs.change.fill.Statement.{statement}
 use Rattle.page.proofs.change.fill.Tie as tie
-
-abbrev Inv-loop : tie.InvT-loop
-Inv-loop part₀ protect value i₀ part i =
-    (i ≤ length part₀) × Joined i (filled protect value part₀) part₀ part
-
-abbrev μ-loop : tie.MeasureT-loop
-μ-loop part₀ protect value i₀ part i = length part₀ - i
 
 pub fill-spec : {M : Type 1} → statement M
 fill-spec =
     tie.close
     (tie.spec
-    Inv-loop
-    μ-loop
-    -- loop-holds
-    (λ c. let x = c .before .args in (omega arith, joined-start (length-filled (x .protect) (x .value) (now (x .part)))))
-    -- mul-filled-cell
-    (λ c. search needs)
-    -- slice-read-filled-cell
-    (λ c. search needs)
-    -- filled-cell-requires
+    -- fill-open-requires
     (λ c κs. search needs)
-    -- mul-part
-    (λ c. search needs)
-    -- slice-write-part
-    (λ c. search needs)
-    -- add-i
-    (λ c. search needs)
-    -- loop-less
-    (λ c. search needs)
-    -- loop-again
-    (λ c.
-    let x = c .before .before .before .before .before .args in
-    let l = c .before .before .before .loop in
-    let j = l .inv .1 in (
-      omega arith,
-      step-up j (omega arith) (c .filled-cell .ensures ∙ ap (fillCell (x .protect) (x .value)) (j .above (l .i) (omega arith))
-          ∙ sym (filled-at (x .protect) (x .value) (now (x .part)) (l .i) (omega arith))),
-    ))
+    -- fill-all-requires
+    (λ c κs. search needs)
     -- same-length
     (λ c. search needs)
     -- returns
-    (λ c. joined-all (c .before .loop .inv .1) (omega arith)))
+    (λ c.
+    let x = c .before .before .before .before .before .before .args in
+    let on = c .before .before .before .before .if1 .taken in
+    c .before .before .fill-open .ensures ∙ sym (ap (λ (b : Bool). filled b (x .value) (now (x .part))) on))
+    -- same-length-2
+    (λ c. search needs)
+    -- returns-2
+    (λ c.
+    let x = c .before .before .before .before .before .before .args in
+    let off = c .before .before .before .before .if1 .left in
+    c .before .before .fill-all .ensures ∙ sym (ap (λ (b : Bool). filled b (x .value) (now (x .part))) off)))
