@@ -2,7 +2,6 @@
 --     powered-on, power-on-refused, step-refused, run-refused     power-on; a bad page or state
 --     nothing-taken     a run that takes nothing and replies nothing
 --     run-none, run-sent, run-on     inside a send, without room, where it is not over or is the event, and where the bytes come behind it
---     same-core         a call that leaves the core
 --     one-byte          the run over one byte to the first event is the single step
 --     text-sent, text-refused     a text put to the front of the room
 --     unprogrammed, programmed     what a key sends
@@ -12,7 +11,7 @@
 -- Assumes nothing.
 use mathlib.Core.Path.{_≡_, refl, sym, ap, ap₂, subst, _∙_}
 use mathlib.Core.Bool.{Bool, true, false, false≢true}
-use mathlib.Core.List.{List, [], _∷_, _++_, append-nil, append-assoc}
+use mathlib.Core.List.{List, [], _∷_, _++_, append-nil}
 use Prim.Native.Nat.{ℕ, zero, suc, _+_, _-_, _<_, _≤_}
 use native.Mathlib.Nat.{le-of-lt, sub-zero}
 use native.Mathlib.Omega.{arith}
@@ -32,9 +31,7 @@ use Rattle.rules.specs.declared.RunResult.{RunResult}
 use Rattle.rules.specs.declared.PressResult.{PressResult}
 use Rattle.rules.specs.Cell.{pick, both, either}
 use Rattle.rules.specs.Change.{within, filled}
-use Rattle.rules.specs.Search.{guardedAt}
-use Rattle.rules.specs.RowList.{Beside}
-use Rattle.rules.specs.State.{number, widthOf, pageLength, shortBytes, keyPlace, sends, withSending}
+use Rattle.rules.specs.State.{number, pageLength, shortBytes, keyPlace, sends, withSending}
 use Rattle.rules.specs.Arguments.{isKey}
 use Rattle.rules.specs.Slot.{allText, textOk}
 use Rattle.rules.specs.Possible.{powerOn, blank, screenOk, sendingOk, good}
@@ -54,7 +51,7 @@ use Rattle.carry.specs.Went.{Went}
 use Rattle.terminal.specs.Promise.{PoweredOn, Stepped, Completed, sending, KeySent}
 use Rattle.terminal.specs.Loop.{stateOf, ranTo, callTo}
 use Rattle.terminal.proofs.Carrying.{over-none}
-use Rattle.terminal.proofs.Loop.{run-rests, lentTail, backTail, tail-lent, tail-back}
+use Rattle.terminal.proofs.Loop.{runBehind, run-rests}
 
 -- ---- power-on
 
@@ -194,7 +191,7 @@ module _ (p : List ℕ) (s : State) (g : good p s ≡ true) where
     pub went-fits : n ≤ length w
     went-fits = omega (arith, x .replied, sent-fits p (s .core) (s .sending) (length w))
 
-    went-long : length w₁ ≡ length w
+    pub went-long : length w₁ ≡ length w
     unfolding over
     went-long =
         ap length (x .room)
@@ -234,13 +231,7 @@ module _ (p : List ℕ) (s : State) (g : good p s ≡ true) where
           within = omega arith;
         })
 
-    pub back-long : (part : List ℕ) → length part ≡ length (lentTail n w₁) → length (backTail n w₁ part) ≡ length w
-    unfolding over
-    back-long part e =
-        ap length (tail-back n w₁ part) ∙ (length-append (take n w₁) part
-        ∙ omega (arith, length-take-le n w₁ (omega (arith, went-fits, went-long)), length-drop n w₁, e ∙ ap length (tail-lent n w₁), went-long, went-fits))
-
-    -- it is: the bytes come behind it
+    -- it is over: the bytes come behind it
     front-is : take n w₁ ≡ sentBy (length w)
     unfolding over
     front-is = ap (take n) (x .room) ∙ take-at (sentBy (length w)) _ n went-size
@@ -249,55 +240,54 @@ module _ (p : List ℕ) (s : State) (g : good p s ≡ true) where
     unfolding over
     rest-is = ap (drop n) (x .room) ∙ (drop-at (sentBy (length w)) _ n went-size ∙ ap (λ (k : ℕ). drop k w) went-size)
 
-    lent-size : length (lentTail n w₁) ≡ length w - length (sentBy (length w))
-    lent-size = ap length (tail-lent n w₁ ∙ rest-is) ∙ (length-drop n w ∙ ap (λ (k : ℕ). length w - k) (x .replied))
+    abbrev bytes : Bool → List ℕ → Ran
+    bytes stop l = ranTo stop l p (stateOf (s .core) (s .gathered) (s .setup)) (length w₁ - n)
 
-    pub run-on : (stop : Bool) {r : RunResult} {l p′ part : List ℕ} → either (sends y) (both stop (sends (s .sending))) ≡ false
-        → Completed (ranTo stop l p (stateOf (s .core) (s .gathered) (s .setup)) (length (lentTail n w₁))) r l p′ (lentTail n w₁) part
-        → Completed (callTo stop p s l (length w)) (record { answer = r .answer; taken = r .taken; replied = n + r .replied; refused = r .refused; state = r .state }) l
-        p′ w (backTail n w₁ part)
+    on-call : (stop : Bool) (l : List ℕ) → either (sends y) (both stop (sends (s .sending))) ≡ false
+        → callTo stop p s l (length w) ≡ runBehind stop p (s .core) (s .gathered) (s .setup) l w₁ n
+    on-call stop l done =
+        let none : leftBy (length w) ≡ Sending.Nothing = sym (x .left) ∙ not-sending y (either-left (sends y) _ done) in
+        let room : length w - length (sentBy (length w)) ≡ length w₁ - n = omega (arith, went-long, x .replied) in
+        call-behind stop l (length w) h (either-right (sends y) _ done)
+        ∙ (ap (λ (z : Sending). behind (sentBy (length w)) (ranTo stop l p (withSending s z) (length w - length (sentBy (length w))))) none
+        ∙ ap₂ (λ (a : List ℕ) (k : ℕ). behind a (ranTo stop l p (stateOf (s .core) (s .gathered) (s .setup)) k)) (sym front-is) room)
+
+    -- the room behind the replies
+    on-rest : (stop : Bool) (l : List ℕ)
+        → drop (length (take n w₁ ++ bytes stop l .reply)) w₁ ≡ drop (length (take n w₁ ++ bytes stop l .reply)) w
+    on-rest stop l =
+        let j = length (bytes stop l .reply) in
+        let size : length (take n w₁ ++ bytes stop l .reply) ≡ n + j =
+        length-append (take n w₁) (bytes stop l .reply) ∙ ap (λ (k : ℕ). k + j) (length-take-le n w₁ (omega (arith, went-fits, went-long))) in
+        rw size (sym (drop-drop j n w₁) ∙ (ap (drop j) rest-is ∙ drop-drop j n w))
+
+    pub run-on : (stop : Bool) {r : RunResult} {l p′ w′ : List ℕ} → either (sends y) (both stop (sends (s .sending))) ≡ false
+        → Completed (runBehind stop p (s .core) (s .gathered) (s .setup) l w₁ n) r l p′ w₁ w′ → Completed (callTo stop p s l (length w)) r l p′ w w′
     unfolding behind over
-    run-on stop {r} {l} {p′} {part} done k =
-        let z : leftBy (length w) ≡ Sending.Nothing = sym (x .left) ∙ not-sending y (either-left (sends y) _ done) in
-        let o = ranTo stop l p (stateOf (s .core) (s .gathered) (s .setup)) (length w - length (sentBy (length w))) in
-        let q : Completed o r l p′ (lentTail n w₁) part =
-        subst (λ (m : ℕ). Completed (ranTo stop l p (stateOf (s .core) (s .gathered) (s .setup)) m) r l p′ (lentTail n w₁) part) lent-size k in
-        let put : part ≡ o .reply ++ drop (length (o .reply)) (drop n w) = q .room ∙ ap (λ (v : List ℕ). o .reply ++ drop (length (o .reply)) v) (tail-lent n w₁ ∙ rest-is) in
-        let m : n + length (o .reply) ≡ length (sentBy (length w) ++ o .reply) = omega (arith, x .replied, length-append (sentBy (length w)) (o .reply)) in
-        rw (call-behind stop l (length w) h (either-right (sends y) _ done), z) (record {
-          answer = q .answer;
-          taken = q .taken;
-          replied = omega (arith, x .replied, q .replied, length-append (sentBy (length w)) (o .reply));
-          refused = q .refused;
-          rest = q .rest;
-          state = q .state;
-          page = q .page;
-          room = tail-back n w₁ part ∙ (ap₂ (λ (a b : List ℕ). a ++ b) front-is put ∙ (sym (append-assoc (sentBy (length w)) (o .reply) _)
-              ∙ ap (λ (v : List ℕ). (sentBy (length w) ++ o .reply) ++ v)
-              (drop-drop (length (o .reply)) n w ∙ ap (λ (k : ℕ). drop k w) m)));
-          fits = omega (arith, q .fits, lent-size, went-fits, x .replied);
-          within = q .within;
+    run-on stop {r} {l} {p′} {w′} done k =
+        rw (on-call stop l done) (record {
+          answer = k .answer;
+          taken = k .taken;
+          replied = k .replied;
+          refused = k .refused;
+          rest = k .rest;
+          state = k .state;
+          page = k .page;
+          room = k .room ∙ ap (λ (v : List ℕ). (take n w₁ ++ bytes stop l .reply) ++ v) (on-rest stop l);
+          fits = omega (arith, k .fits, went-long);
+          within = k .within;
         })
 
 -- outside a send nothing is sent
-pub none-went : (p : List ℕ) (s : State) (w : List ℕ) → s .sending ≡ Sending.Nothing → Went p (s .core) (s .sending) w 0 Sending.Nothing w
+pub none-went : (p : List ℕ) (c : Core) (x : Sending) (w : List ℕ) → x ≡ Sending.Nothing → Went p c x w 0 Sending.Nothing w
 unfolding sentFrom leftFrom places bytesOf beyond standing
-none-went p s w e =
-    subst (λ (y : Sending). Went p (s .core) y w 0 Sending.Nothing w) (sym e)
+none-went p c x w e =
+    subst (λ (y : Sending). Went p c y w 0 Sending.Nothing w) (sym e)
     (record { replied = ap length (sym (take-nil (length w))); room = over-none w ∙ ap (λ (l : List ℕ). over l w) (sym (take-nil (length w))); left = refl })
-
--- a result by another name
-pub ran-is : {o : Ran} {r r′ : RunResult} {l p w w′ : List ℕ} → r ≡ r′ → Completed o r′ l p w w′ → Completed o r l p w w′
-ran-is {o} {l = l} {p = p} {w = w} {w′ = w′} e h = subst (λ (x : RunResult). Completed o x l p w w′) (sym e) h
 
 -- past the test for a send without room there is room in a send
 pub has-room : (t : Bool) (n : ℕ) → both t (eqb n 0) ≡ false → t ≡ true → 0 < n
 has-room t n e u = omega (arith, eqb-false n 0 (ap (λ (z : Bool). both z (eqb n 0)) (sym u) ∙ e))
-
--- the row list beside the page where the core is the one before
-pub same-core : (r s : State) (p : List ℕ) {l : List ℕ} → r .core ≡ s .core → Beside (widthOf (s .core .screen)) (guardedAt (s .core .modes .protect) p) l
-    → Beside (widthOf (r .core .screen)) (guardedAt (r .core .modes .protect) p) l
-same-core r s p {l} e b = subst (λ (d : Core). Beside (widthOf (d .screen)) (guardedAt (d .modes .protect) p) l) (sym e) b
 
 -- ---- the single step
 

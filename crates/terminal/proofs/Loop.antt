@@ -3,17 +3,18 @@
 --     nothing-made     a change of nothing
 --     event-ends, event-answer, no-event     the test for an event to stop at
 --     tail-lent, tail-none, tail-back     the rest of the room, as it is lent and when it is back
+--     ran-is     a result by another name
 --     begin, stops, go, halt, finish     the loop's start, a byte that answers 6, any other byte, one to stop behind, the end of the input
 --     ready     what the loop hands to the inner step meets what that asks
 --     page-size, room-size, back-size     the page and the room keep their lengths
---     stop-beside, go-beside, ended-beside     the row list after a byte, and after the loop
+--     stop-beside, go-beside, ended-beside     the row list after a byte, and after the run
 --     more-replied, more-refused     the counts stay within the lengths of the room and of the input
 -- Assumes nothing.
 use mathlib.Core.Path.{_≡_, refl, sym, ap, ap₂, subst, subst₂, _∙_}
 use mathlib.Core.Bool.{Bool, true, false, false≢true}
 use mathlib.Core.List.{List, [], _∷_, _++_, append-assoc, append-nil}
 use Prim.Native.Nat.{ℕ, suc, _+_, _-_, _<_, _≤_, zero-le}
-use native.Mathlib.Nat.{add-zero, sub-zero}
+use native.Mathlib.Nat.{add-zero, zero-add}
 use native.Mathlib.Numerals.{add-one}
 use native.Mathlib.Omega.{arith}
 use lib.Dec.{eqb}
@@ -28,6 +29,7 @@ use Rattle.rules.specs.declared.Change.{Change}
 use Rattle.rules.specs.declared.Change.the-variants as Change
 use Rattle.rules.specs.declared.Setup.{Setup}
 use Rattle.rules.specs.declared.State.{State}
+use Rattle.rules.specs.declared.RunResult.{RunResult}
 use Rattle.rules.specs.declared.Sending.{Sending}
 use Rattle.rules.specs.declared.Sending.the-variants as Sending
 use Rattle.rules.specs.declared.SetupChange.the-variants as SetupChange
@@ -40,7 +42,7 @@ use Rattle.rules.specs.Possible.{screenOk, pendingOk, good}
 use Rattle.rules.specs.Carry.{Effect}
 use Rattle.rules.specs.Step.{Outcome, innerRule, stepRule}
 use Rattle.rules.specs.Room.{over}
-use Rattle.rules.specs.Calls.{Ran, ended, refusal, joined, repeated}
+use Rattle.rules.specs.Calls.{Ran, ended, behind, refusal, joined, repeated}
 use Rattle.rules.specs.Next.{isEvent, tells}
 use Rattle.rules.specs.Steps.{preceded}
 use Rattle.rules.specs.Left.{leaves}
@@ -50,13 +52,12 @@ use Rattle.rules.proofs.Left.{step-left}
 use Rattle.rules.proofs.Numbers.{remembered-below}
 use Rattle.rules.proofs.Sends.{not-sending}
 use Rattle.rules.proofs.Next.{to-done, to-event, to-go, event-six, event-taken, begun-tells}
-use Rattle.rules.proofs.Run.{run-waits, run-stop, run-go, run-done, preceded-none, preceded-joined}
+use Rattle.rules.proofs.Run.{run-waits, run-stop, run-go, run-done, preceded-joined}
 use Rattle.page.proofs.RowList.{beside-is}
 use Rattle.carry.specs.Carried.{Carried}
 use Rattle.carry.specs.Rows.{BesideAfter}
-use Rattle.terminal.specs.declared.bytes.Ended.{Ended}
 use Rattle.terminal.specs.Promise.{Completed}
-use Rattle.terminal.specs.Loop.{isNothing, stateWith, stateOf, ranTo, resultOf, Looped}
+use Rattle.terminal.specs.Loop.{isNothing, stateWith, stateOf, ranTo}
 use Rattle.terminal.proofs.Carrying.{over-none}
 
 -- ---- the step of the rules, by the effect of the inner step
@@ -173,8 +174,9 @@ front n w w₀ h e =
 
 -- ---- the loop
 
-looped-is : {o : Ran} {l w p′ w′ : List ℕ} {r r′ : Ended} → r ≡ r′ → Completed o (resultOf r′) l p′ w w′ → Completed o (resultOf r) l p′ w w′
-looped-is {o} {l} {w} {p′} {w′} e h = subst (λ (x : Ended). Completed o (resultOf x) l p′ w w′) (sym e) h
+-- a result by another name
+pub ran-is : {o : Ran} {r r′ : RunResult} {l p w w′ : List ℕ} → r ≡ r′ → Completed o r′ l p w w′ → Completed o r l p w w′
+ran-is {o} {l = l} {p = p} {w = w} {w′ = w′} e h = subst (λ (x : RunResult). Completed o x l p w w′) (sym e) h
 
 -- a run that ended where it stands, i bytes taken, n bytes replied, f bytes refused
 ended-there : {o : Ran} {s : State} {input w₀ p w : List ℕ} {i n f : ℕ} {x : Answer} {rest : List ℕ} → drop i input ≡ rest → n ≤ length w → n ≤ length w₀
@@ -195,8 +197,8 @@ ended-there {s = s} {input = input} {w₀ = w₀} {p = p} {w = w} {i = i} {n = n
       within = within;
     })
 
--- s₀ and p₀ are the state and the page at the start, w₀ the room; i bytes are taken, n bytes replied and f bytes refused
-pub record Running (stop : Bool) (p₀ : List ℕ) (s₀ : State) (input w₀ p w : List ℕ) (c : Core) (g : List ℕ) (u : Setup) (i n f : ℕ) : Type 0 where
+-- o₀ is the whole run, p₀ the page and w₀ the room before the bytes; i bytes are taken, n bytes replied and f bytes refused
+pub record Running (stop : Bool) (p₀ : List ℕ) (o₀ : Ran) (input w₀ p w : List ℕ) (c : Core) (g : List ℕ) (u : Setup) (i n f : ℕ) : Type 0 where
   pub within : i ≤ length input
   pub used : n ≤ length w₀
   pub few : f ≤ i
@@ -204,23 +206,28 @@ pub record Running (stop : Bool) (p₀ : List ℕ) (s₀ : State) (input w₀ p 
   pub long : length p ≡ length p₀
   pub size : length w ≡ length w₀
   pub untouched : drop n w ≡ drop n w₀
-  pub same : ranTo stop input p₀ s₀ (length w₀) ≡ preceded i f (take n w) (ranTo stop (drop i input) p (stateOf c g u) (length w₀ - n))
+  pub same : o₀ ≡ preceded i f (take n w) (ranTo stop (drop i input) p (stateOf c g u) (length w₀ - n))
 
-pub begin : (stop : Bool) (p : List ℕ) (c : Core) (g : List ℕ) (u : Setup) (input w : List ℕ) → good p (stateOf c g u) ≡ true
-    → Running stop p (stateOf c g u) input w p w c g u 0 0 0
-begin stop p c g u input w k = record {
+-- the run over the bytes behind a reply of n bytes, which stands at the front of w
+abbrev pub runBehind : Bool → List ℕ → Core → List ℕ → Setup → List ℕ → List ℕ → ℕ → Ran
+runBehind stop p c g u input w n = behind (take n w) (ranTo stop input p (stateOf c g u) (length w - n))
+
+pub begin : (stop : Bool) (p : List ℕ) (c : Core) (g : List ℕ) (u : Setup) (input w : List ℕ) (n : ℕ) → good p (stateOf c g u) ≡ true → n ≤ length w
+    → Running stop p (runBehind stop p c g u input w n) input w p w c g u 0 n 0
+unfolding behind
+begin stop p c g u input w n k h = record {
   within = zero-le;
-  used = zero-le;
+  used = h;
   few = zero-le;
   fine = k;
   long = refl;
   size = refl;
   untouched = refl;
-  same = rw sub-zero (preceded-none (ranTo stop input p (stateOf c g u) (length w)));
+  same = simp zero-add;
 }
 
-module _ {stop : Bool} {p₀ : List ℕ} {s₀ : State} {input w₀ p w : List ℕ} {c : Core} {g : List ℕ} {u : Setup} {i n f : ℕ}
-    (R : Running stop p₀ s₀ input w₀ p w c g u i n f) where
+module _ {stop : Bool} {p₀ : List ℕ} {o₀ : Ran} {input w₀ p w : List ℕ} {c : Core} {g : List ℕ} {u : Setup} {i n f : ℕ}
+    (R : Running stop p₀ o₀ input w₀ p w c g u i n f) where
   abbrev s : State
   s = stateOf c g u
 
@@ -244,15 +251,15 @@ module _ {stop : Bool} {p₀ : List ℕ} {s₀ : State} {input w₀ p w : List �
 
   -- the loop ends here with the answer x
   ending : (x : Answer) (rest : List ℕ) → drop i input ≡ rest → ranTo stop rest p s (length w₀ - n) ≡ ended p s (number x) rest
-      → Completed (ranTo stop input p₀ s₀ (length w₀)) (record { answer = x; taken = i; replied = n; refused = f; state = s }) input p w₀ w
+      → Completed (o₀) (record { answer = x; taken = i; replied = n; refused = f; state = s }) input p w₀ w
   ending x rest e h =
       ended-there {x = x} {rest = rest} e room-size (R .used) (R .within) (R .untouched)
       (R .same ∙ ap (λ (l : List ℕ). preceded i f (take n w) (ranTo stop l p s (length w₀ - n))) e ∙ ap (preceded i f (take n w)) h)
 
-  pub finish : {z : Ended} → length input ≤ i
-      → z ≡ record { answer = Answer.Done; taken = i; replied = n; refused = f; core = c; sending = Sending.Nothing; gathered = g; setup = u }
-      → Looped stop p₀ s₀ input w₀ z p w
-  finish h result = looped-is result (ending Answer.Done [] (drop-of-length-le input h) (ran-done stop p s (length w₀ - n)))
+  pub finish : {z : RunResult} → length input ≤ i
+      → z ≡ record { answer = Answer.Done; taken = i; replied = n; refused = f; state = s }
+      → Completed o₀ z input p w₀ w
+  finish h result = ran-is result (ending Answer.Done [] (drop-of-length-le input h) (ran-done stop p s (length w₀ - n)))
 
   -- the next byte, on what is left of the room
   module _ (h : i < length input) {r : CoreResult} {p′ part : List ℕ}
@@ -285,9 +292,9 @@ module _ {stop : Bool} {p₀ : List ℕ} {s₀ : State} {input w₀ p w : List �
     cons = drop-cons input i 0 h
 
     -- it answers 6: the loop stops before it
-    pub stops : {z : Ended} → eqb (number (r .answer)) 6 ≡ true
-        → z ≡ record { answer = Answer.NoRoom; taken = i; replied = n; refused = f; core = c; sending = Sending.Nothing; gathered = g; setup = u }
-        → Looped stop p₀ s₀ input w₀ z p′ w′
+    pub stops : {z : RunResult} → eqb (number (r .answer)) 6 ≡ true
+        → z ≡ record { answer = Answer.NoRoom; taken = i; replied = n; refused = f; state = s }
+        → Completed o₀ z input p′ w₀ w′
     stops t result =
         let a6 : o .answer ≡ 6 = made .answer ∙ sym (S .answer) ∙ eqb-true _ _ t in
         let l = step-left p s b (length w₀ - n) (λ z. absurd (omega (arith, z, a6))) in
@@ -295,7 +302,7 @@ module _ {stop : Bool} {p₀ : List ℕ} {s₀ : State} {input w₀ p w : List �
         let none : part ≡ drop n w =
         S .room ∙ ap (λ (x : List ℕ). over x (drop n w)) (sym (made .reply) ∙ l .reply) ∙ sym (over-none (drop n w)) in
         let room : w′ ≡ w = back ∙ ap (λ (x : List ℕ). take n w ++ x) none ∙ take-append-drop n w in
-        looped-is result
+        ran-is result
         (rw (page, room) (ending Answer.NoRoom (b ∷ drop (suc i) input) cons (ran-six b (drop (suc i) input) p s (length w₀ - n) (R .fine) refl stop a6)))
 
     -- the row list after it
@@ -376,7 +383,7 @@ module _ {stop : Bool} {p₀ : List ℕ} {s₀ : State} {input w₀ p w : List �
 
       -- the run after the byte
       after : (q : Ran) → ranTo stop (b ∷ drop (suc i) input) p s (length w₀ - n) ≡ joined o q
-          → ranTo stop input p₀ s₀ (length w₀) ≡ preceded (i + 1) (f + m) (take (n + r .replied) w′) q
+          → o₀ ≡ preceded (i + 1) (f + m) (take (n + r .replied) w′) q
       after q e =
           R .same ∙ ap (λ (l : List ℕ). preceded i f (take n w) (ranTo stop l p s (length w₀ - n))) cons ∙ ap (preceded i f (take n w)) e
           ∙ preceded-joined i f (take n w) o q ∙ cc (reply, count)
@@ -386,7 +393,7 @@ module _ {stop : Bool} {p₀ : List ℕ} {s₀ : State} {input w₀ p w : List �
 
       -- no send is left, and no event to stop at: the loop goes on
       pub go : y ≡ Sending.Nothing → (stop ≡ true → isEvent (number (r .answer)) (r .replied) ≡ false)
-          → Running stop p₀ s₀ input w₀ p′ w′ (r .core) k v (i + 1) (n + r .replied) (f + m)
+          → Running stop p₀ o₀ input w₀ p′ w′ (r .core) k v (i + 1) (n + r .replied) (f + m)
       go none silent = record {
         within = omega (arith, h);
         used = used′;
@@ -425,25 +432,22 @@ module _ {stop : Bool} {p₀ : List ℕ} {s₀ : State} {input w₀ p w : List �
 
       -- it stops behind the byte
       pub halt : either (both stop (isEvent (number (r .answer)) (r .replied))) (sends y) ≡ true → {x : Answer} → x ≡ pick stop (r .answer) Answer.Done
-          → {z : Ended}
+          → {z : RunResult}
           → z ≡ record {
             answer = x;
             taken = i + 1;
             replied = n + r .replied;
             refused = f + m;
-            core = r .core;
-            sending = y;
-            gathered = k;
-            setup = v;
+            state = stateWith (r .core) y k v;
           }
-          → Looped stop p₀ s₀ input w₀ z p′ w′
+          → Completed o₀ z input p′ w₀ w′
       halt e {x} a result =
           let ends = ran-ends b (drop (suc i) input) p s (length w₀ - n) (R .fine) refl stop not-six (tells-so e) (left-so e) in
-          looped-is result
+          ran-is result
           (ended-there {x = x} refl (omega (arith, used′, size′)) used′ (omega (arith, h)) untouched′
           (after _ ends ∙ cc (turned, reached, answer-is a, add-one i)))
 
--- the row list of the core that the loop ends with
-pub ended-beside : (z : Ended) {c : Core} (p : List ℕ) {l : List ℕ} → z .core ≡ c → Beside (widthOf (c .screen)) (guardedAt (c .modes .protect) p) l
-    → Beside (widthOf (z .core .screen)) (guardedAt (z .core .modes .protect) p) l
+-- the row list of the core that a run ends with
+pub ended-beside : (z : RunResult) {c : Core} (p : List ℕ) {l : List ℕ} → z .state .core ≡ c → Beside (widthOf (c .screen)) (guardedAt (c .modes .protect) p) l
+    → Beside (widthOf (z .state .core .screen)) (guardedAt (z .state .core .modes .protect) p) l
 ended-beside z p {l} e b = subst (λ (d : Core). Beside (widthOf (d .screen)) (guardedAt (d .modes .protect) p) l) (sym e) b

@@ -13,8 +13,8 @@ use Rattle.rules.specs.declared.Core.{Core}
 use Rattle.rules.specs.declared.Decoded.{Decoded}
 use Rattle.rules.specs.declared.Pending.{Pending}
 use Rattle.rules.specs.declared.Setup.{Setup}
-use Rattle.rules.specs.declared.State.{State}
 use Rattle.rules.specs.Decode.{decodeRule}
+use Rattle.rules.specs.Calls.{Ran}
 use Rattle.rules.specs.Possible.{pendingOk}
 use Rattle.rules.specs.RowList.{Beside}
 use Rattle.rules.specs.Search.{guardedAt}
@@ -35,15 +35,15 @@ module _ {l : List ℕ} {q₀ : Pending} {i₀ : ℕ} where
   waits-range e begun = (omega arith, e)
   waits-range e (next t h low d) = (omega (arith, waits-range e t .0), omega (arith, h))
 
-module _ {stop : Bool} {p₀ : List ℕ} {s₀ : State} {input w₀ p w : List ℕ} {c : Core} {g : List ℕ} {u : Setup} {i₀ n f : ℕ} where
-  passing : Running stop p₀ s₀ input w₀ p w c g u i₀ n f → {q : Pending} {i : ℕ} → Waits input (c .pending) i₀ q i
-      → Running stop p₀ s₀ input w₀ p w (awaiting c q) g u i n f
+module _ {stop : Bool} {p₀ : List ℕ} {o₀ : Ran} {input w₀ p w : List ℕ} {c : Core} {g : List ℕ} {u : Setup} {i₀ n f : ℕ} where
+  passing : Running stop p₀ o₀ input w₀ p w c g u i₀ n f → {q : Pending} {i : ℕ} → Waits input (c .pending) i₀ q i
+      → Running stop p₀ o₀ input w₀ p w (awaiting c q) g u i n f
   passing R begun = R
   passing R (next {q} {r} {i} t h low d) = waited (i + 1) r (passing R t) refl (omega (arith, h)) low d
 
   -- d is the core behind them
-  pub passed : {j : ℕ} → Resumed stop p₀ s₀ input w₀ p w c g u i₀ n f j → {q : Pending} {i : ℕ} {d : Core} → Waits input (c .pending) i₀ q i → d ≡ awaiting c q
-      → Resumed stop p₀ s₀ input w₀ p w d g u i n f j
+  pub passed : {j : ℕ} → Resumed stop p₀ o₀ input w₀ p w c g u i₀ n f j → {q : Pending} {i : ℕ} {d : Core} → Waits input (c .pending) i₀ q i → d ≡ awaiting c q
+      → Resumed stop p₀ o₀ input w₀ p w d g u i n f j
   passed r t e =
       let k = waits-range (r .left) t in
       record { running = rw e (passing (r .running) t); from = omega (arith, r .from, k .0); left = k .1 }

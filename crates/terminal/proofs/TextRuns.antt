@@ -24,12 +24,12 @@ use Rattle.rules.specs.declared.Pending.{Pending}
 use Rattle.rules.specs.declared.Pending.the-variants as Pending
 use Rattle.rules.specs.declared.Screen.{Screen}
 use Rattle.rules.specs.declared.Setup.{Setup}
-use Rattle.rules.specs.declared.State.{State}
 use Rattle.rules.specs.declared.Write.{Write}
 use Rattle.rules.specs.declared.Write.the-variants as Write
 use Rattle.rules.specs.Cell.{pick, guarded, written}
 use Rattle.rules.specs.Row.{Width, columns, rowStart, rowEnd}
 use Rattle.rules.specs.Search.{guardedAt}
+use Rattle.rules.specs.Calls.{Ran}
 use Rattle.rules.specs.State.{Inside, pageLength, unchanged, segmentStart, segmentEnd, segmentTop, segmentBottom, cursorOf, withCursor, withScreen, awaiting, idle}
 use Rattle.rules.specs.Step.{innerRule}
 use Rattle.rules.specs.Decode.{argumentRule, decodeRule, idleRule, escapeRule, lookup}
@@ -186,10 +186,10 @@ module _ {z : Run} {l : List ℕ} {at₀ i₀ : ℕ} {p₀ : List ℕ} where
 same-room : (n : ℕ) (w : List ℕ) → backTail n w (lentTail n w) ≡ w
 same-room n w = tail-back n w (lentTail n w) ∙ ap (λ (l : List ℕ). take n w ++ l) (tail-lent n w) ∙ take-append-drop n w
 
-module _ {stop : Bool} {p₀ : List ℕ} {s₀ : State} {input w₀ : List ℕ} {g : List ℕ} {u : Setup} {n f : ℕ} {w : List ℕ} where
-  pub turn : {p : List ℕ} {c : Core} {i : ℕ} (j : ℕ) → Running stop p₀ s₀ input w₀ p w c g u i n f → j ≡ i + 1 → j ≤ length input
+module _ {stop : Bool} {p₀ : List ℕ} {o₀ : Ran} {input w₀ : List ℕ} {g : List ℕ} {u : Setup} {n f : ℕ} {w : List ℕ} where
+  pub turn : {p : List ℕ} {c : Core} {i : ℕ} (j : ℕ) → Running stop p₀ o₀ input w₀ p w c g u i n f → j ≡ i + 1 → j ≤ length input
       → {p′ : List ℕ} {c′ : Core} → ((room : ℕ) → innerRule p c (u .tabs) (getD input i 0) room ≡ effect 0 c′ unchanged p′ [])
-      → Running stop p₀ s₀ input w₀ p′ w c′ g u j n f
+      → Running stop p₀ o₀ input w₀ p′ w c′ g u j n f
   turn {p} {c} {i} j R e h {p′} {c′} E =
       let q = lentTail n w in
       let m = nothing-made unchanged g u refl in
@@ -198,9 +198,9 @@ module _ {stop : Bool} {p₀ : List ℕ} {s₀ : State} {input w₀ : List ℕ} 
       rw (same-room n w, add-zero n, add-zero f, sym e) at G
 
   -- a byte that is awaited, and leaves q under way
-  pub waited : {p : List ℕ} {c : Core} {i : ℕ} (j : ℕ) (q : Pending) → Running stop p₀ s₀ input w₀ p w c g u i n f → j ≡ i + 1 → j ≤ length input
+  pub waited : {p : List ℕ} {c : Core} {i : ℕ} (j : ℕ) (q : Pending) → Running stop p₀ o₀ input w₀ p w c g u i n f → j ≡ i + 1 → j ≤ length input
       → getD input i 0 < 128 → decodeRule (c .pending) (getD input i 0) ≡ Decoded.Wait q
-      → Running stop p₀ s₀ input w₀ p w (awaiting c q) g u j n f
+      → Running stop p₀ o₀ input w₀ p w (awaiting c q) g u j n f
   waited {p} {c} {i} j q R e h low d =
       let k = ready R in
       turn j R e h (λ room. waits p c (k .0) (k .1 .0) (u .tabs) room (getD input i 0) q low d)
@@ -243,11 +243,11 @@ acts-is e f a = rw (e, f) a
 
 -- ---- a run
 
-module _ {stop : Bool} {p₀ : List ℕ} {s₀ : State} {input w₀ : List ℕ} {g : List ℕ} {u : Setup} {n f : ℕ} {w : List ℕ} where
+module _ {stop : Bool} {p₀ : List ℕ} {o₀ : Ran} {input w₀ : List ℕ} {g : List ℕ} {u : Setup} {n f : ℕ} {w : List ℕ} where
   -- an act from a core d, where nothing is under way
-  act : (d : Core) {p : List ℕ} {i m k : ℕ} {y : Write} → Running stop p₀ s₀ input w₀ p w d g u i n f → d .pending ≡ Pending.Idle
+  act : (d : Core) {p : List ℕ} {i m k : ℕ} {y : Write} → Running stop p₀ o₀ input w₀ p w d g u i n f → d .pending ≡ Pending.Idle
       → Acts (runOf d) input i p (cursorOf (d .screen)) m y k → i + m ≤ length input → k < segmentEnd (d .screen)
-      → Running stop p₀ s₀ input w₀ (applied (runWidth (runOf d)) (d .modes .protect) y p) w (textCore d k) g u (i + m) n f
+      → Running stop p₀ o₀ input w₀ (applied (runWidth (runOf d)) (d .modes .protect) y p) w (textCore d k) g u (i + m) n f
   unfolding decodeRule argumentRule idleRule escapeRule lookup applied
   act d {p} {i} R quiet (stores {v} e s q) h k =
       let r = ready R in
@@ -287,9 +287,9 @@ module _ {stop : Bool} {p₀ : List ℕ} {s₀ : State} {input w₀ : List ℕ} 
       edits-on p (awaiting d Pending.Escape) (t .0) (t .1 .0) (u .tabs) room (getD input (i + 1) 0) k y refl s l)
 
   -- a run from a core c
-  module _ (c : Core) (quiet : c .pending ≡ Pending.Idle) {p : List ℕ} {i₀ : ℕ} (R : Running stop p₀ s₀ input w₀ p w c g u i₀ n f) where
+  module _ (c : Core) (quiet : c .pending ≡ Pending.Idle) {p : List ℕ} {i₀ : ℕ} (R : Running stop p₀ o₀ input w₀ p w c g u i₀ n f) where
     typed-run : {at i : ℕ} {p′ : List ℕ} → Typed (runOf c) input (cursorOf (c .screen)) i₀ p at i p′
-        → Running stop p₀ s₀ input w₀ p′ w (textCore c at) g u i n f
+        → Running stop p₀ o₀ input w₀ p′ w (textCore c at) g u i n f
     typed-run none = rw (text-same c quiet) R
     typed-run (acted {at = at} {k = k} {w = y} {p = q} t a h l e) =
         let d = textCore c at in
@@ -299,13 +299,13 @@ module _ {stop : Bool} {p₀ : List ℕ} {s₀ : State} {input w₀ : List ℕ} 
         rw (page, sym (text-twice c at k)) G
 
 -- the loop after a run from the byte i₀ on: it goes on at the byte i
-pub record Resumed (stop : Bool) (p₀ : List ℕ) (s₀ : State) (input w₀ p w : List ℕ) (c : Core) (g : List ℕ) (u : Setup) (i n f i₀ : ℕ) : Type 0 where
-  pub running : Running stop p₀ s₀ input w₀ p w c g u i n f
+pub record Resumed (stop : Bool) (p₀ : List ℕ) (o₀ : Ran) (input w₀ p w : List ℕ) (c : Core) (g : List ℕ) (u : Setup) (i n f i₀ : ℕ) : Type 0 where
+  pub running : Running stop p₀ o₀ input w₀ p w c g u i n f
   pub from : i₀ ≤ i
   pub left : i ≤ length input
 
-module _ {stop : Bool} {p₀ : List ℕ} {s₀ : State} {input w₀ : List ℕ} {g : List ℕ} {u : Setup} {n f : ℕ} {w p : List ℕ} {c : Core} {i₀ : ℕ}
-    (R : Running stop p₀ s₀ input w₀ p w c g u i₀ n f) where
+module _ {stop : Bool} {p₀ : List ℕ} {o₀ : Ran} {input w₀ : List ℕ} {g : List ℕ} {u : Setup} {n f : ℕ} {w p : List ℕ} {c : Core} {i₀ : ℕ}
+    (R : Running stop p₀ o₀ input w₀ p w c g u i₀ n f) where
   pub text-range : i₀ ≤ length input → {at i : ℕ} {p′ : List ℕ} → TextRun c input i₀ p at i p′ → Range (runOf c) input i₀ p at i p′
   text-range h t = by (screen-inside (c .screen) (ready R .1 .0)) t
     where
@@ -314,11 +314,11 @@ module _ {stop : Bool} {p₀ : List ℕ} {s₀ : State} {input w₀ : List ℕ} 
       by s (typed quiet t) = typed-range t h (s .below)
 
   arriving : {at i : ℕ} {p′ : List ℕ} → i₀ ≤ length input → TextRun c input i₀ p at i p′
-      → Running stop p₀ s₀ input w₀ p′ w (pick (eqb i i₀) c (textCore c at)) g u i n f
+      → Running stop p₀ o₀ input w₀ p′ w (pick (eqb i i₀) c (textCore c at)) g u i n f
   arriving h still = rw (eq-eqb i₀ i₀ refl) R
   arriving {at} {i} {p′} h (typed quiet t) = by (eqb i i₀) refl
     where
-      by : (b : Bool) → eqb i i₀ ≡ b → Running stop p₀ s₀ input w₀ p′ w (pick b c (textCore c at)) g u i n f
+      by : (b : Bool) → eqb i i₀ ≡ b → Running stop p₀ o₀ input w₀ p′ w (pick b c (textCore c at)) g u i n f
       by true e =
           let s = typed-same t h (screen-inside (c .screen) (ready R .1 .0) .below) (eqb-true i i₀ e) in
           rw (ap (textCore c) (s .0) ∙ text-same c quiet) at (typed-run c quiet R t)
@@ -332,7 +332,7 @@ module _ {stop : Bool} {p₀ : List ℕ} {s₀ : State} {input w₀ : List ℕ} 
 
   -- d is the core after it
   pub resumed : {at i : ℕ} {p′ : List ℕ} {d : Core} → i₀ ≤ length input → TextRun c input i₀ p at i p′ → d ≡ pick (eqb i i₀) c (textCore c at)
-      → Resumed stop p₀ s₀ input w₀ p′ w d g u i n f i₀
+      → Resumed stop p₀ o₀ input w₀ p′ w d g u i n f i₀
   resumed h t e =
       let r = text-range h t in
       record { running = rw e (arriving h t); from = r .from; left = r .within }

@@ -2,7 +2,6 @@
 use mathlib.Core.Bool.{Bool, true, false, not}
 use mathlib.Core.List.{List}
 use Prim.Native.Nat.{ℕ}
-use lib.ListN.{length}
 use Rattle.rules.specs.declared.Core.{Core}
 use Rattle.rules.specs.declared.Setup.{Setup}
 use Rattle.rules.specs.declared.State.{State}
@@ -12,12 +11,9 @@ use Rattle.rules.specs.declared.Change.{Change}
 use Rattle.rules.specs.declared.Change.the-variants as Change
 use Rattle.rules.specs.declared.SetupChange.{SetupChange}
 use Rattle.rules.specs.declared.SetupChange.the-variants as SetupChange
-use Rattle.rules.specs.declared.RunResult.{RunResult}
 use Rattle.rules.specs.State.{sends}
 use Rattle.rules.specs.Calls.{Ran, repeated, runRule}
 use Rattle.rules.specs.Next.{toEvent, nextRule}
-use Rattle.terminal.specs.declared.bytes.Ended.{Ended}
-use Rattle.terminal.specs.Promise.{Completed}
 
 -- nothing changes beside the core
 abbrev pub keepsSetup : SetupChange → Bool
@@ -51,11 +47,3 @@ ranTo false l p s room = repeated l p s room
 abbrev pub callTo : Bool → List ℕ → State → List ℕ → ℕ → Ran
 callTo true p s l room = nextRule p s l room
 callTo false p s l room = runRule p s l room
-
--- the loop's result as a run's
-abbrev pub resultOf : Ended → RunResult
-resultOf r = record { answer = r .answer; taken = r .taken; replied = r .replied; refused = r .refused; state = stateWith (r .core) (r .sending) (r .gathered) (r .setup) }
-
--- p and w are the page and the room before the loop, p′ and w′ after it; l is the input
-abbrev pub Looped : Bool → List ℕ → State → List ℕ → List ℕ → Ended → List ℕ → List ℕ → Type 0
-Looped stop p s l w r p′ w′ = Completed (ranTo stop l p s (length w)) (resultOf r) l p′ w w′

@@ -1,32 +1,40 @@
-// The loop over host bytes on a good page and state. The core, the gathered bytes and the set-up are three locals: a byte is handed the
-// tab stops alone, and the others are touched only where a byte changes them.
+// The send under way and the loop over host bytes, on a good page and state. The core, the gathered bytes and the set-up are three locals: a byte
+// is handed the tab stops alone, and the others are touched only where a byte changes them. They are read from the state first and put into the
+// result last, in one function: the state is long, and each function between would copy it.
 ghost use mathlib.Core.Path.{_≡_};
 ghost use mathlib.Core.Bool.{true};
 ghost use lib.Dec.{eqb};
 ghost use lib.ListN.{length};
-ghost use Prim.Native.Nat.{_*_};
+ghost use Prim.Native.Nat.{_*_, _<_};
 ghost use Rattle.rules.specs.Row.{columns};
-ghost use Rattle.rules.specs.State.{number, widthOf};
-ghost use Rattle.rules.specs.Possible.{good};
+ghost use Rattle.rules.specs.State.{number, widthOf, pageLength, sends};
+ghost use Rattle.rules.specs.Possible.{screenOk, good};
+ghost use Rattle.rules.specs.Good.{GoodSend};
 ghost use Rattle.rules.specs.Search.{guardedAt};
 ghost use Rattle.rules.specs.RowList.{Beside};
 ghost use Rattle.rules.specs.Cell.{pick};
 ghost use Rattle.rules.specs.Calls.{refusal};
 ghost use Rattle.rules.specs.Next.{isEvent};
 ghost use Rattle.rules.specs.declared.Answer.the-variants as Answer;
-ghost use Rattle.terminal.specs.Loop.{keepsSetup, isNothing, stateOf, Looped};
+ghost use Rattle.carry.specs.Went.{Went};
+ghost use Rattle.terminal.specs.Loop.{keepsSetup, isNothing, stateWith, callTo};
+ghost use Rattle.terminal.specs.Promise.{Completed};
 ghost use Rattle.terminal.specs.Rows.{closedNone, Behind};
 use crate::inner::inner;
 use crate::runs::moved;
 use crate::runs::text;
 use crate::sequence::awaited;
+use carry::replies::send;
 use page::rows::rebuild;
+use page::text::Sent;
 use rules::Answer;
 use rules::Change;
 use rules::Core;
+use rules::RunResult;
 use rules::Sending;
 use rules::Setup;
 use rules::SetupChange;
+use rules::State;
 use state::core::awaiting;
 use state::logic::and;
 use state::logic::or;
@@ -35,18 +43,6 @@ use state::sending::sending_after;
 use state::setup::gathered_after;
 use state::setup::setup_after;
 use state::width::columns;
-
-// How a loop ended: its answer, its counts, and the state.
-pub struct Ended {
-    pub answer: Answer,
-    pub taken: usize,
-    pub replied: usize,
-    pub refused: usize,
-    pub core: Core,
-    pub sending: Sending,
-    pub gathered: [u8; 46],
-    pub setup: Setup,
-}
 
 fn is_no_room(a: Answer) -> bool
     ensures { λ r. ⌜ r ≡ eqb (number a) 6 ⌝ }
@@ -132,6 +128,31 @@ fn is_nothing(x: Change) -> bool
     }
 }
 
+// No room inside a send: 6, or 0 over no bytes.
+fn no_room(bytes: usize) -> Answer
+    ensures { λ r. ⌜ number r ≡ pick (eqb bytes 0) 0 6 ⌝ }
+{
+    if bytes == 0 {
+        Answer::Done
+    } else {
+        Answer::NoRoom
+    }
+}
+
+// The send under way goes on; outside a send there is none, and none is left.
+fn resume(page: &[u16], core: Core, sending: Sending, reply: &mut [u8]) -> Sent
+    requires { ⌜ (sends sending ≡ true → (length (now page) ≡ pageLength (core .screen)) × ((screenOk (core .screen) ≡ true) × (GoodSend (core .screen) sending × (0 < length (now reply))))) ⌝ }
+    ensures { λ r. ⌜ Went (now (page .entry)) core sending (now (reply .entry)) (r .replied) (r .left) (now (reply .exit)) ⌝ }
+{
+    if !is_sending(sending) {
+        return Sent {
+            replied: 0,
+            left: Sending::Nothing,
+        };
+    }
+    send(page, core, sending, reply)
+}
+
 fn finished(
     answer: Answer,
     taken: usize,
@@ -141,18 +162,21 @@ fn finished(
     sending: Sending,
     gathered: [u8; 46],
     setup: Setup,
-) -> Ended
-    ensures { λ r. ⌜ r ≡ record { answer = answer; taken = taken; replied = replied; refused = refused; core = core; sending = sending; gathered = gathered; setup = setup } ⌝ }
+) -> RunResult
+    ensures { λ r. ⌜ r ≡ record { answer = answer; taken = taken; replied = replied; refused = refused; state = stateWith core sending gathered setup } ⌝ }
 {
-    Ended {
-        answer: answer,
-        taken: taken,
-        replied: replied,
-        refused: refused,
+    let state = State {
         core: core,
         sending: sending,
         gathered: gathered,
         setup: setup,
+    };
+    RunResult {
+        answer: answer,
+        taken: taken,
+        replied: replied,
+        refused: refused,
+        state: state,
     }
 }
 
@@ -171,26 +195,35 @@ fn follow_text(rows: &mut [u16], page: &[u16], wide: bool, protect: bool, mark: 
     rebuild(rows, page, width as usize, protect);
 }
 
-// The single step repeated, each with the room that is left; it stops before the first byte that answers 6, behind one whose reply has used
-// the room up and is not over, and, if it is to, behind the first event. A row list beside the page follows it.
-pub fn repeat(
+// The run over many bytes on a good page and state, beside a row list or none: a send under way goes on first; if the run is to stop at an event,
+// that is one. Then the single step repeated, each with the room that is left; it stops before the first byte that answers 6, behind one whose
+// reply has used the room up and is not over, and, if it is to, behind the first event.
+pub fn run_beside(
     page: &mut [u16],
     rows: &mut [u16],
-    core: Core,
-    gathered: [u8; 46],
-    setup: Setup,
+    state: State,
     input: &[u8],
-    room: &mut [u8],
+    reply: &mut [u8],
     stop: bool,
-) -> Ended
-    requires { ⌜ (good (now page) (stateOf core gathered setup) ≡ true) × Beside (widthOf (core .screen)) (guardedAt (core .modes .protect) (now page)) (now rows) ⌝ }
-    ensures { λ r. ⌜ Looped stop (now (page .entry)) (stateOf core gathered setup) (now (input .entry)) (now (room .entry)) r (now (page .exit)) (now (room .exit)) × Beside (widthOf (r .core .screen)) (guardedAt (r .core .modes .protect) (now (page .exit))) (now (rows .exit)) ⌝ }
+) -> RunResult
+    requires { ⌜ (good (now page) state ≡ true) × Beside (widthOf (state .core .screen)) (guardedAt (state .core .modes .protect) (now page)) (now rows) ⌝ }
+    ensures { λ r. ⌜ Completed (callTo stop (now (page .entry)) state (now (input .entry)) (length (now (reply .entry)))) r (now (input .entry)) (now (page .exit)) (now (reply .entry)) (now (reply .exit)) × Beside (widthOf (r .state .core .screen)) (guardedAt (r .state .core .modes .protect) (now (page .exit))) (now (rows .exit)) ⌝ }
 {
-    let mut c = core;
-    let mut g = gathered;
-    let mut u = setup;
+    let mut c = state.core;
+    let mut g = state.gathered;
+    let mut u = state.setup;
+    let sending = state.sending;
+    let under = is_sending(sending);
+    if and(under, reply.len() == 0) {
+        return finished(no_room(input.len()), 0, 0, 0, c, sending, g, u);
+    }
+    let sent = resume(page, c, sending, reply);
+    let rest = sent.left;
+    if or(is_sending(rest), and(stop, under)) {
+        return finished(Answer::Done, 0, sent.replied, 0, c, rest, g, u);
+    }
     let mut taken = 0;
-    let mut replied = 0;
+    let mut replied = sent.replied;
     let mut refused = 0;
     while taken < input.len() {
         let run = text(page, c, input, taken);
@@ -226,7 +259,7 @@ pub fn repeat(
             c,
             input[taken],
             d,
-            &mut room[replied..],
+            &mut reply[replied..],
         );
         let a = t.answer;
         if is_no_room(a) {

@@ -1,7 +1,7 @@
 // The terminal: power-on, the single step, the run over many bytes, both with a row list too, the run up to the first event, the bytes that a run
 // did not take, the key press and the conversion to the other width. No call asks anything of its caller, and each promises all that it gives: the
 // answer, every count, and every cell and byte that it was lent.
-mod bytes; // the loop over host bytes
+mod bytes; // the send under way and the loop over host bytes
 mod edits; // what a run edits and clears
 mod inner; // one byte
 mod key; // what a key sends
@@ -13,12 +13,10 @@ pub mod width; // the state at the other width
 
 ghost use mathlib.Core.Path.{_≡_};
 ghost use mathlib.Core.Bool.{true};
-ghost use Prim.Native.Nat.{_<_};
-ghost use lib.Dec.{eqb};
 ghost use lib.ListN.{length, drop};
-ghost use Rattle.rules.specs.Cell.{pick, both};
+ghost use Rattle.rules.specs.Cell.{both};
 ghost use Rattle.rules.specs.Search.{guardedAt};
-ghost use Rattle.rules.specs.State.{number, widthOf, sends, withSending};
+ghost use Rattle.rules.specs.State.{number, widthOf};
 ghost use Rattle.rules.specs.Possible.{good};
 ghost use Rattle.rules.specs.Step.{stepRule};
 ghost use Rattle.rules.specs.Calls.{powerOnRule, runRule, pressRule};
@@ -26,11 +24,9 @@ ghost use Rattle.rules.specs.RowList.{Beside, agrees};
 ghost use Rattle.rules.specs.Convert.{convertRule};
 ghost use Rattle.rules.specs.Next.{replyCommand};
 ghost use Rattle.rules.specs.RowCalls.{stepRowsRule, runRowsRule, suits, nextRowsRule, rowsAfter, rebuildAnswer, rebuilt};
-ghost use Rattle.terminal.specs.Loop.{callTo};
+ghost use Rattle.rules.specs.declared.Answer.the-variants as Answer;
 ghost use Rattle.terminal.specs.Promise.{PoweredOn, Stepped, Completed, KeySent, Turns};
-ghost use Rattle.carry.specs.Went.{Went};
-use bytes::repeat;
-use carry::replies::send;
+use bytes::run_beside;
 use key::press_key;
 use page::cell::NULL;
 pub use page::cell::attribute_of;
@@ -43,7 +39,6 @@ use page::convert::convert_page;
 use page::convert::loses_cells;
 use page::rows::is_row_list;
 use page::rows::rebuild;
-use page::text::Sent;
 use rules::Answer;
 use rules::Personality;
 use rules::PowerOn;
@@ -95,119 +90,20 @@ pub fn power_on(page: &mut [u16], personality: Personality) -> PowerOn
     }
 }
 
-fn with_sending(state: State, sending: Sending) -> State
-    ensures { λ r. ⌜ r ≡ withSending state sending ⌝ }
-{
-    let core = state.core;
-    let gathered = state.gathered;
-    let setup = state.setup;
-    State {
-        core: core,
-        sending: sending,
-        gathered: gathered,
-        setup: setup,
-    }
-}
-
-// No room inside a send: 6, or 0 over no bytes.
-fn no_room(bytes: usize) -> Answer
-    ensures { λ r. ⌜ number r ≡ pick (eqb bytes 0) 0 6 ⌝ }
-{
-    if bytes == 0 {
-        Answer::Done
-    } else {
-        Answer::NoRoom
-    }
-}
-
-// The send under way goes on, on a good page and state; outside a send there is none, and none is left.
-fn resume(page: &[u16], state: State, reply: &mut [u8]) -> Sent
-    requires { ⌜ (good (now page) state ≡ true) × (sends (state .sending) ≡ true → 0 < length (now reply)) ⌝ }
-    ensures { λ r. ⌜ Went (now (page .entry)) (state .core) (state .sending) (now (reply .entry)) (r .replied) (r .left) (now (reply .exit)) ⌝ }
-{
-    let sending = state.sending;
-    if !is_sending(sending) {
-        return Sent {
-            replied: 0,
-            left: Sending::Nothing,
-        };
-    }
-    let core = state.core;
-    send(page, core, sending, reply)
-}
-
-// A run that takes no byte.
-fn waiting(answer: Answer, replied: usize, state: State) -> RunResult
-    ensures { λ r. ⌜ r ≡ record { answer = answer; taken = 0; replied = replied; refused = 0; state = state } ⌝ }
+// A run on a bad page or state.
+fn refused(state: State) -> RunResult
+    ensures { λ r. ⌜ r ≡ record { answer = Answer.BadCall; taken = 0; replied = 0; refused = 0; state = state } ⌝ }
 {
     RunResult {
-        answer: answer,
+        answer: Answer::BadCall,
         taken: 0,
-        replied: replied,
+        replied: 0,
         refused: 0,
         state: state,
     }
 }
 
-// The run over many bytes on a good page and state, beside a row list or none: a send under way goes on first. If it is to stop at an event, the
-// send that goes on is one.
-fn run_beside(
-    page: &mut [u16],
-    rows: &mut [u16],
-    state: State,
-    input: &[u8],
-    reply: &mut [u8],
-    stop: bool,
-) -> RunResult
-    requires { ⌜ (good (now page) state ≡ true) × Beside (widthOf (state .core .screen)) (guardedAt (state .core .modes .protect) (now page)) (now rows) ⌝ }
-    ensures { λ r. ⌜ Completed (callTo stop (now (page .entry)) state (now (input .entry)) (length (now (reply .entry)))) r (now (input .entry)) (now (page .exit)) (now (reply .entry)) (now (reply .exit)) × Beside (widthOf (r .state .core .screen)) (guardedAt (r .state .core .modes .protect) (now (page .exit))) (now (rows .exit)) ⌝ }
-{
-    let sending = state.sending;
-    let under = is_sending(sending);
-    if and(under, reply.len() == 0) {
-        return waiting(no_room(input.len()), 0, state);
-    }
-    let sent = resume(page, state, reply);
-    let start = sent.replied;
-    let left = sent.left;
-    if or(is_sending(left), and(stop, under)) {
-        let next = with_sending(state, left);
-        return waiting(Answer::Done, start, next);
-    }
-    let core = state.core;
-    let gathered = state.gathered;
-    let setup = state.setup;
-    let t = repeat(
-        page,
-        rows,
-        core,
-        gathered,
-        setup,
-        input,
-        &mut reply[start..],
-        stop,
-    );
-    let c = t.core;
-    let y = t.sending;
-    let g = t.gathered;
-    let u = t.setup;
-    let answer = t.answer;
-    let next = State {
-        core: c,
-        sending: y,
-        gathered: g,
-        setup: u,
-    };
-    RunResult {
-        answer: answer,
-        taken: t.taken,
-        replied: start + t.replied,
-        refused: t.refused,
-        state: next,
-    }
-}
-
-// The single step in the same way: the run over its byte, up to the first event.
+// The single step on a good page and state, beside a row list or none: the run over its byte, up to the first event.
 fn step_beside(
     page: &mut [u16],
     rows: &mut [u16],
@@ -251,7 +147,7 @@ pub fn run(page: &mut [u16], state: State, input: &[u8], reply: &mut [u8]) -> Ru
     ensures { λ r. ⌜ Completed (runRule (now (page .entry)) state (now (input .entry)) (length (now (reply .entry)))) r (now (input .entry)) (now (page .exit)) (now (reply .entry)) (now (reply .exit)) ⌝ }
 {
     if !is_good(page, state) {
-        return waiting(Answer::BadCall, 0, state);
+        return refused(state);
     }
     let mut none: [u16; 0] = [0; 0];
     run_beside(page, &mut none, state, input, reply, false)
@@ -300,7 +196,7 @@ pub fn run_rows(
     ensures { λ r. ⌜ Completed (runRowsRule (now (page .entry)) (now (rows .entry)) state (now (input .entry)) (length (now (reply .entry)))) r (now (input .entry)) (now (page .exit)) (now (reply .entry)) (now (reply .exit)) × (now (rows .exit) ≡ rowsAfter (now (page .entry)) (now (rows .entry)) state (now (page .exit)) (r .state)) ⌝ }
 {
     if !is_listed(page, rows, state) {
-        return waiting(Answer::BadCall, 0, state);
+        return refused(state);
     }
     run_beside(page, rows, state, input, reply, false)
 }
@@ -326,7 +222,7 @@ pub fn next(
     ensures { λ r. ⌜ Completed (nextRowsRule (now (page .entry)) (now (rows .entry)) state (now (input .entry)) (length (now (reply .entry)))) r (now (input .entry)) (now (page .exit)) (now (reply .entry)) (now (reply .exit)) × (now (rows .exit) ≡ rowsAfter (now (page .entry)) (now (rows .entry)) state (now (page .exit)) (r .state)) ⌝ }
 {
     if !is_suited(page, rows, state) {
-        return waiting(Answer::BadCall, 0, state);
+        return refused(state);
     }
     run_beside(page, rows, state, input, reply, true)
 }

@@ -5,7 +5,7 @@ use borrow.Author.Tests.{not-true, not-false}
 use denote.Ref.{now}
 use Rattle.rules.specs.declared.RunResult.{RunResult}
 use Rattle.rules.specs.RowCalls.{rowsAfter}
-use Rattle.terminal.proofs.Calls.{ran-is}
+use Rattle.terminal.proofs.Loop.{ran-is}
 use Rattle.terminal.proofs.RowCalls.{beside-suited, next-suited, next-unsuited, rows-suited, rows-unlisted}
 use Rattle.terminal.proofs.next.Statement.{statement}
 use Rattle.terminal.proofs.next.Tie as tie
@@ -19,7 +19,7 @@ next-spec =
     (tie.spec
     -- is-suited-requires
     (λ c κs. search needs)
-    -- waiting-requires
+    -- refused-requires
     (λ c κs. search needs)
     -- same-length
     (λ c. search needs)
@@ -30,9 +30,9 @@ next-spec =
     let t = c .before in
     let x = t .before .before .before .before .before .before .before .before .args in
     let bad = sym (t .before .is-suited .ensures) ∙ not-true _ (t .if1 .taken) in (
-      ran-is (c .waiting .ensures) (next-unsuited (now (x .page)) (now (x .rows)) (x .state) bad _ _),
+      ran-is (c .refused .ensures) (next-unsuited (now (x .page)) (now (x .rows)) (x .state) bad _ _),
       rows-unlisted (now (x .page)) (now (x .rows)) (x .state)
-          ∙ ap (rowsAfter (now (x .page)) (now (x .rows)) (x .state) (now (x .page))) (sym (ap (λ (r : RunResult). r .state) (c .waiting .ensures))),
+          ∙ ap (rowsAfter (now (x .page)) (now (x .rows)) (x .state) (now (x .page))) (sym (ap (λ (r : RunResult). r .state) (c .refused .ensures))),
     ))
     -- run-beside-requires
     (λ c κs.

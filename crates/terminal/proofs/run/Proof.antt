@@ -3,7 +3,8 @@ use mathlib.Core.Logic.{inl}
 use mathlib.Core.Bool.{false}
 use mathlib.Core.Path.{refl, sym, _∙_}
 use borrow.Author.Tests.{not-true, not-false}
-use Rattle.terminal.proofs.Calls.{run-refused, ran-is}
+use Rattle.terminal.proofs.Calls.{run-refused}
+use Rattle.terminal.proofs.Loop.{ran-is}
 use borrow.Author.Needs.{needs}
 use Rattle.terminal.proofs.run.Statement.{statement}
 use Rattle.terminal.proofs.run.Tie as tie
@@ -14,14 +15,14 @@ run-spec =
     (tie.spec
     -- is-good-requires
     (λ c κs. search needs)
-    -- waiting-requires
+    -- refused-requires
     (λ c κs. search needs)
     -- same-length
     (λ c. search needs)
     -- returns
     (λ c.
     let t = c .before in
-    ran-is (c .waiting .ensures) (run-refused _ _ (sym (t .before .is-good .ensures) ∙ not-true _ (t .if1 .taken)) false _ _))
+    ran-is (c .refused .ensures) (run-refused _ _ (sym (t .before .is-good .ensures) ∙ not-true _ (t .if1 .taken)) false _ _))
     -- slice-aggregate-run-beside
     (λ c. search needs)
     -- run-beside-requires

@@ -1,7 +1,7 @@
--- `terminal::no_room` meets its contract.
+-- `terminal::bytes::no_room` meets its contract.
 use borrow.Author.Tests.{ne-eqb}
-use Rattle.terminal.proofs.no_room.Statement.{statement}
-use Rattle.terminal.proofs.no_room.Tie as tie
+use Rattle.terminal.proofs.bytes.no_room.Statement.{statement}
+use Rattle.terminal.proofs.bytes.no_room.Tie as tie
 
 pub no-room-spec : {M : Type 1} → statement M
 no-room-spec =
