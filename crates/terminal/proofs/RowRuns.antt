@@ -27,7 +27,7 @@ use Rattle.carry.specs.Rows.{keepsGuards}
 use Rattle.carry.proofs.Guards.{kept-guards}
 use Rattle.terminal.specs.Rows.{closedNone, Behind}
 use Rattle.terminal.specs.declared.runs.Run.{Run}
-use Rattle.terminal.specs.Text.{runOf, runWidth, Edits, edits-cell, edits-row, reverses, clears-row, clears-rest, clears-all, Acts, stores, inserts, places, goes, rolls, edits, Typed, none, acted, TextRun, still, typed, textCore}
+use Rattle.terminal.specs.Text.{runOf, runWidth, Edits, edits-cell, edits-row, reverses, clears-row, clears-rest, clears-all, Acts, stores, inserts, places, goes, rolls, edits, Typed, none, acted, refused, TextRun, still, typed, textCore}
 use Rattle.terminal.proofs.TextSteps.{rolls-off, blank-free}
 use Rattle.terminal.proofs.TextRuns.{typed-same}
 
@@ -57,30 +57,31 @@ module _ (z : Run) (free : (b : ℕ) → b ≤ 0x7e → guarded (z .protect) (z 
   acts-keep (rolls r) = ap not (off (r .mode))
   acts-keep (edits e d) = edits-keep d
 
-  typed-guards : {l : List ℕ} {at₀ i₀ : ℕ} {p₀ : List ℕ} {at i : ℕ} {p : List ℕ} → Typed z l at₀ i₀ p₀ at i p
+  typed-guards : {l : List ℕ} {at₀ i₀ : ℕ} {p₀ : List ℕ} {at i f : ℕ} {p : List ℕ} → Typed z l at₀ i₀ p₀ at i p f
       → guardedAt (z .protect) p ≡ guardedAt (z .protect) p₀
   typed-guards none = refl
   typed-guards (acted {w = w} {p = p} u a h k e) =
       ap (guardedAt (z .protect)) e ∙ kept-guards (runWidth z) (z .protect) w p (acts-keep a) ∙ typed-guards u
+  typed-guards (refused u o k e) = typed-guards u
 
 -- none was closed
 not-both : (on mark : Bool) → not (both on mark) ≡ true → both on mark ≡ false
 not-both on mark e = not-true (both on mark) e
 
-text-guards : (c : Core) {l : List ℕ} {i₀ : ℕ} {p₀ : List ℕ} {at i : ℕ} {p : List ℕ} → screenOk (c .screen) ≡ true
-    → i₀ ≤ length l → TextRun c l i₀ p₀ at i p → closedNone (eqb i i₀) (c .modes .protect) (c .modes .mark) ≡ true
+text-guards : (c : Core) {l : List ℕ} {i₀ : ℕ} {p₀ : List ℕ} {at i r : ℕ} {p : List ℕ} → screenOk (c .screen) ≡ true
+    → i₀ ≤ length l → TextRun c l i₀ p₀ at i p r → closedNone (eqb i i₀) (c .modes .protect) (c .modes .mark) ≡ true
     → guardedAt (c .modes .protect) p ≡ guardedAt (c .modes .protect) p₀
 text-guards c ok h still f = refl
 text-guards c {i₀ = i₀} {p₀ = p₀} {i = i} {p = p} ok h (typed quiet t) f = by (eqb i i₀) refl f
   where
     by : (t : Bool) → eqb i i₀ ≡ t → closedNone t (c .modes .protect) (c .modes .mark) ≡ true
         → guardedAt (c .modes .protect) p ≡ guardedAt (c .modes .protect) p₀
-    by true u f = ap (guardedAt (c .modes .protect)) (typed-same t h (screen-inside (c .screen) ok .below) (eqb-true i i₀ u) .1)
+    by true u f = ap (guardedAt (c .modes .protect)) (typed-same t h (screen-inside (c .screen) ok .below) (eqb-true i i₀ u) .1 .0)
     by false u f =
         typed-guards (runOf c) (λ b k. text-open (c .modes .protect) (c .modes .mark) (c .attribute) b k (not-both (c .modes .protect) (c .modes .mark) f)) (rolls-off (c .modes)) t
 
-pub text-behind : (c : Core) {l : List ℕ} {i₀ : ℕ} {p₀ : List ℕ} {at i : ℕ} {p : List ℕ} {rows : List ℕ} → screenOk (c .screen) ≡ true
-    → i₀ ≤ length l → TextRun c l i₀ p₀ at i p
+pub text-behind : (c : Core) {l : List ℕ} {i₀ : ℕ} {p₀ : List ℕ} {at i r : ℕ} {p : List ℕ} {rows : List ℕ} → screenOk (c .screen) ≡ true
+    → i₀ ≤ length l → TextRun c l i₀ p₀ at i p r
     → Beside (widthOf (c .screen)) (guardedAt (c .modes .protect) p₀) rows
     → Behind (closedNone (eqb i i₀) (c .modes .protect) (c .modes .mark)) (widthOf (c .screen)) (guardedAt (c .modes .protect) p) rows
 text-behind c {p₀ = p₀} ok h t (inl e) = inl e

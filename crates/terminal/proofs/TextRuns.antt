@@ -7,7 +7,7 @@
 --     resumed     the loop over host bytes goes on after a run as before it
 -- Assumes nothing.
 use mathlib.Core.Path.{_≡_, refl, sym, ap, ap₂, _∙_}
-use mathlib.Core.Bool.{Bool, true, false}
+use mathlib.Core.Bool.{Bool, true, false, false≢true}
 use mathlib.Core.List.{List, [], _++_}
 use Prim.Native.Nat.{ℕ, _+_, _-_, _*_, _/_, _%_, _<_, _≤_}
 use native.Mathlib.Nat.{add-zero}
@@ -44,10 +44,10 @@ use Rattle.page.proofs.Changes.{one-filled}
 use Rattle.carry.proofs.Carrying.{carried-is}
 use Rattle.terminal.specs.declared.runs.Run.{Run}
 use Rattle.terminal.specs.Loop.{stateOf}
-use Rattle.terminal.specs.Text.{textBase, runOf, runWidth, Fits, openAt, Addressed, Edits, edits-cell, edits-row, reverses, clears-row, clears-rest, clears-all, Acts, stores, inserts, places, goes, rolls, edits, Typed, none, acted, TextRun, still, typed, textCore}
+use Rattle.terminal.specs.Text.{textBase, runOf, runWidth, Fits, openAt, Outside, Edits, edits-cell, edits-row, reverses, clears-row, clears-rest, clears-all, Acts, stores, inserts, places, goes, rolls, edits, Typed, none, acted, refused, TextRun, still, typed, textCore}
 use Rattle.terminal.proofs.Carrying.{quiet-carried}
 use Rattle.terminal.proofs.Loop.{Running, ready, go, nothing-made, lentTail, backTail, tail-lent, tail-back}
-use Rattle.terminal.proofs.TextSteps.{rows-below, cursor-same, stores-on, inserts-on, waits, places-at, goes-on, rolls-on, edits-on}
+use Rattle.terminal.proofs.TextSteps.{rows-below, cursor-same, stores-on, inserts-on, waits, places-at, refuses-at, goes-on, rolls-on, edits-on}
 
 -- ---- the segment
 
@@ -152,20 +152,21 @@ acts-some (goes g o) = omega arith
 acts-some (rolls r) = omega arith
 acts-some (edits e d) = omega arith
 
--- from the byte i₀ of l and the page p₀
-pub record Range (z : Run) (l : List ℕ) (i₀ : ℕ) (p₀ : List ℕ) (at i : ℕ) (p : List ℕ) : Type 0 where
-  pub from : i₀ ≤ i
+-- from the byte i₀ of l and the page p₀, with f bytes refused
+pub record Range (z : Run) (l : List ℕ) (i₀ : ℕ) (p₀ : List ℕ) (at i : ℕ) (p : List ℕ) (f : ℕ) : Type 0 where
+  pub from : f + i₀ ≤ i
   pub within : i ≤ length l
   pub below : at < z .end
   pub size : length p ≡ length p₀
 
 module _ {z : Run} {l : List ℕ} {at₀ i₀ : ℕ} {p₀ : List ℕ} where
-  pub typed-then : {at i : ℕ} {p : List ℕ} → Typed z l at₀ i₀ p₀ at i p
-      → {at′ i′ : ℕ} {p′ : List ℕ} → Typed z l at i p at′ i′ p′ → Typed z l at₀ i₀ p₀ at′ i′ p′
-  typed-then t none = t
-  typed-then t (acted u a h k e) = acted (typed-then t u) a h k e
+  pub typed-then : {at i f : ℕ} {p : List ℕ} → Typed z l at₀ i₀ p₀ at i p f
+      → {at′ i′ g h : ℕ} {p′ : List ℕ} → Typed z l at i p at′ i′ p′ g → h ≡ f + g → Typed z l at₀ i₀ p₀ at′ i′ p′ h
+  typed-then t none e = rw (e ∙ add-zero _) t
+  typed-then t (acted u a m k q) e = acted (typed-then t u e) a m k q
+  typed-then {f = f} t {h = h} (refused {f = g} u o m q) e = refused {g = h} (typed-then t {h = f + g} u refl) o m (omega (arith, e, q))
 
-  pub typed-range : {at i : ℕ} {p : List ℕ} → Typed z l at₀ i₀ p₀ at i p → i₀ ≤ length l → at₀ < z .end → Range z l i₀ p₀ at i p
+  pub typed-range : {at i f : ℕ} {p : List ℕ} → Typed z l at₀ i₀ p₀ at i p f → i₀ ≤ length l → at₀ < z .end → Range z l i₀ p₀ at i p f
   typed-range none h b = record { from = omega arith; within = h; below = b; size = refl }
   typed-range (acted {w = w} {p = p} u a k j e) h b =
       let r = typed-range u h b in
@@ -175,11 +176,15 @@ module _ {z : Run} {l : List ℕ} {at₀ i₀ : ℕ} {p₀ : List ℕ} where
         below = j;
         size = ap length e ∙ length-applied (runWidth z) (z .protect) w p ∙ r .size;
       }
+  typed-range (refused u o k e) h b =
+      let r = typed-range u h b in
+      record { from = omega (arith, r .from, e); within = k; below = r .below; size = r .size }
 
   -- a run that took no byte
-  pub typed-same : {at i : ℕ} {p : List ℕ} → Typed z l at₀ i₀ p₀ at i p → i₀ ≤ length l → at₀ < z .end → i ≡ i₀ → (at ≡ at₀) × (p ≡ p₀)
-  typed-same none h b e = (refl, refl)
+  pub typed-same : {at i f : ℕ} {p : List ℕ} → Typed z l at₀ i₀ p₀ at i p f → i₀ ≤ length l → at₀ < z .end → i ≡ i₀ → (at ≡ at₀) × ((p ≡ p₀) × (f ≡ 0))
+  typed-same none h b e = (refl, (refl, refl))
   typed-same (acted u a k j q) h b e = absurd (omega (arith, e, acts-some a, typed-range u h b .from))
+  typed-same (refused u o k q) h b e = absurd (omega (arith, e, typed-range u h b .from))
 
 -- ---- a turn of the loop that changes the core and the page alone
 
@@ -187,6 +192,17 @@ same-room : (n : ℕ) (w : List ℕ) → backTail n w (lentTail n w) ≡ w
 same-room n w = tail-back n w (lentTail n w) ∙ ap (λ (l : List ℕ). take n w ++ l) (tail-lent n w) ∙ take-append-drop n w
 
 module _ {stop : Bool} {p₀ : List ℕ} {o₀ : Ran} {input w₀ : List ℕ} {g : List ℕ} {u : Setup} {n f : ℕ} {w : List ℕ} where
+  -- one that is refused, where that is not to stop it
+  barred : {p : List ℕ} {c : Core} {i : ℕ} (j : ℕ) → Running stop p₀ o₀ input w₀ p w c g u i n f → j ≡ i + 1 → j ≤ length input → stop ≡ false
+      → {c′ : Core} → ((room : ℕ) → innerRule p c (u .tabs) (getD input i 0) room ≡ effect 3 c′ unchanged p [])
+      → Running stop p₀ o₀ input w₀ p w c′ g u j n (f + 1)
+  barred {p} {c} {i} j R e h off {c′} E =
+      let q = lentTail n w in
+      let m = nothing-made unchanged g u refl in
+      let k = carried-is (E (length q)) (quiet-carried Answer.BadArgument c′ unchanged p q) in
+      let G = go R (omega arith) k refl (m .0) (m .1 .0) (sym (m .1 .1)) refl refl (λ z. absurd (false≢true (sym off ∙ z))) in
+      rw (same-room n w, add-zero n, sym e) at G
+
   pub turn : {p : List ℕ} {c : Core} {i : ℕ} (j : ℕ) → Running stop p₀ o₀ input w₀ p w c g u i n f → j ≡ i + 1 → j ≤ length input
       → {p′ : List ℕ} {c′ : Core} → ((room : ℕ) → innerRule p c (u .tabs) (getD input i 0) room ≡ effect 0 c′ unchanged p′ [])
       → Running stop p₀ o₀ input w₀ p′ w c′ g u j n f
@@ -241,6 +257,9 @@ run-same c at = refl
 acts-is : {z z′ : Run} {l : List ℕ} {i : ℕ} {p : List ℕ} {at at′ n k : ℕ} {w : Write} → z ≡ z′ → at ≡ at′ → Acts z′ l i p at′ n w k → Acts z l i p at n w k
 acts-is e f a = rw (e, f) a
 
+outside-is : {z z′ : Run} {l : List ℕ} {i : ℕ} → z ≡ z′ → Outside z′ l i → Outside z l i
+outside-is e o = rw e o
+
 -- ---- a run
 
 module _ {stop : Bool} {p₀ : List ℕ} {o₀ : Ran} {input w₀ : List ℕ} {g : List ℕ} {u : Setup} {n f : ℕ} {w : List ℕ} where
@@ -286,17 +305,44 @@ module _ {stop : Bool} {p₀ : List ℕ} {o₀ : Ran} {input w₀ : List ℕ} {g
       turn (i + 2) R1 (omega arith) h (λ room.
       edits-on p (awaiting d Pending.Escape) (t .0) (t .1 .0) (u .tabs) room (getD input (i + 1) 0) k y refl s l)
 
-  -- a run from a core c
-  module _ (c : Core) (quiet : c .pending ≡ Pending.Idle) {p : List ℕ} {i₀ : ℕ} (R : Running stop p₀ o₀ input w₀ p w c g u i₀ n f) where
-    typed-run : {at i : ℕ} {p′ : List ℕ} → Typed (runOf c) input (cursorOf (c .screen)) i₀ p at i p′
-        → Running stop p₀ o₀ input w₀ p′ w (textCore c at) g u i n f
-    typed-run none = rw (text-same c quiet) R
-    typed-run (acted {at = at} {k = k} {w = y} {p = q} t a h l e) =
-        let d = textCore c at in
-        let same = run-same c at in
-        let G = act d (typed-run t) refl (acts-is same (cursor-set (c .screen) at) a) h (rw (ap (λ (z : Run). z .end) same) l) in
-        let page = e ∙ ap (λ (z : Run). applied (runWidth z) (z .protect) y q) (sym same) in
-        rw (page, sym (text-twice c at k)) G
+  -- an ESC = out of the segment
+  outside : (d : Core) {p : List ℕ} {i : ℕ} → Running stop p₀ o₀ input w₀ p w d g u i n f → d .pending ≡ Pending.Idle → Outside (runOf d) input i
+      → i + 4 ≤ length input → stop ≡ false → Running stop p₀ o₀ input w₀ p w (textCore d (cursorOf (d .screen))) g u (i + 4) n (f + 1)
+  unfolding decodeRule argumentRule idleRule escapeRule lookup
+  outside d {p} {i} R quiet s h off =
+      let r = getD input (i + 2) 0 in
+      let escape = ap₂ (λ (x : Pending) (b : ℕ). decodeRule x b) quiet (s .escape) in
+      let R1 = waited (i + 1) Pending.Escape R refl (omega (arith, h)) (omega (arith, s .escape)) escape in
+      let equals = ap (decodeRule Pending.Escape) (s .equals) in
+      let R2 = waited (i + 2) (Pending.Awaits Argument.Address) R1 (omega arith) (omega (arith, h)) (omega (arith, s .equals)) equals in
+      let R3 = waited (i + 3) (Pending.AddressRow r) R2 (omega arith) (omega (arith, h)) (s .row) refl in
+      let t = ready R3 in
+      barred (i + 4) R3 (omega arith) h off (λ room.
+      refuses-at p (awaiting d (Pending.AddressRow r)) (t .0) (t .1 .0) (u .tabs) room r (getD input (i + 3) 0) refl (s .column) (s .missed))
+
+not-so : (b : Bool) → (b ≡ true → ⊥) → b ≡ false
+not-so true n = absurd (n refl)
+not-so false n = refl
+
+-- a run from a core c
+module _ {stop : Bool} {p₀ : List ℕ} {o₀ : Ran} {input w₀ : List ℕ} {g : List ℕ} {u : Setup} {n f : ℕ} {w : List ℕ}
+    (c : Core) (quiet : c .pending ≡ Pending.Idle) {p : List ℕ} {i₀ : ℕ} (R : Running stop p₀ o₀ input w₀ p w c g u i₀ n f) where
+  typed-run : {at i r : ℕ} {p′ : List ℕ} → Typed (runOf c) input (cursorOf (c .screen)) i₀ p at i p′ r → (stop ≡ true → r ≡ 0)
+      → Running stop p₀ o₀ input w₀ p′ w (textCore c at) g u i n (f + r)
+  typed-run none silent = rw (text-same c quiet, add-zero f) R
+  typed-run (acted {at = at} {k = k} {w = y} {p = q} t a h l e) silent =
+      let d = textCore c at in
+      let same = run-same c at in
+      let G = act d (typed-run t silent) refl (acts-is same (cursor-set (c .screen) at) a) h (rw (ap (λ (z : Run). z .end) same) l) in
+      let page = e ∙ ap (λ (z : Run). applied (runWidth z) (z .protect) y q) (sym same) in
+      rw (page, sym (text-twice c at k)) G
+  typed-run (refused {at = at} {f = r} {g = k} t o h e) silent =
+      let d = textCore c at in
+      let off = not-so stop (λ z. omega (arith, e, silent z)) in
+      let G = outside d (typed-run t (λ z. absurd (omega (arith, e, silent z)))) refl (outside-is (run-same c at) o) h off in
+      let core = text-twice c at (cursorOf (d .screen)) ∙ ap (textCore c) (cursor-set (c .screen) at) in
+      let count : f + k ≡ f + r + 1 = omega (arith, e) in
+      rw (count, sym core) G
 
 -- the loop after a run from the byte i₀ on: it goes on at the byte i
 pub record Resumed (stop : Bool) (p₀ : List ℕ) (o₀ : Ran) (input w₀ p w : List ℕ) (c : Core) (g : List ℕ) (u : Setup) (i n f i₀ : ℕ) : Type 0 where
@@ -306,33 +352,33 @@ pub record Resumed (stop : Bool) (p₀ : List ℕ) (o₀ : Ran) (input w₀ p w 
 
 module _ {stop : Bool} {p₀ : List ℕ} {o₀ : Ran} {input w₀ : List ℕ} {g : List ℕ} {u : Setup} {n f : ℕ} {w p : List ℕ} {c : Core} {i₀ : ℕ}
     (R : Running stop p₀ o₀ input w₀ p w c g u i₀ n f) where
-  pub text-range : i₀ ≤ length input → {at i : ℕ} {p′ : List ℕ} → TextRun c input i₀ p at i p′ → Range (runOf c) input i₀ p at i p′
+  pub text-range : i₀ ≤ length input → {at i r : ℕ} {p′ : List ℕ} → TextRun c input i₀ p at i p′ r → Range (runOf c) input i₀ p at i p′ r
   text-range h t = by (screen-inside (c .screen) (ready R .1 .0)) t
     where
-      by : Inside (c .screen) → {at i : ℕ} {p′ : List ℕ} → TextRun c input i₀ p at i p′ → Range (runOf c) input i₀ p at i p′
+      by : Inside (c .screen) → {at i r : ℕ} {p′ : List ℕ} → TextRun c input i₀ p at i p′ r → Range (runOf c) input i₀ p at i p′ r
       by s still = record { from = omega arith; within = h; below = s .below; size = refl }
       by s (typed quiet t) = typed-range t h (s .below)
 
-  arriving : {at i : ℕ} {p′ : List ℕ} → i₀ ≤ length input → TextRun c input i₀ p at i p′
-      → Running stop p₀ o₀ input w₀ p′ w (pick (eqb i i₀) c (textCore c at)) g u i n f
-  arriving h still = rw (eq-eqb i₀ i₀ refl) R
-  arriving {at} {i} {p′} h (typed quiet t) = by (eqb i i₀) refl
+  arriving : {at i r : ℕ} {p′ : List ℕ} → i₀ ≤ length input → TextRun c input i₀ p at i p′ r → (stop ≡ true → r ≡ 0)
+      → Running stop p₀ o₀ input w₀ p′ w (pick (eqb i i₀) c (textCore c at)) g u i n (f + r)
+  arriving h still silent = rw (eq-eqb i₀ i₀ refl, add-zero f) R
+  arriving {at} {i} {r} {p′} h (typed quiet t) silent = by (eqb i i₀) refl
     where
-      by : (b : Bool) → eqb i i₀ ≡ b → Running stop p₀ o₀ input w₀ p′ w (pick b c (textCore c at)) g u i n f
+      by : (b : Bool) → eqb i i₀ ≡ b → Running stop p₀ o₀ input w₀ p′ w (pick b c (textCore c at)) g u i n (f + r)
       by true e =
           let s = typed-same t h (screen-inside (c .screen) (ready R .1 .0) .below) (eqb-true i i₀ e) in
-          rw (ap (textCore c) (s .0) ∙ text-same c quiet) at (typed-run c quiet R t)
-      by false e = typed-run c quiet R t
+          rw (ap (textCore c) (s .0) ∙ text-same c quiet) at (typed-run c quiet R t silent)
+      by false e = typed-run c quiet R t silent
 
   -- a page's cell fits
-  pub text-fits : i₀ ≤ length input → {at i : ℕ} {p′ : List ℕ} → TextRun c input i₀ p at i p′ → at < 3168
+  pub text-fits : i₀ ≤ length input → {at i r : ℕ} {p′ : List ℕ} → TextRun c input i₀ p at i p′ r → at < 3168
   text-fits h t =
       let s = screen-inside (c .screen) (ready R .1 .0) in
       omega (arith, text-range h t .below, s .placed .page, most-cells (columns-width (c .screen .wide)))
 
   -- d is the core after it
-  pub resumed : {at i : ℕ} {p′ : List ℕ} {d : Core} → i₀ ≤ length input → TextRun c input i₀ p at i p′ → d ≡ pick (eqb i i₀) c (textCore c at)
-      → Resumed stop p₀ o₀ input w₀ p′ w d g u i n f i₀
-  resumed h t e =
+  pub resumed : {at i r : ℕ} {p′ : List ℕ} {d : Core} → i₀ ≤ length input → TextRun c input i₀ p at i p′ r → (stop ≡ true → r ≡ 0)
+      → d ≡ pick (eqb i i₀) c (textCore c at) → Resumed stop p₀ o₀ input w₀ p′ w d g u i n (f + r) i₀
+  resumed h t silent e =
       let r = text-range h t in
-      record { running = rw e (arriving h t); from = r .from; left = r .within }
+      record { running = rw e (arriving h t silent); from = omega (arith, r .from); left = r .within }

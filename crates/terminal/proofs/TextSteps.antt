@@ -1,6 +1,6 @@
 -- The last byte of an act, by the inner step.
 --     stores-on, inserts-on     a byte stored, and one inserted
---     waits, places-at     a byte that is awaited; the last one of ESC =
+--     waits, places-at, refuses-at     a byte that is awaited; the last one of ESC =, in the segment and out of it
 --     goes-on, rolls-on     a byte that moves the cursor, and one that scrolls
 --     edits-on     the byte behind ESC that edits or clears
 -- Assumes nothing.
@@ -194,6 +194,15 @@ module _ (p : List ℕ) (c : Core) (size : length p ≡ pageLength (c .screen)) 
       (both-true (le-leb 0x20 k left) (lt-ltb k (0x20 + 80) right)) in
       below p c tabs k room (omega arith) refl (ap (λ (q : Pending). decodeRule q k) pending)
       ∙ rw t (rw (sym same) (carried-writing Write.Nothing i h g))
+
+  -- its last byte, where the row or the column is none of the segment
+  pub refuses-at : (r k : ℕ) → c .pending ≡ Pending.AddressRow r → k < 128
+      → both (among 0x20 (segmentBottom (c .screen) - segmentTop (c .screen)) r) (among 0x20 80 k) ≡ false
+      → innerRule p c tabs k room ≡ effect 3 (textCore c (cursorOf (c .screen))) unchanged p []
+  unfolding obeyed decodeRule planRule movePlan addressPlan carried done landed applied
+  refuses-at r k pending low t =
+      below p c tabs k room low refl (ap (λ (q : Pending). decodeRule q k) pending)
+      ∙ rw t (ap (λ (y : Screen). effect 3 (withScreen (idle c) y) unchanged p []) (sym (cursor-same (c .screen))))
 
   -- ---- a byte that moves the cursor, or scrolls
 

@@ -1,5 +1,5 @@
 -- Runs: host bytes that are carried out without a plan for each. They go on in one segment while nothing is under way, and the cursor lands on
--- open cells alone.
+-- open cells alone. An ESC = out of the segment is refused on the way.
 use mathlib.Core.Path.{_≡_}
 use mathlib.Core.Bool.{Bool, true, false}
 use mathlib.Core.List.{List}
@@ -11,7 +11,7 @@ use Rattle.rules.specs.declared.Core.{Core}
 use Rattle.rules.specs.declared.Pending.the-variants as Pending
 use Rattle.rules.specs.declared.Write.{Write}
 use Rattle.rules.specs.declared.Write.the-variants as Write
-use Rattle.rules.specs.Cell.{pick, guarded, written, space, null}
+use Rattle.rules.specs.Cell.{pick, both, among, guarded, written, space, null}
 use Rattle.rules.specs.Row.{height, columns, addressed, wideCells, rowOf, columnOf, rowStart, rowEnd}
 use Rattle.rules.specs.Search.{guardedAt, nextField}
 use Rattle.rules.specs.Carry.{applied}
@@ -72,6 +72,14 @@ pub record Addressed (z : Run) (l : List ℕ) (i k : ℕ) : Type 0 where
   pub most : getD l (i + 3) 0 < 0x20 + addressed
   pub place : k ≡ z .home + (getD l (i + 2) 0 - 0x20) * runWidth z + (getD l (i + 3) 0 - 0x20)
 
+-- the bytes i to i + 3 are an ESC = whose row or column is none of the segment
+pub record Outside (z : Run) (l : List ℕ) (i : ℕ) : Type 0 where
+  pub escape : getD l i 0 ≡ 0x1b
+  pub equals : getD l (i + 1) 0 ≡ 0x3d
+  pub row : getD l (i + 2) 0 < 128
+  pub column : getD l (i + 3) 0 < 128
+  pub missed : both (among 0x20 (z .bottom - z .top) (getD l (i + 2) 0)) (among 0x20 addressed (getD l (i + 3) 0)) ≡ false
+
 -- the byte b moves the cursor to k, with no scroll
 pub data Goes (z : Run) (p : List ℕ) (at b k : ℕ) : Type 0 where
   goes-back : b ≡ 0x08 → z .home + 1 ≤ at → k ≡ at - 1 → Goes z p at b k
@@ -116,16 +124,18 @@ pub data Acts (z : Run) (l : List ℕ) (i : ℕ) (p : List ℕ) (at : ℕ) : ℕ
   rolls : {k : ℕ} → Rolled z at (getD l i 0) k → Acts z l i p at 1 (Write.Rows false (z .top) (z .bottom)) k
   edits : {k : ℕ} {w : Write} → getD l i 0 ≡ 0x1b → Edits z p at (getD l (i + 1) 0) w k → Acts z l i p at 2 w k
 
--- from the cursor at₀, the byte i₀ of the input l and the page p₀, to the cursor, the byte and the page given last
-pub data Typed (z : Run) (l : List ℕ) (at₀ i₀ : ℕ) (p₀ : List ℕ) : ℕ → ℕ → List ℕ → Type 0 where
-  none : Typed z l at₀ i₀ p₀ at₀ i₀ p₀
-  acted : {at i n k : ℕ} {w : Write} {p q : List ℕ} → Typed z l at₀ i₀ p₀ at i p → Acts z l i p at n w k → i + n ≤ length l → k < z .end
-      → q ≡ applied (runWidth z) (z .protect) w p → Typed z l at₀ i₀ p₀ k (i + n) q
+-- from the cursor at₀, the byte i₀ of the input l and the page p₀, to the cursor, the byte and the page given last, and how many bytes are refused
+pub data Typed (z : Run) (l : List ℕ) (at₀ i₀ : ℕ) (p₀ : List ℕ) : ℕ → ℕ → List ℕ → ℕ → Type 0 where
+  none : Typed z l at₀ i₀ p₀ at₀ i₀ p₀ 0
+  acted : {at i n k f : ℕ} {w : Write} {p q : List ℕ} → Typed z l at₀ i₀ p₀ at i p f → Acts z l i p at n w k → i + n ≤ length l → k < z .end
+      → q ≡ applied (runWidth z) (z .protect) w p → Typed z l at₀ i₀ p₀ k (i + n) q f
+  refused : {at i f g : ℕ} {p : List ℕ} → Typed z l at₀ i₀ p₀ at i p f → Outside z l i → i + 4 ≤ length l → g ≡ f + 1
+      → Typed z l at₀ i₀ p₀ at (i + 4) p g
 
 -- such a run from a core on, where nothing is under way; or nothing is done
-pub data TextRun (c : Core) (l : List ℕ) (i₀ : ℕ) (p₀ : List ℕ) : ℕ → ℕ → List ℕ → Type 0 where
-  still : TextRun c l i₀ p₀ (cursorOf (c .screen)) i₀ p₀
-  typed : {at i : ℕ} {p : List ℕ} → c .pending ≡ Pending.Idle → Typed (runOf c) l (cursorOf (c .screen)) i₀ p₀ at i p → TextRun c l i₀ p₀ at i p
+pub data TextRun (c : Core) (l : List ℕ) (i₀ : ℕ) (p₀ : List ℕ) : ℕ → ℕ → List ℕ → ℕ → Type 0 where
+  still : TextRun c l i₀ p₀ (cursorOf (c .screen)) i₀ p₀ 0
+  typed : {at i f : ℕ} {p : List ℕ} → c .pending ≡ Pending.Idle → Typed (runOf c) l (cursorOf (c .screen)) i₀ p₀ at i p f → TextRun c l i₀ p₀ at i p f
 
 -- the core after it
 abbrev pub textCore : Core → ℕ → Core

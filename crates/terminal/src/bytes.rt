@@ -226,11 +226,12 @@ pub fn run_beside(
     let mut replied = sent.replied;
     let mut refused = 0;
     while taken < input.len() {
-        let run = text(page, c, input, taken);
+        let run = text(page, c, input, taken, stop);
         let same = run.taken == taken;
         let moved_core = moved(c, run.at, same);
         c = moved_core;
         taken = run.taken;
+        refused += run.refused;
         follow_text(
             rows,
             page,

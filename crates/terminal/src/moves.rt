@@ -1,13 +1,17 @@
 // Where a run moves the cursor: ESC =, the moves of one byte, and the scrolls of 0Ah and 1Fh.
 ghost use mathlib.Core.Path.{_≡_};
+ghost use mathlib.Core.Bool.{true, false};
 ghost use Prim.Native.Nat.{ℕ, _+_, _-_, _*_, _<_, _≤_};
 ghost use mathlib.Core.List.{List};
 ghost use lib.ListN.{length, getD};
-ghost use Rattle.rules.specs.Row.{columns as columnsOf, rowStart, wideCells};
-ghost use Rattle.terminal.specs.Text.{Fits, openAt, Addressed, Goes, Rolled};
+ghost use Rattle.rules.specs.Cell.{both, among as amongOf};
+ghost use Rattle.rules.specs.Row.{height, columns as columnsOf, addressed, rowStart, wideCells};
+ghost use Rattle.terminal.specs.Text.{Fits, openAt, Addressed, Outside, Goes, Rolled};
 use crate::runs::Run;
 use page::search::is_guarded_at;
 use page::search::next_field;
+use state::logic::among;
+use state::logic::and;
 use state::width::cells;
 use state::width::column_of;
 use state::width::columns;
@@ -50,6 +54,42 @@ pub fn address(page: &[u16], run: Run, input: &[u8], i: usize) -> usize
         return run.end;
     }
     k
+}
+
+// Whether a row and a column code are of the segment.
+fn is_addressed(run: Run, row: u8, column: u8) -> bool
+    requires { ⌜ (run .top ≤ run .bottom) × (run .bottom ≤ height) ⌝ }
+    ensures { λ r. ⌜ r ≡ both (amongOf 0x20 (run .bottom - run .top) row) (amongOf 0x20 addressed column) ⌝ }
+{
+    and(
+        among(0x20, (run.bottom - run.top) as u8, row),
+        among(0x20, 80, column),
+    )
+}
+
+// Whether the ESC at byte i begins an ESC = out of the segment, and that is not to stop the run.
+pub fn is_outside(run: Run, input: &[u8], i: usize, stop: bool) -> bool
+    requires { ⌜ (run .top ≤ run .bottom) × ((run .bottom ≤ height) × ((i < length (now input)) × (getD (now input) i 0 ≡ 0x1b))) ⌝ }
+    ensures { λ r. ⌜ (r ≡ true → (stop ≡ false) × ((i + 4 ≤ length (now (input .entry))) × Outside run (now (input .entry)) i)) ⌝ }
+{
+    if stop {
+        return false;
+    }
+    if input.len() <= i + 3 {
+        return false;
+    }
+    if input[i + 1] != 0x3d {
+        return false;
+    }
+    let row = input[i + 2];
+    let column = input[i + 3];
+    if 128 <= row {
+        return false;
+    }
+    if 128 <= column {
+        return false;
+    }
+    !is_addressed(run, row, column)
 }
 
 // The first cell of a cell's row.

@@ -12,6 +12,7 @@ ghost use Rattle.rules.specs.State.{pageLength, cursorOf};
 ghost use Rattle.terminal.specs.Text.{Fits, Typed, TextRun, runOf, textCore};
 use crate::edits::edit;
 use crate::moves::address;
+use crate::moves::is_outside;
 use crate::moves::open_goal;
 use crate::moves::roll;
 use crate::text::put;
@@ -45,43 +46,67 @@ pub struct Run {
     pub bottom: usize,
 }
 
-// Where a run ends: the cursor, and the first byte that it did not take.
+// Where text or a move ends: the cursor, and the first byte that it did not take.
 pub struct Reached {
     pub at: usize,
     pub taken: usize,
 }
 
-// ESC =, or an edit; no byte is taken where it is neither.
-fn escape(page: &mut [u16], run: Run, at: usize, input: &[u8], i: usize) -> Reached
+// The same of a run, and how many bytes it refused.
+pub struct Stretch {
+    pub at: usize,
+    pub taken: usize,
+    pub refused: usize,
+}
+
+// ESC =, refused outside the segment unless that is to stop the run, or an edit; no byte is taken where it is neither.
+fn escape(page: &mut [u16], run: Run, at: usize, input: &[u8], i: usize, stop: bool) -> Stretch
     requires { ⌜ Fits run (now page) × ((at < run .end) × ((i < length (now input)) × (getD (now input) i 0 ≡ 0x1b))) ⌝ }
-    ensures { λ r. ⌜ Typed run (now (input .entry)) at i (now (page .entry)) (r .at) (r .taken) (now (page .exit)) ⌝ }
+    ensures { λ r. ⌜ Typed run (now (input .entry)) at i (now (page .entry)) (r .at) (r .taken) (now (page .exit)) (r .refused) × (stop ≡ true → r .refused ≡ 0) ⌝ }
 {
     let k = address(page, run, input, i);
     if k < run.end {
-        return Reached {
+        return Stretch {
             at: k,
             taken: i + 4,
+            refused: 0,
+        };
+    }
+    if is_outside(run, input, i, stop) {
+        return Stretch {
+            at: at,
+            taken: i + 4,
+            refused: 1,
         };
     }
     if input.len() <= i + 1 {
-        return Reached { at: at, taken: i };
+        return Stretch {
+            at: at,
+            taken: i,
+            refused: 0,
+        };
     }
     let act = edit(page, run, at, input[i + 1]);
     if run.end <= act.at {
-        return Reached { at: at, taken: i };
+        return Stretch {
+            at: at,
+            taken: i,
+            refused: 0,
+        };
     }
     let w = act.write;
     write(page, columns(run.wide) as usize, run.protect, w);
-    Reached {
+    Stretch {
         at: act.at,
         taken: i + 2,
+        refused: 0,
     }
 }
 
 // A move of one byte, or a scroll.
 fn go(page: &mut [u16], run: Run, at: usize, input: &[u8], i: usize) -> Reached
     requires { ⌜ Fits run (now page) × ((at < run .end) × (i < length (now input))) ⌝ }
-    ensures { λ r. ⌜ Typed run (now (input .entry)) at i (now (page .entry)) (r .at) (r .taken) (now (page .exit)) ⌝ }
+    ensures { λ r. ⌜ Typed run (now (input .entry)) at i (now (page .entry)) (r .at) (r .taken) (now (page .exit)) 0 ⌝ }
 {
     let b = input[i];
     let m = open_goal(page, run, at, b);
@@ -102,45 +127,65 @@ fn go(page: &mut [u16], run: Run, at: usize, input: &[u8], i: usize) -> Reached
     }
 }
 
-fn turn(page: &mut [u16], run: Run, at: usize, input: &[u8], i: usize) -> Reached
+fn turn(page: &mut [u16], run: Run, at: usize, input: &[u8], i: usize, stop: bool) -> Stretch
     requires { ⌜ Fits run (now page) × ((at < run .end) × (i < length (now input))) ⌝ }
-    ensures { λ r. ⌜ Typed run (now (input .entry)) at i (now (page .entry)) (r .at) (r .taken) (now (page .exit)) ⌝ }
+    ensures { λ r. ⌜ Typed run (now (input .entry)) at i (now (page .entry)) (r .at) (r .taken) (now (page .exit)) (r .refused) × (stop ≡ true → r .refused ≡ 0) ⌝ }
 {
     if input[i] == 0x1b {
-        return escape(page, run, at, input, i);
+        return escape(page, run, at, input, i, stop);
     }
-    go(page, run, at, input, i)
+    let reached = go(page, run, at, input, i);
+    Stretch {
+        at: reached.at,
+        taken: reached.taken,
+        refused: 0,
+    }
 }
 
-fn runs(page: &mut [u16], run: Run, first: usize, input: &[u8], from: usize) -> Reached
+fn runs(page: &mut [u16], run: Run, first: usize, input: &[u8], from: usize, stop: bool) -> Stretch
     requires { ⌜ Fits run (now page) × ((first < run .end) × (from ≤ length (now input))) ⌝ }
-    ensures { λ r. ⌜ Typed run (now (input .entry)) first from (now (page .entry)) (r .at) (r .taken) (now (page .exit)) ⌝ }
+    ensures { λ r. ⌜ Typed run (now (input .entry)) first from (now (page .entry)) (r .at) (r .taken) (now (page .exit)) (r .refused) × (stop ≡ true → r .refused ≡ 0) ⌝ }
 {
     let mut at = first;
     let mut i = from;
+    let mut refused = 0;
     while i < input.len() {
         let text = put(page, run, at, input, i);
         at = text.at;
         i = text.taken;
         if input.len() <= i {
-            return Reached { at: at, taken: i };
+            return Stretch {
+                at: at,
+                taken: i,
+                refused: refused,
+            };
         }
-        let next = turn(page, run, at, input, i);
+        let next = turn(page, run, at, input, i, stop);
+        refused += next.refused;
         if next.taken <= i {
-            return next;
+            return Stretch {
+                at: next.at,
+                taken: next.taken,
+                refused: refused,
+            };
         }
         at = next.at;
         i = next.taken;
     }
-    Reached { at: at, taken: i }
+    Stretch {
+        at: at,
+        taken: i,
+        refused: refused,
+    }
 }
 
-fn still(core: Core, from: usize) -> Reached
-    ensures { λ r. ⌜ r ≡ record { at = cursorOf (core .screen); taken = from } ⌝ }
+fn still(core: Core, from: usize) -> Stretch
+    ensures { λ r. ⌜ r ≡ record { at = cursorOf (core .screen); taken = from; refused = 0 } ⌝ }
 {
-    Reached {
+    Stretch {
         at: cursor_of(core.screen) as usize,
         taken: from,
+        refused: 0,
     }
 }
 
@@ -168,10 +213,10 @@ fn run_of(core: Core) -> Run
     }
 }
 
-// A run from the byte `from` on.
-pub fn text(page: &mut [u16], core: Core, input: &[u8], from: usize) -> Reached
+// A run from the byte `from` on; if it is to stop at a refusal, it leaves it.
+pub fn text(page: &mut [u16], core: Core, input: &[u8], from: usize, stop: bool) -> Stretch
     requires { ⌜ (length (now page) ≡ pageLength (core .screen)) × ((screenOk (core .screen) ≡ true) × ((from < length (now input)) × (core .attribute < 32))) ⌝ }
-    ensures { λ r. ⌜ TextRun core (now (input .entry)) from (now (page .entry)) (r .at) (r .taken) (now (page .exit)) ⌝ }
+    ensures { λ r. ⌜ TextRun core (now (input .entry)) from (now (page .entry)) (r .at) (r .taken) (now (page .exit)) (r .refused) × (stop ≡ true → r .refused ≡ 0) ⌝ }
 {
     let q = core.pending;
     match q {
@@ -181,6 +226,7 @@ pub fn text(page: &mut [u16], core: Core, input: &[u8], from: usize) -> Reached
             cursor_of(core.screen) as usize,
             input,
             from,
+            stop,
         ),
         _ => still(core, from),
     }

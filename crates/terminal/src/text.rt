@@ -51,7 +51,7 @@ fn stop(first: usize, end: usize, from: usize, len: usize) -> usize
 // Text is stored from the cursor `first` on.
 fn store(page: &mut [u16], run: Run, first: usize, input: &[u8], from: usize) -> Reached
     requires { ⌜ Fits run (now page) × ((first < run .end) × ((from ≤ length (now input)) × (run .insert ≡ false))) ⌝ }
-    ensures { λ r. ⌜ Typed run (now (input .entry)) first from (now (page .entry)) (r .at) (r .taken) (now (page .exit)) ⌝ }
+    ensures { λ r. ⌜ Typed run (now (input .entry)) first from (now (page .entry)) (r .at) (r .taken) (now (page .exit)) 0 ⌝ }
 {
     let last = stop(first, run.end, from, input.len());
     let mut at = first;
@@ -71,7 +71,7 @@ fn store(page: &mut [u16], run: Run, first: usize, input: &[u8], from: usize) ->
 // Text is inserted from there on; not where that would guard a cell.
 fn insert(page: &mut [u16], run: Run, first: usize, input: &[u8], from: usize) -> Reached
     requires { ⌜ Fits run (now page) × ((first < run .end) × ((from ≤ length (now input)) × (run .insert ≡ true))) ⌝ }
-    ensures { λ r. ⌜ Typed run (now (input .entry)) first from (now (page .entry)) (r .at) (r .taken) (now (page .exit)) ⌝ }
+    ensures { λ r. ⌜ Typed run (now (input .entry)) first from (now (page .entry)) (r .at) (r .taken) (now (page .exit)) 0 ⌝ }
 {
     let width = columns(run.wide) as usize;
     let last = stop(first, run.end, from, input.len());
@@ -95,7 +95,7 @@ fn insert(page: &mut [u16], run: Run, first: usize, input: &[u8], from: usize) -
 
 pub fn put(page: &mut [u16], run: Run, first: usize, input: &[u8], from: usize) -> Reached
     requires { ⌜ Fits run (now page) × ((first < run .end) × (from ≤ length (now input))) ⌝ }
-    ensures { λ r. ⌜ Typed run (now (input .entry)) first from (now (page .entry)) (r .at) (r .taken) (now (page .exit)) ⌝ }
+    ensures { λ r. ⌜ Typed run (now (input .entry)) first from (now (page .entry)) (r .at) (r .taken) (now (page .exit)) 0 ⌝ }
 {
     if run.insert {
         return insert(page, run, first, input, from);

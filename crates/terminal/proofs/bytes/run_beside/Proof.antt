@@ -1,6 +1,6 @@
 -- `terminal::bytes::run_beside` meets its contract. The loop: what the send and the bytes taken gave, and the repeated step on the rest, are the
 -- whole run; and a row list beside the page is the page's.
-use Prim.Native.Nat.{ℕ, _-_, _<_, _≤_}
+use Prim.Native.Nat.{ℕ, _+_, _-_, _<_, _≤_}
 use mathlib.Core.Path.{_≡_, refl, sym, ap, ap₂, _∙_}
 use native.Mathlib.Omega.{arith}
 use denote.Ref.{now}
@@ -120,7 +120,7 @@ abbrev followed : Waiting → tie.After-follow-text Inv-loop μ-loop
 followed w = w .before .before .before .before .before
 
 abbrev moved : tie.After-follow-text Inv-loop μ-loop → Moved
-moved f = f .before .before .before
+moved f = f .before .before .before .before
 
 abbrev text : Moved → tie.After-text Inv-loop μ-loop
 text m = m .before .before .before .before
@@ -155,14 +155,16 @@ changed a = a .before .before .before .before .before .before
 run : (m : Moved)
     → let x = start m .args in let l = turn m .before .loop in let r = text m .text in
     Resumed (x .stop) (now (x .page)) (whole (behind m)) (now (x .input)) (room (behind m)) (r .last .0) (l .reply) (m .moved .result)
-    (l .g) (l .u) (r .result .taken) (l .replied) (l .refused) (l .taken)
-run m = resumed (turn m .before .loop .inv .0) (omega (arith, turn m .loop-test .taken)) (text m .text .ensures) (m .moved .ensures)
+    (l .g) (l .u) (r .result .taken) (l .replied) (l .refused + r .result .refused) (l .taken)
+run m =
+    let t = text m .text .ensures in
+    resumed (turn m .before .loop .inv .0) (omega (arith, turn m .loop-test .taken)) (t .0) (t .1) (m .moved .ensures)
 
 -- and behind the awaited bytes
 past : (w : Waiting)
     → let m = moved (followed w) in let x = start m .args in let l = turn m .before .loop in
     Resumed (x .stop) (now (x .page)) (whole (behind m)) (now (x .input)) (room (behind m)) (text m .text .last .0) (l .reply)
-    (w .awaiting .result) (l .g) (l .u) (w .before .awaited .result .taken) (l .replied) (l .refused) (l .taken)
+    (w .awaiting .result) (l .g) (l .u) (w .before .awaited .result .taken) (l .replied) (l .refused + text m .text .result .refused) (l .taken)
 past w = passed (run (moved (followed w))) (w .before .awaited .ensures .0) (w .awaiting .ensures)
 
 -- the list there
@@ -254,17 +256,19 @@ run-beside-spec =
     -- moved-requires
     (λ c κs.
     let t = c .before .before .before in
-    text-fits (t .before .before .before .loop .inv .0) (omega (arith, t .before .before .loop-test .taken)) (t .text .ensures))
+    text-fits (t .before .before .before .loop .inv .0) (omega (arith, t .before .before .loop-test .taken)) (t .text .ensures .0))
+    -- add-refused
+    (λ c. let r = run (c .before) in omega (arith, r .running .few, r .left, start (c .before) .good))
     -- follow-text-requires
     (λ c κs.
-    let m = c .before .before in
+    let m = c .before .before .before in
     let t = turn m in
     let l = t .before .loop in
     let g = ready (l .inv .0) in
     let same = eqb (text m .text .result .taken) (l .taken) in (
       ready (run m .running) .0,
       moved-behind (l .c) same (text m .text .result .at) same (text m .text .last .0) (m .moved .ensures)
-          (text-behind (l .c) (g .1 .0) (omega (arith, t .loop-test .taken)) (text m .text .ensures) (l .inv .1 .0)),
+          (text-behind (l .c) (g .1 .0) (omega (arith, t .loop-test .taken)) (text m .text .ensures .0) (l .inv .1 .0)),
     ))
     -- loop-less
     (λ c. let m = moved (c .before .before .before) in omega (arith, c .if3 .taken, turn m .loop-test .taken))
@@ -322,7 +326,7 @@ run-beside-spec =
     omega (arith, more-replied (past (waiting i) .running) _ (i .inner .ensures .0 .fits), resized (sent (before i .before)), first i .good))
     -- refusals-requires
     (λ c κs. search needs)
-    -- add-refused
+    -- add-refused-2
     (λ c.
     let i = called (c .before .before .before .before) in
     let f = more-refused (past (waiting i) .running) (number (i .inner .result .answer)) (present i .if4 .left) in

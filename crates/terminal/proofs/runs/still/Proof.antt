@@ -1,7 +1,7 @@
 -- `terminal::runs::still` meets its contract.
 use mathlib.Core.Path.{ap}
 use Prim.Native.Nat.{ℕ}
-use Rattle.terminal.specs.declared.runs.Reached.{Reached}
+use Rattle.terminal.specs.declared.runs.Stretch.{Stretch}
 use borrow.Author.Needs.{needs}
 use Rattle.terminal.proofs.runs.still.Statement.{statement}
 use Rattle.terminal.proofs.runs.still.Tie as tie
@@ -15,4 +15,4 @@ still-spec =
     -- cast-t4
     (λ c. search needs)
     -- returns
-    (λ c. ap {B = Reached} (λ (n : ℕ). record { at = n; taken = c .before .args .from }) (c .cursor-of .ensures)))
+    (λ c. ap {B = Stretch} (λ (n : ℕ). record { at = n; taken = c .before .args .from; refused = 0 }) (c .cursor-of .ensures)))

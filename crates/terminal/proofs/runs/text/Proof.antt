@@ -1,4 +1,5 @@
 -- `terminal::runs::text` meets its contract.
+use mathlib.Core.Path.{refl}
 use native.Mathlib.Omega.{arith}
 use Rattle.rules.proofs.Screens.{screen-inside}
 use Rattle.terminal.specs.Text.{still, typed}
@@ -31,10 +32,10 @@ text-spec =
     let r = c .before .before in
     let x = r .before .before .before .before .before .before .before .before in
     let s = screen-inside (x .args .core .screen) (x .pre .1 .0) in
-    typed-range (rw (r .before .before .run-of .ensures, r .before .cursor-of .ensures) at (r .runs .ensures)) (omega (arith, x .pre .1 .1 .0)) (s .below) .size)
+    typed-range (rw (r .before .before .run-of .ensures, r .before .cursor-of .ensures) at (r .runs .ensures .0)) (omega (arith, x .pre .1 .1 .0)) (s .below) .size)
     -- returns
     (λ c.
     let r = c .before .before in
-    typed (r .before .before .before .before .enum-told .given .1) (rw (r .before .before .run-of .ensures, r .before .cursor-of .ensures) at (r .runs .ensures)))
+    (typed (r .before .before .before .before .enum-told .given .1) (rw (r .before .before .run-of .ensures, r .before .cursor-of .ensures) at (r .runs .ensures .0)), r .runs .ensures .1))
     -- returns-2
-    (λ c. rw (c .still .ensures) still))
+    (λ c. rw (c .still .ensures) (still, λ z. refl)))

@@ -1,4 +1,5 @@
 -- `terminal::runs::turn` meets its contract.
+use mathlib.Core.Path.{refl}
 use Rattle.terminal.proofs.TextRuns.{typed-range}
 use native.Mathlib.Omega.{arith}
 use borrow.Author.Needs.{needs}
@@ -14,7 +15,7 @@ turn-spec =
     -- escape-requires
     (λ c κs. let p = c .before .before .before .before .before .pre in (p .0, (p .1 .0, (p .1 .1, c .before .if1 .taken))))
     -- same-length
-    (λ c. let p = c .before .before .before .before .before .before .before .before .pre in typed-range (c .before .before .escape .ensures) (omega (arith, p .1 .1)) (p .1 .0) .size)
+    (λ c. let p = c .before .before .before .before .before .before .before .before .pre in typed-range (c .before .before .escape .ensures .0) (omega (arith, p .1 .1)) (p .1 .0) .size)
     -- returns
     (λ c. c .before .before .escape .ensures)
     -- go-requires
@@ -22,4 +23,4 @@ turn-spec =
     -- same-length-2
     (λ c. let p = c .before .before .before .before .before .before .before .before .pre in typed-range (c .before .before .go .ensures) (omega (arith, p .1 .1)) (p .1 .0) .size)
     -- returns-2
-    (λ c. c .before .before .go .ensures))
+    (λ c. (c .before .before .go .ensures, λ z. refl)))

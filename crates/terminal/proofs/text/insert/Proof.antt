@@ -15,7 +15,7 @@ use Rattle.terminal.proofs.text.insert.Tie as tie
 
 abbrev Inv-loop : tie.InvT-loop
 Inv-loop page₀ z first input from width last at₀ i₀ page at i =
-    (length page ≡ length page₀) × ((at < length page₀) × (Along first (z .end) from (length input) last at i × Typed z input first from page₀ at i page))
+    (length page ≡ length page₀) × ((at < length page₀) × (Along first (z .end) from (length input) last at i × Typed z input first from page₀ at i page 0))
 
 abbrev μ-loop : tie.MeasureT-loop
 μ-loop page₀ z first input from width last at₀ i₀ page at i = last - i
