@@ -1,4 +1,5 @@
-# The report of alert as a picture: a few of the host's bytes around the one refused, the page with its open and guarded cells, and what members are sent.
+# The report of alert as a picture: some of the host's bytes around the one refused, the page with its open and guarded cells, and what members
+# are sent.
 # Before the report come the bytes of the stream, one a line, as byte 233.
 BEGIN {
     SIZE = 16; CELL = SIZE * ADVANCE; LINE = 24; EDGE = 28
@@ -99,7 +100,8 @@ END {
     lines = rows + 2 # the host's message above, the labels below
     below = screen + 14 + lines * LINE + 8
     begin(WIDTH, below + 102 + pieces * LINE, "An alert: what the host sends, the page, and what members are sent", \
-        "The note has an accented letter, " spelled(bytes[refused]) ", which is refused: " reason ". Open cells are green. Members are sent the open cells alone: " cost ".")
+        "The note has an accented letter, " spelled(bytes[refused]) ", which is refused: " reason ". " \
+        "Open cells are green. Members are sent the open cells alone: " cost ".")
 
     text(EDGE, 36, 15, "loud", "The host sends")
     ended(WIDTH - EDGE, 36, 13, "quiet", refusals " refused")

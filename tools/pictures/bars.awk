@@ -2,7 +2,8 @@
 BEGIN {
     FS = " *[|] *"
     heading = table == "peers" ? "## Beside its peers" : "## As the input grows"
-    title = table == "peers" ? "Nanoseconds a host byte, on each terminal that has the workload" : "Nanoseconds a host byte of the proved terminal, by the size of its input"
+    title = table == "peers" ? "Nanoseconds a host byte, on each terminal that has the workload" : \
+        "Nanoseconds a host byte of the proved terminal, by the size of its input"
     split(table == "peers" ? "#3fb984 #7f8fa0 #c98a3c #9d7fd1" : "#23704f #3fb984 #8fe0bb", paint, " ")
     BAR = 14; STEP = 17; GROUP = 14; EDGE = 28; LEFT = 126; LONGEST = 560; TOP = 92
 }
@@ -37,7 +38,8 @@ END {
         print "bars.awk: no table under " heading > "/dev/stderr"
         exit 1
     }
-    begin(LEFT + LONGEST + 100, TOP + bars * STEP + (rows - 1) * GROUP + EDGE - 6, title, "The bars of a table of docs/BENCHMARKS.md; shorter is faster.")
+    begin(LEFT + LONGEST + 100, TOP + bars * STEP + (rows - 1) * GROUP + EDGE - 6, title, \
+        "The bars of a table of docs/BENCHMARKS.md; shorter is faster.")
     text(EDGE, 36, 15, "loud", title)
     x = EDGE
     for (c = 1; c <= many; c++) {

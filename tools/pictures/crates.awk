@@ -176,7 +176,7 @@ function at(l) {
     return TOP + (highest - l) * (HIGH + GAP)
 }
 
-function draw(    k, e, least, most, a, b, kind) {
+function draw(    k, e, least, most, a, b, from, to, kind) {
     least = 1e9
     most = -1e9
     for (k = 1; k <= nodes; k++) {
@@ -198,8 +198,9 @@ function draw(    k, e, least, most, a, b, kind) {
     for (e = 1; e <= edges; e++) {
         a = at(level[up[e]]) + HIGH
         b = at(level[down[e]])
-        printf "<path d=\"M%s %s C%s %s %s %s %s %s%s\"/>\n", number(x[up[e]]), a, number(x[up[e]]), (a + b) / 2, number(x[down[e]]), (a + b) / 2, number(x[down[e]]), b, \
-            (down[e] > crates ? " v" HIGH : "")
+        from = number(x[up[e]])
+        to = number(x[down[e]])
+        printf "<path d=\"M%s %s C%s %s %s %s %s %s%s\"/>\n", from, a, from, (a + b) / 2, to, (a + b) / 2, to, b, (down[e] > crates ? " v" HIGH : "")
     }
     print "</g>"
     for (k = 1; k <= crates; k++) {
