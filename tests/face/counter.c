@@ -1,4 +1,4 @@
-/* Checks the counter for C: the worked texts of README.md, pieces, refusals and their order, empty and NULL texts. Compiles as C99 and as C++,
+/* Checks the counter for C: the worked texts of docs/ALERTS.md, pieces, refusals and their order, empty and NULL texts. Compiles as C99 and as C++,
  * and links with libwy50_counter.a alone. Prints one line for each part, and fails by its status. */
 #include "wy50_counter.h"
 

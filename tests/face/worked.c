@@ -1,4 +1,4 @@
-/* The table of worked texts: reads README.md on standard input and counts the text of each row under its heading. A row is
+/* The table of worked texts: reads docs/ALERTS.md on standard input and counts the text of each row under its heading. A row is
  * `| TEXT | UNITS | PARTS |`, its text runs of characters, as `152 a, 1 ~, 152 a`; `_` stands for a space. Fails by its status. */
 #include "wy50_counter.h"
 
@@ -31,7 +31,7 @@ int main(void)
         unsigned long long units, parts;
         char *second;
         if (strncmp(line, "## ", 3) == 0)
-            under = strcmp(line, "## Count text parts\n") == 0;
+            under = strcmp(line, "## Texts and their parts\n") == 0;
         if (!under || line[0] != '|' || (second = strchr(line + 1, '|')) == NULL || sscanf(second, "| %llu | %llu |", &units, &parts) != 2)
             continue;
         wy50_count c = wy50_count_text(text, spelled(line + 1));
