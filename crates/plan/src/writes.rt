@@ -178,14 +178,15 @@ pub fn plan_edit(page: &[u16], core: Core, e: Edit) -> Plan
 }
 
 // The open cells from `from` up to `to` are cleared.
-fn fill(k: Contents, from: u16, to: u16) -> Write
-    ensures { λ r. ⌜ r ≡ Write.Fill from to (written k false normal) ⌝ }
+fn clearing(core: Core, k: Contents, from: u16, to: u16, land: Land) -> Plan
+    ensures { λ r. ⌜ r ≡ writingOf core (Write.Fill from to (written k false normal)) land ⌝ }
 {
-    Write::Fill {
+    let w = Write::Fill {
         from: from,
         to: to,
         value: written_cell(k, false, NORMAL),
-    }
+    };
+    writing(core, w, land)
 }
 
 pub fn plan_clear(core: Core, x: Clear) -> Plan
@@ -196,11 +197,12 @@ pub fn plan_clear(core: Core, x: Clear) -> Plan
     let at = cursor_of(s);
     let start = segment_start(s);
     let end = segment_end(s);
-    let row = row_start(s) + width_of(s);
+    let first = row_start(s);
+    let row = first + width_of(s);
     match x {
-        Clear::Row(k) => writing(core, fill(k, at, row), Land::Stay),
-        Clear::Rest(k) => writing(core, fill(k, at, end), Land::Stay),
-        Clear::Segment(k) => writing(core, fill(k, start, end), Land::Settle(start)),
+        Clear::Row(k) => clearing(core, k, at, row, Land::Stay),
+        Clear::Rest(k) => clearing(core, k, at, end, Land::Stay),
+        Clear::Segment(k) => clearing(core, k, start, end, Land::Settle(start)),
         Clear::Column => {
             let w = Write::Column {
                 top: segment_top(s),

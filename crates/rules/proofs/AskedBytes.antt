@@ -15,7 +15,7 @@ use Rattle.rules.specs.declared.Decoded.{Decoded}
 use Rattle.rules.specs.declared.Decoded.the-variants as Decoded
 use Rattle.rules.specs.Cell.{pick, either}
 use Rattle.rules.specs.Decode.{lookup, idleRule, escapeRule, judged, featureRule, fieldRule, splitRule, digitRule, decimalRowRule, decimalColumnRule, slotRule, textRule, spoiltRule, argumentRule, decodeRule}
-use Rattle.rules.proofs.Planned.{asks}
+use Rattle.rules.proofs.Commands.{sendAsked, excludedAsked, kindOf}
 use Rattle.rules.proofs.ExcludedBytes.{values, below}
 
 abbrev pub asked : Decoded → ℕ
@@ -23,18 +23,18 @@ asked (Decoded.Wait q) = 0
 asked (Decoded.Gather x n b) = 0
 asked (Decoded.Take x n) = 0
 asked (Decoded.Reject a) = 0
-asked (Decoded.Do d) = asks d
+asked (Decoded.Do d) = kindOf d .asks
 
 -- it asks for nothing, or is the command
 abbrev asksAs : ℕ → Decoded → Bool
 asksAs b d = either (eqb (asked d) 0) (eqb (asked d) b)
 
 in-idle : values 128 (λ b. asksAs b (idleRule b)) ≡ values 128 (λ b. true)
-unfolding idleRule lookup
+unfolding idleRule lookup sendAsked
 in-idle = refl
 
 after-escape : values 128 (λ b. asksAs b (escapeRule b)) ≡ values 128 (λ b. true)
-unfolding escapeRule lookup
+unfolding escapeRule lookup sendAsked excludedAsked
 after-escape = refl
 
 pick-none : (t : Bool) (d e : Decoded) → asked d ≡ 0 → asked e ≡ 0 → asked (pick t d e) ≡ 0

@@ -20,7 +20,7 @@ use Rattle.rules.specs.Completed.{completesFrom, stepCompletes}
 use Rattle.rules.specs.Bench.{replies, answers, countsOf, restsOf, segmentsOf, modesOf, stopsFrom, sendNumbers, holds, allHold, casesHold, host}
 use Rattle.rules.specs.Inputs.{esc, goTo, labelled, halves, lower, threeLetters, lettersBelow, pageOf, cursorAt, protectAt, upperAt, placedOn, lowerAt, belled, fullKeys, typed, obeys, refuses, obeysFrom, refusesFrom}
 use Rattle.rules.specs.MovingCases.{movingCases}
-use Rattle.rules.specs.WritingCases.{writingCases}
+use Rattle.rules.specs.WritingCases.{writingBytes, writingCases}
 use Rattle.rules.specs.ReplyCases.{replyCases}
 use Rattle.rules.specs.CallCases.{callCases}
 use Rattle.rules.specs.LabelCases.{message, labelling, labelCases}
@@ -40,7 +40,7 @@ pub cases : CaseList
 unfolding completes runCompletes insideCompletes callCompletes anyCompleted completesFrom stepCompletes same replies answers holds allHold casesHold host
     esc goTo labelled halves lower threeLetters lettersBelow pageOf cursorAt protectAt upperAt placedOn lowerAt belled fullKeys typed obeys refuses
     obeysFrom refusesFrom countsOf restsOf segmentsOf modesOf stopsFrom sendNumbers movingCases writingCases replyCases callCases twoFields twoLabelRows labelOverRowEnd sendCases form twoRows narrowCases as60 obeys60 refuses60 attr graphic flaggedCells personalityCases span lastAnswer
-    triedHold bytesHold low high digitBytes attributeBytes escapeBytes firstBytes argumentBytes addressBytes decimalBytes placed placedWide keyed
+    triedHold bytesHold low high digitBytes attributeBytes writingBytes escapeBytes firstBytes argumentBytes addressBytes decimalBytes placed placedWide keyed
     labelledAt messaged shiftedOn remembering gathering message labelling labelCases attributed featured stopped possibleStates impossibleStates allPossible nonePossible over powerOnRule columns rowEnd marksBy others
     startsFrom firstIn lastIn around aroundBack within filled shiftLeft shiftRight editShifted rowsShifted columnFilled segmentTop
     segmentBottom cursorOf withCursor withMode changed stored sendingAfter gatheredAfter setupAfter powerOn blank unsplitOk splitOk screenOk isLabel slotOk slotEnd slotMost slotLow isText allText textOk textsOk isAttribute

@@ -10,7 +10,7 @@ use native.Mathlib.Nat.{pow-le-pow-right}
 use native.Mathlib.Numerals.{add-one}
 use lib.Dec.{ltb, leb, eqb}
 use lib.ListN.{set}
-use borrow.Author.Tests.{lt-ltb, le-leb, leb-true, ltb-true, ltb-false, eqb-true}
+use borrow.Author.Tests.{lt-ltb, le-leb, leb-true, ltb-true, ltb-false, eq-eqb, eqb-true}
 use Rattle.rules.specs.declared.Slot.{Slot}
 use Rattle.rules.specs.declared.Pending.{Pending}
 use Rattle.rules.specs.declared.Pending.the-variants as Pending
@@ -18,16 +18,21 @@ use Rattle.rules.specs.declared.Argument.{Argument}
 use Rattle.rules.specs.declared.Argument.the-variants as Argument
 use Rattle.rules.specs.declared.Command.{Command}
 use Rattle.rules.specs.declared.Contents.{Contents}
+use Rattle.rules.specs.declared.Contents.the-variants as Contents
+use Rattle.rules.specs.declared.Clear.the-variants as Clear
+use Rattle.rules.specs.declared.Personality.the-variants as Personality
 use Rattle.rules.specs.declared.Decoded.{Decoded}
 use Rattle.rules.specs.declared.Decoded.the-variants as Decoded
 use Rattle.rules.specs.Cell.{both, either, among}
 use Rattle.rules.specs.State.{number}
 use Rattle.rules.specs.Arguments.{isAttribute, attributeContents, featurePlace, isKey, isLabel}
 use Rattle.rules.specs.Slot.{slotOk, slotEnd, slotMost, slotLow, isText, allText, textOk}
-use Rattle.rules.specs.Possible.{pendingOk}
+use Rattle.rules.specs.Possible.{rememberedOk, pendingOk}
+use Rattle.rules.specs.Writable.{isStored, writable}
 use Rattle.rules.specs.Decode.{lookup, controls, escapes, idleRule, escapeRule, judged, featureRule, fieldRule, splitRule, digitRule, decimalRowRule, decimalColumnRule, slotRule, textRule, spoiltRule, argumentRule, decodeRule}
 use Rattle.rules.proofs.Tests.{pick-if, both-parts, both-true, among-parts}
-use Rattle.rules.proofs.Good.{settingOk, storeOk, fillOk, clearOk, commandOk}
+use Rattle.rules.proofs.Commands.{settingOk, storeOk, fillOk, clearOk, kindOf}
+use Rattle.rules.proofs.Numbers.{filled-ok}
 use Rattle.rules.proofs.Texts.{text-begun, text-grown}
 
 -- g are the bytes gathered
@@ -36,7 +41,7 @@ decodedOk g (Decoded.Wait r) = pendingOk r g
 decodedOk g (Decoded.Gather x n b) = pendingOk (Pending.Text x (n + 1)) (set g n b)
 decodedOk g (Decoded.Take x n) = pendingOk (Pending.Text x n) g
 decodedOk g (Decoded.Reject a) = among 2 3 (number a)
-decodedOk g (Decoded.Do d) = commandOk d
+decodedOk g (Decoded.Do d) = kindOf d .ok
 
 -- ---- tables: what holds of each entry holds at every byte
 
@@ -53,11 +58,11 @@ looked-up f (r ∷ t) other b e h =
     pick-if (λ (d : Decoded). f d ≡ true) (eqb b (r .0)) (λ z. p .0) (λ z. looked-up f t other b (p .1) h)
 
 controls-ok : (g : List ℕ) → entriesOk (decodedOk g) controls ≡ true
-unfolding entriesOk decodedOk commandOk clearOk fillOk pendingOk
+unfolding entriesOk decodedOk clearOk writable isStored rememberedOk pendingOk
 controls-ok g = refl
 
 escapes-ok : (g : List ℕ) → entriesOk (decodedOk g) escapes ≡ true
-unfolding entriesOk decodedOk commandOk clearOk fillOk settingOk pendingOk slotOk textOk slotMost allText
+unfolding entriesOk decodedOk clearOk writable isStored rememberedOk settingOk pendingOk slotOk textOk slotMost allText
 escapes-ok g = refl
 
 -- ---- the rules of the single sequences
@@ -70,13 +75,13 @@ abbrev Ok : List ℕ → Decoded → Type 0
 Ok g d = decodedOk g d ≡ true
 
 module _ (g : List ℕ) where
-  judged-ok : (t : Bool) (d : Command) → (t ≡ true → commandOk d ≡ true) → decodedOk g (judged t d) ≡ true
+  judged-ok : (t : Bool) (d : Command) → (t ≡ true → kindOf d .ok ≡ true) → decodedOk g (judged t d) ≡ true
   unfolding judged decodedOk
   judged-ok true d h = h refl
   judged-ok false d h = refl
 
   idle-ok : (b : ℕ) → decodedOk g (idleRule b) ≡ true
-  unfolding idleRule decodedOk commandOk storeOk
+  unfolding idleRule decodedOk storeOk
   idle-ok b =
       pick-if (Ok g) (ltb b 0x20) (λ e. looked-up (decodedOk g) controls _ b (controls-ok g) refl)
       (λ e. pick-if (Ok g) (ltb b 0x7f) (λ z. both-true (le-leb 0x20 b (ltb-false b 0x20 e)) z) (λ z. refl))
@@ -86,11 +91,11 @@ module _ (g : List ℕ) where
   escape-ok b = looked-up (decodedOk g) escapes _ b (escapes-ok g) refl
 
   feature-ok : (f : ℕ) → decodedOk g (featureRule f) ≡ true
-  unfolding featureRule decodedOk commandOk settingOk
-  feature-ok f = pick-if (Ok g) (among 0x3a 2 f) (λ e. refl) (λ e. judged-ok (ltb (featurePlace f) 5) _ (λ z. z))
+  unfolding featureRule decodedOk settingOk
+  feature-ok f = pick-if (Ok g) (among 0x3a 2 f) (λ e. refl) (λ e. judged-ok (ltb (featurePlace f) 5) _ (λ z. both-true z (eq-eqb (featurePlace f) _ refl)))
 
   field-ok : (n a : ℕ) → decodedOk g (fieldRule n a) ≡ true
-  unfolding fieldRule commandOk settingOk
+  unfolding fieldRule settingOk
   field-ok n a =
       judged-ok (both (among 0x30 4 n) (isAttribute a)) _ (λ e.
       let r = both-parts (among 0x30 4 n) (isAttribute a) e in
@@ -98,7 +103,7 @@ module _ (g : List ℕ) where
       both-true (lt-ltb (n - 0x30) 4 (omega arith)) (r .1))
 
   split-ok : (b : ℕ) → decodedOk g (splitRule b) ≡ true
-  unfolding splitRule decodedOk commandOk pendingOk
+  unfolding splitRule decodedOk pendingOk
   split-ok b =
       pick-if (Ok g) (eqb b 0x30) (λ e. refl) (λ e. pick-if (Ok g) (eqb b 0x31) (λ z. refl) (λ z. refl))
 
@@ -123,7 +128,7 @@ module _ (g : List ℕ) where
 
   decimal-column-ok : (row n column b : ℕ) → pendingOk (Pending.DecimalColumn row n column) g ≡ true
       → decodedOk g (decimalColumnRule row n column b) ≡ true
-  unfolding decimalColumnRule decodedOk pendingOk commandOk
+  unfolding decimalColumnRule decodedOk pendingOk
   decimal-column-ok row n column b h =
       let p = both-parts (ltb row 100) _ h in
       let r = both-parts (leb n 3) (ltb column (10 ^ n)) (p .1) in
@@ -132,7 +137,7 @@ module _ (g : List ℕ) where
       (digit-more n column (b - 0x30) (ltb-true column (10 ^ n) (r .1)) j))))
 
   slot-ok : (v : ℕ) → decodedOk g (slotRule v) ≡ true
-  unfolding slotRule decodedOk pendingOk slotOk commandOk settingOk
+  unfolding slotRule decodedOk pendingOk slotOk settingOk
   slot-ok v =
       pick-if (Ok g) (isKey v) (λ e. both-true e (text-begun _ _ g))
       (λ e. pick-if (Ok g) (isLabel v) (λ z. both-true z (text-begun _ _ g)) (λ z. judged-ok (eqb v 0x7f) _ (λ y. refl)))
@@ -157,22 +162,26 @@ unfolding isAttribute attributeContents fillOk
 attribute-contents-ok a h =
     pick-if (λ (k : Contents). fillOk k ≡ true) (eqb a 0x20) (λ e. let z = eqb-true a 0x20 e in rw z) (λ e. rw e at h)
 
+segment-ok : (k : Contents) → fillOk k ≡ true → clearOk (Clear.Segment k) ≡ true
+unfolding clearOk
+segment-ok k e = both-true (filled-ok Personality.Wy50 k e) (filled-ok Personality.Wy60 k e)
+
 argument-ok : (g : List ℕ) (a : Argument) (b : ℕ) → b < 128 → decodedOk g (argumentRule a b) ≡ true
-unfolding argumentRule decodedOk pendingOk commandOk storeOk clearOk fillOk
+unfolding argumentRule decodedOk pendingOk storeOk fillOk
 argument-ok g Argument.Address b h = lt-ltb b _ (omega arith)
 argument-ok g Argument.Segment b h = lt-ltb b _ (omega arith)
 argument-ok g Argument.Split b h = split-ok g b
 argument-ok g Argument.SplitRow b h = refl
 argument-ok g Argument.Attribute b h = judged-ok g (isAttribute b) _ (λ z. z)
 argument-ok g Argument.Graphic b h = judged-ok g (among 0x30 16 b) _ (λ z. z)
-argument-ok g Argument.FillAttribute b h = judged-ok g (isAttribute b) _ (λ z. attribute-contents-ok b z)
-argument-ok g Argument.FillCode b h = judged-ok g (either (eqb b 0) (among 0x20 95 b)) _ (λ z. z)
+argument-ok g Argument.FillAttribute b h = judged-ok g (isAttribute b) _ (λ z. segment-ok (attributeContents b) (attribute-contents-ok b z))
+argument-ok g Argument.FillCode b h = judged-ok g (either (eqb b 0) (among 0x20 95 b)) _ (λ z. segment-ok (Contents.Text b) z)
 argument-ok g Argument.Feature b h = feature-ok g b
 argument-ok g Argument.FieldAttribute b h = lt-ltb b _ (omega arith)
 argument-ok g Argument.Slot b h = slot-ok g b
 
 pub decoded-ok : (q : Pending) (g : List ℕ) (b : ℕ) → b < 128 → pendingOk q g ≡ true → decodedOk g (decodeRule q b) ≡ true
-unfolding decodeRule decodedOk pendingOk commandOk
+unfolding decodeRule decodedOk pendingOk
 decoded-ok Pending.Idle g b h e = idle-ok g b
 decoded-ok Pending.Escape g b h e = escape-ok g b
 decoded-ok (Pending.Awaits a) g b h e = argument-ok g a b h

@@ -17,7 +17,7 @@ use Rattle.rules.specs.declared.Decoded.the-variants as Decoded
 use Rattle.rules.specs.Cell.{pick, both}
 use Rattle.rules.specs.Decode.{lookup, idleRule, escapeRule, judged, featureRule, fieldRule, splitRule, digitRule, decimalRowRule, decimalColumnRule, slotRule, textRule, spoiltRule, argumentRule, decodeRule}
 use Rattle.rules.specs.Noninterference.{afterEscape, anyOf, excludedBytes}
-use Rattle.rules.proofs.Unrevealing.{isExcluded}
+use Rattle.rules.proofs.Commands.{kindOf}
 
 -- the values of a function at the numbers below n
 abbrev pub values : ℕ → (ℕ → Bool) → List Bool
@@ -39,7 +39,7 @@ givesExcluded (Decoded.Wait q) = false
 givesExcluded (Decoded.Gather x n b) = false
 givesExcluded (Decoded.Take x n) = false
 givesExcluded (Decoded.Reject a) = false
-givesExcluded (Decoded.Do d) = isExcluded d
+givesExcluded (Decoded.Do d) = kindOf d .excluded
 
 after-escape : values 128 (λ b. givesExcluded (escapeRule b)) ≡ values 128 (anyOf excludedBytes)
 unfolding escapeRule lookup

@@ -52,7 +52,8 @@ use Rattle.rules.proofs.Tests.{pick-if, both-parts, both-true}
 use Rattle.rules.proofs.Marks.{length-guards}
 use Rattle.rules.proofs.Places.{in-settled}
 use Rattle.rules.proofs.Screens.{screen-inside, cursor-kept}
-use Rattle.rules.proofs.Good.{changeOk, commandOk, PlanKept, plan-kept}
+use Rattle.rules.proofs.Commands.{changeOk, kindOf}
+use Rattle.rules.proofs.Good.{PlanKept, plan-kept}
 use Rattle.rules.proofs.Lengths.{length-after}
 use Rattle.rules.proofs.Sends.{ok-good, sending-idle, idle-ok, not-sending, left-ok}
 use Rattle.rules.proofs.Texts.{text-taken, texts-set}
@@ -260,7 +261,7 @@ idle-kept c g h = record { screen = h .screen; bells = h .bells; remembered = h 
 
 module _ (p : List ℕ) (c : Core) (n : length p ≡ pageLength (c .screen)) (g : List ℕ) (h : PossibleCore c g) where
   -- the plan of a command, from the page's own guarded cells
-  pub planned-kept : (tabs : List Bool) (d : Command) → PlanKept (commandOk d) (idle c) (planRule (guardedAt (c .modes .protect) p) tabs (idle c) d)
+  pub planned-kept : (tabs : List Bool) (d : Command) → PlanKept (kindOf d .ok) (idle c) (planRule (guardedAt (c .modes .protect) p) tabs (idle c) d)
   planned-kept tabs d = plan-kept (idle c) (h .screen) (guardedAt (c .modes .protect) p) (length-guards (c .modes .protect) p ∙ n) tabs d
 
   next-kept : {t : Bool} {x : Plan} → PlanKept t (idle c) x → t ≡ true → PossibleCore (x .next) g

@@ -9,6 +9,8 @@ pub mod Marks
 pub mod Lengths
 pub mod Sends
 pub mod Related
+pub mod Commands
+pub mod Forms
 pub mod Unrevealing
 pub mod ExcludedBytes
 pub mod Noninterference

@@ -35,7 +35,8 @@ use Rattle.rules.specs.Calls.{Ran, ended, joined, repeated, behind, runI
 use Rattle.rules.specs.Next.{tells, atEvent, toEvent, nextInside, nextRule}
 use Rattle.rules.specs.Noninterference.{afterEscape, anyOf, excludedBytes, completes, runCompletes, insideCompletes, callCompletes, anyCompleted, revealing, AlikePages, KeptPages, Demand3}
 use Rattle.rules.proofs.Related.{Related, related-alike, related-cell, related-length, related-guards, related-write, related-places, left-conceals}
-use Rattle.rules.proofs.Unrevealing.{both-false, isExcluded, Unrevealing, unrevealing}
+use Rattle.rules.proofs.Commands.{kindOf}
+use Rattle.rules.proofs.Unrevealing.{both-false, Unrevealing, unrevealing}
 use Rattle.rules.proofs.ExcludedBytes.{givesExcluded, excluded-bytes}
 use Rattle.rules.proofs.Kept.{step-good}
 use Rattle.rules.proofs.Next.{no-event, to-done, to-event, to-go, event-taken, begun-tells, next-outside, next-refused}
@@ -153,7 +154,7 @@ module _ {p q x y : List ℕ} (h : Related p q x y) (s : State) (closed : Closed
       let k = planRule (guardedAt (protects s) x) (s .setup .tabs) (idle (s .core)) d in
       rw (← (guards-agree (protects s) (closed .on) h))
       (carried-agrees k room (λ fits. unrevealing (guardedAt (protects s) x) (s .setup .tabs) (idle (s .core)) (closed .on) d
-      (ap (λ (n : ℕ). both (isExcluded d) (eqb n 0)) (sym (carried-answer k room fits)) ∙ e)))
+      (ap (λ (n : ℕ). both (kindOf d .excluded) (eqb n 0)) (sym (carried-answer k room fits)) ∙ e)))
 
   inner-agrees : (b room : ℕ) → completes s b ((innerRule x (s .core) (s .setup .tabs) b room) .answer) ≡ false
       → AgreeFrom s p q (innerRule x (s .core) (s .setup .tabs) b room) (innerRule y (s .core) (s .setup .tabs) b room)

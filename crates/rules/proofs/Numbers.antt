@@ -1,5 +1,5 @@
--- The numbers that plans write: from a possible core each is writable.
---     plan-numbers                          of every plan
+-- The numbers that commands write: from a possible core each is writable.
+--     stored-ok, filled-ok, taken-ok        what is stored, what clearing writes, what ESC G stores
 --     kinds                                 the cases of a writable number
 --     normal-50                             in WY-50 such a number has no flag
 --     reads-as-before, attribute-flags      the clauses of specs/Personalities that speak of single numbers
@@ -8,44 +8,22 @@
 use mathlib.Core.Path.{_≡_, refl, sym, _∙_}
 use mathlib.Core.Bool.{Bool, true, false, false≢true}
 use mathlib.Core.Logic.{_⊎_, inl, inr, ⊎-elim}
-use mathlib.Core.List.{List}
 use Prim.Native.Nat.{ℕ, _+_, _*_, _/_, _%_, _<_, _≤_}
 use native.Mathlib.Omega.{arith}
 use lib.Dec.{ltb, eqb}
 use borrow.Author.Tests.{lt-ltb, ltb-true, ltb-false, eq-eqb, eqb-true, eqb-false, ne-eqb}
-use Rattle.rules.specs.declared.Screen.{Screen}
-use Rattle.rules.specs.declared.Core.{Core}
-use Rattle.rules.specs.declared.Plan.{Plan}
 use Rattle.rules.specs.declared.Personality.{Personality}
 use Rattle.rules.specs.declared.Personality.the-variants as Personality
 use Rattle.rules.specs.declared.Contents.{Contents}
 use Rattle.rules.specs.declared.Contents.the-variants as Contents
-use Rattle.rules.specs.declared.Move.{Move}
-use Rattle.rules.specs.declared.Move.the-variants as Move
-use Rattle.rules.specs.declared.Window.{Window}
-use Rattle.rules.specs.declared.Window.the-variants as Window
-use Rattle.rules.specs.declared.Edit.{Edit}
-use Rattle.rules.specs.declared.Edit.the-variants as Edit
-use Rattle.rules.specs.declared.Clear.{Clear}
-use Rattle.rules.specs.declared.Clear.the-variants as Clear
-use Rattle.rules.specs.declared.Setting.{Setting}
-use Rattle.rules.specs.declared.Setting.the-variants as Setting
-use Rattle.rules.specs.declared.Send.{Send}
-use Rattle.rules.specs.declared.Send.the-variants as Send
-use Rattle.rules.specs.declared.Excluded.{Excluded}
-use Rattle.rules.specs.declared.Excluded.the-variants as Excluded
-use Rattle.rules.specs.declared.Command.{Command}
-use Rattle.rules.specs.declared.Command.the-variants as Command
-use Rattle.rules.specs.declared.Write.{Write}
-use Rattle.rules.specs.declared.Write.the-variants as Write
 use Rattle.rules.specs.Cell.{pick, both, either, among, code, kind, attribute, cell, written, null, space, protectedSpace, isDim, isUnderscore, isReverse, isBlink, isBlank}
 use Rattle.rules.specs.Possible.{rememberedOk}
 use Rattle.rules.specs.Arguments.{isFlags, isAttribute, attributeContents}
-use Rattle.rules.specs.Plan.{unlessGuarded, unlessWide, reversePlan, downPlan, addressPlan, movePlan, activate, windowPlan, storing, advancing, storePlan, takesCell, attributePlan, rowEditPlan, editPlan, clearPlan, settingPlan, sendPlan, excludedPlan, planRule}
+use Rattle.rules.specs.Plan.{takesCell}
 use Rattle.rules.specs.Writable.{isStored, isAttributeCell, writable}
 use Rattle.rules.specs.Personalities.{ReadsAsBefore, NoFlags}
 use Rattle.rules.proofs.Tests.{pick-if, both-parts, both-true, either-parts, either-first, either-second, among-parts}
-use Rattle.rules.proofs.Good.{storeOk, fillOk, clearOk, commandOk}
+use Rattle.rules.proofs.Commands.{storeOk, fillOk}
 
 -- ---- single numbers
 
@@ -159,7 +137,7 @@ filled-ok m (Contents.Attribute c) e = attribute-free m c e
 filled-ok m (Contents.Graphic c) e = absurd (false≢true e)
 
 -- a code of ESC G that takes a cell
-taken-ok : (m : Personality) (p : Bool) (a : ℕ) → isAttribute a ≡ true → takesCell m a ≡ true → writable m (written (attributeContents a) p 0) ≡ true
+pub taken-ok : (m : Personality) (p : Bool) (a : ℕ) → isAttribute a ≡ true → takesCell m a ≡ true → writable m (written (attributeContents a) p 0) ≡ true
 unfolding isAttribute attributeContents takesCell
 taken-ok m p a e t =
     pick-if (λ (k : Contents). writable m (written k p 0) ≡ true) (eqb a 0x20)
@@ -277,138 +255,3 @@ normal-50 v e =
         blank = ne-eqb (v / 1024 % 2) 1 (omega arith);
       },
     )
-
--- ---- plans
-
--- the number that a write puts into cells is writable
-unfoldable pub writeOk : Personality → Write → Bool
-writeOk m Write.Nothing = true
-writeOk m (Write.Fill a e v) = writable m v
-writeOk m (Write.FillAll a e v) = writable m v
-writeOk m (Write.Column top bottom c v) = writable m v
-writeOk m (Write.Edit right at v) = writable m v
-writeOk m (Write.Rows down top bottom) = writable m space
-
-pub record PlanNumbers (m : Personality) (x : Plan) : Type 0 where
-  pub first : writeOk m (x .first) ≡ true
-  pub second : writeOk m (x .second) ≡ true
-
-pick-numbers : {m : Personality} (t : Bool) {x y : Plan} → PlanNumbers m x → PlanNumbers m y → PlanNumbers m (pick t x y)
-pick-numbers true a b = a
-pick-numbers false a b = b
-
-plan-of : {m : Personality} (x : Plan) → writeOk m (x .first) ≡ true → writeOk m (x .second) ≡ true → PlanNumbers m x
-plan-of x a b = record { first = a; second = b }
-
-ruleset forms = (pick-numbers, plan-of, null-ok, space-ok, protected-space-ok)
-
-module _ (g tabs : List Bool) (c : Core) (ok : rememberedOk (c .personality) (c .attribute) ≡ true) where
-  unless-guarded : {x : Plan} → PlanNumbers (c .personality) x → PlanNumbers (c .personality) (unlessGuarded g c x)
-  unfolding unlessGuarded writeOk
-  unless-guarded f = search forms
-
-  address : (x : Screen) (base most row column : ℕ) → PlanNumbers (c .personality) (addressPlan c x base most row column)
-  unfolding addressPlan writeOk
-  address x base most row column = search forms
-
-  move : (m : Move) → PlanNumbers (c .personality) (movePlan g tabs c m)
-  unfolding movePlan reversePlan downPlan writeOk
-  move Move.Back = search forms
-  move Move.Right = search forms
-  move Move.Return = search forms
-  move Move.Home = search forms
-  move Move.Up = search forms
-  move Move.Reverse = search forms
-  move Move.Down = search forms
-  move Move.NextLine = search forms
-  move Move.Tab = search forms
-  move Move.BackTab = search forms
-  move (Move.Address r k) = address _ _ _ _ _
-  move (Move.Decimal r k) = address _ _ _ _ _
-
-  window : (x : Window) → PlanNumbers (c .personality) (windowPlan c x)
-  unfolding windowPlan activate writeOk
-  window Window.Unsplit = search forms
-  window (Window.Split r) = search forms
-  window Window.Other = search forms
-  window Window.First = search forms
-  window Window.Second = search forms
-  window (Window.Place n r k) = search (forms, address)
-
-  advance : (w : Write) → writeOk (c .personality) w ≡ true → PlanNumbers (c .personality) (advancing c w)
-  unfolding advancing writeOk
-  advance w e = search forms
-
-  store : (k : Contents) (a : ℕ) → writable (c .personality) (written k (c .modes .mark) a) ≡ true → PlanNumbers (c .personality) (storePlan g c k a)
-  unfolding storePlan storing writeOk
-  store k a v = unless-guarded (advance _ (pick-if (λ (w : Write). writeOk (c .personality) w ≡ true) (c .modes .insert) (λ u. v) (λ u. v)))
-
-  attributes : (a : ℕ) → isAttribute a ≡ true → PlanNumbers (c .personality) (attributePlan g c a)
-  unfolding attributePlan writeOk
-  attributes a e =
-      pick-if (PlanNumbers (c .personality)) (takesCell (c .personality) a)
-      (λ t. store (attributeContents a) 0 (taken-ok (c .personality) (c .modes .mark) a e t)) (λ t. plan-of _ refl refl)
-
-  edit : (x : Edit) → PlanNumbers (c .personality) (editPlan g c x)
-  unfolding editPlan rowEditPlan writeOk
-  edit Edit.InsertCell = unless-guarded (search forms)
-  edit Edit.DeleteCell = unless-guarded (search forms)
-  edit Edit.InsertRow = search forms
-  edit Edit.DeleteRow = search forms
-
-  clear : (x : Clear) → clearOk x ≡ true → PlanNumbers (c .personality) (clearPlan c x)
-  unfolding clearPlan clearOk writeOk
-  clear (Clear.Row k) e = plan-of _ (filled-ok (c .personality) k e) refl
-  clear (Clear.Rest k) e = plan-of _ (filled-ok (c .personality) k e) refl
-  clear (Clear.Segment k) e = plan-of _ (filled-ok (c .personality) k e) refl
-  clear Clear.Column e = search forms
-
-  setting : (x : Setting) → PlanNumbers (c .personality) (settingPlan c x)
-  unfolding settingPlan writeOk
-  setting (Setting.Tab b) = search forms
-  setting Setting.ClearTabs = search forms
-  setting (Setting.Attribute n a) = search forms
-  setting (Setting.Feature f) = search forms
-  setting Setting.HideLine = search forms
-  setting (Setting.Wish b) = search forms
-
-  unless-wide : {x : Plan} → PlanNumbers (c .personality) x → PlanNumbers (c .personality) (unlessWide c x)
-  unfolding unlessWide writeOk
-  unless-wide f = search forms
-
-  send : (x : Send) → PlanNumbers (c .personality) (sendPlan g c x)
-  unfolding sendPlan writeOk
-  send Send.Acknowledge = search forms
-  send Send.Identity = search forms
-  send Send.Cursor = unless-wide (search forms)
-  send Send.SegmentCursor = unless-wide (search forms)
-  send Send.DecimalCursor = search forms
-  send Send.Cell = unless-guarded (search forms)
-  send Send.OpenRow = search forms
-  send Send.OpenSegment = search forms
-
-  excluded : (x : Excluded) → PlanNumbers (c .personality) (excludedPlan c x)
-  unfolding excludedPlan writeOk
-  excluded Excluded.ProtectOff = search forms
-  excluded Excluded.ClearNulls = search forms
-  excluded Excluded.ClearSpaces = search forms
-  excluded Excluded.ClearProtected = search forms
-  excluded Excluded.SendRow = search forms
-  excluded Excluded.SendSegment = search forms
-
-  -- every plan, of a command that a byte comes to
-  pub plan-numbers : (d : Command) → commandOk d ≡ true → PlanNumbers (c .personality) (planRule g tabs c d)
-  unfolding planRule commandOk writeOk
-  plan-numbers Command.Nothing e = search forms
-  plan-numbers (Command.Go m) e = move m
-  plan-numbers (Command.Window x) e = window x
-  plan-numbers (Command.Store k) e = store k (c .attribute) (stored-ok (c .personality) k (c .modes .mark) (c .attribute) e ok)
-  plan-numbers (Command.Attribute a) e = attributes a e
-  plan-numbers (Command.Edit x) e = edit x
-  plan-numbers (Command.Clear x) e = clear x e
-  plan-numbers (Command.Turn m b) e = search forms
-  plan-numbers Command.ProtectOn e = search forms
-  plan-numbers Command.Bell e = search forms
-  plan-numbers (Command.Set x) e = setting x
-  plan-numbers (Command.Send x) e = send x
-  plan-numbers (Command.Excluded x) e = excluded x

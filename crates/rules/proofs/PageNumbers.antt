@@ -2,35 +2,39 @@
 --     step-numbers, play-numbers     after a step, and after a list of calls, from any page and state
 --     powered-numbers                so after any calls from power-on
 -- Assumes nothing.
-use mathlib.Core.Path.{_≡_, sym, subst}
+use mathlib.Core.Path.{_≡_, refl, sym, subst}
 use mathlib.Core.Bool.{Bool, true, false}
 use mathlib.Core.List.{List, [], _∷_, _++_}
 use Prim.Native.Nat.{ℕ, zero, suc, _+_, _-_, _*_}
 use lib.Dec.{ltb, eqb}
-use lib.ListN.{length, getD, take, drop, replicate}
+use lib.ListN.{length, take, drop, replicate}
 use borrow.Author.Tests.{ltb-true}
 use Rattle.rules.specs.declared.Personality.{Personality}
 use Rattle.rules.specs.declared.Core.{Core}
 use Rattle.rules.specs.declared.State.{State}
 use Rattle.rules.specs.declared.Plan.{Plan}
+use Rattle.rules.specs.declared.Command.{Command}
 use Rattle.rules.specs.declared.Decoded.{Decoded}
 use Rattle.rules.specs.declared.Decoded.the-variants as Decoded
 use Rattle.rules.specs.declared.Write.{Write}
 use Rattle.rules.specs.declared.Write.the-variants as Write
 use Rattle.rules.specs.Cell.{guarded}
 use Rattle.rules.specs.Search.{guardedAt}
-use Rattle.rules.specs.Change.{within, fillCell, filled, shiftLeft, shiftRight, shifted, editShifted, rowsShifted, columnFilled}
+use Rattle.rules.specs.Change.{within, filled, shiftLeft, shiftRight, shifted, editShifted, rowsShifted, columnFilled}
 use Rattle.rules.specs.State.{idle, sends}
 use Rattle.rules.specs.Possible.{rememberedOk, pendingOk, powerOn, blank, good}
 use Rattle.rules.specs.Decode.{decodeRule}
-use Rattle.rules.specs.Carry.{Effect, applied, pageAfter, done, begun, carried}
+use Rattle.rules.specs.Plan.{planRule}
+use Rattle.rules.specs.Carry.{Effect, applied, done, begun, carried}
 use Rattle.rules.specs.Step.{obeyed, innerRule, Outcome, goesOn, stepInside, stepRule}
 use Rattle.rules.specs.Calls.{Ran, joined, repeated, behind, runInside, runRule, Call, Step, Run, Press, ofStep, ofRun, ofPress, callRule, after, play}
 use Rattle.rules.specs.Writable.{writable, AllWritable, none, more}
 use Rattle.rules.proofs.Tests.{pick-if}
 use Rattle.rules.proofs.Decoding.{decodedOk, decoded-ok}
 use Rattle.rules.proofs.Kept.{good-parts, possible-parts, step-keeps, call-keeps}
-use Rattle.rules.proofs.Numbers.{writeOk, PlanNumbers, plan-numbers, null-ok}
+use Rattle.rules.proofs.Commands.{Kind, writeOk, kindOf}
+use Rattle.rules.proofs.Forms.{Remembers, Form, a-refusal, a-reply, a-change, a-write, formed}
+use Rattle.rules.proofs.Numbers.{null-ok}
 
 -- ---- changes of cells
 
@@ -87,6 +91,23 @@ module _ {m : Personality} where
   each-applied w on (Write.Column top bottom c v) e h = each-column w on v c (bottom - top) top e h
   each-applied w on (Write.Edit right at v) e h = each-moved right 1 at _ v e h
   each-applied w on (Write.Rows down top bottom) e h = each-moved down w _ _ _ e h
+
+-- ---- plans
+
+pub record PlanNumbers (m : Personality) (x : Plan) : Type 0 where
+  pub first : writeOk m (x .first) ≡ true
+  pub second : writeOk m (x .second) ≡ true
+
+of-form : {k : Kind} {g : List Bool} {c : Core} {x : Plan} → k .ok ≡ true → Remembers c → Form k g c x → PlanNumbers (c .personality) x
+unfolding writeOk
+of-form t h (a-refusal a e) = record { first = refl; second = refl }
+of-form t h (a-reply y e n r i) = record { first = refl; second = refl }
+of-form t h (a-change y e i) = record { first = refl; second = refl }
+of-form t h (a-write m a b i) = record { first = a .numbers t h; second = b .numbers t h }
+
+-- every plan, of a command that a byte comes to
+pub plan-numbers : (g tabs : List Bool) (c : Core) → Remembers c → (d : Command) → kindOf d .ok ≡ true → PlanNumbers (c .personality) (planRule g tabs c d)
+plan-numbers g tabs c h d e = of-form e h (formed g c tabs d)
 
 -- ---- the step
 

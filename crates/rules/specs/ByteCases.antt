@@ -9,6 +9,7 @@ use Rattle.rules.specs.Cell.{pick, both}
 use Rattle.rules.specs.Calls.{Given}
 use Rattle.rules.specs.Noninterference.{anyOf}
 use Rattle.rules.specs.Bench.{wy50}
+use Rattle.rules.specs.WritingCases.{writingBytes}
 use Rattle.rules.specs.Inputs.{esc, halves, lower, typed}
 
 -- n numbers from `first` on
@@ -51,9 +52,8 @@ attributeBytes = 0x20 ∷ span 0x30 16 ++ span 0x70 15
 -- y z { }
 unfoldable pub escapeBytes : List ℕ
 escapeBytes =
-    span 0x20 4 ++ span 0x26 13 ++ span 0x34 4 ++ 0x3a ∷ 0x3b ∷ 0x3d ∷ 0x3f ∷ 0x41 ∷ [] ++ span 0x45 7 ++ span 0x4d 3
-    ++ 0x51 ∷ 0x52 ∷ 0x54 ∷ 0x56 ∷ 0x57 ∷ 0x59 ∷ 0x5d ∷ [] ++ span 0x60 3 ++ span 0x69 4
-    ++ 0x71 ∷ 0x72 ∷ 0x74 ∷ 0x78 ∷ 0x79 ∷ 0x7a ∷ 0x7b ∷ 0x7d ∷ []
+    writingBytes ++ 0x20 ∷ 0x22 ∷ 0x23 ∷ [] ++ span 0x26 4 ++ 0x2d ∷ 0x2f ∷ [] ++ span 0x30 3 ++ span 0x34 4 ++ 0x3d ∷ 0x3f ∷ 0x41 ∷ 0x46 ∷ [] ++ span 0x49 3
+    ++ span 0x4d 3 ++ 0x5d ∷ [] ++ span 0x60 3 ++ span 0x69 4 ++ 0x78 ∷ 0x7a ∷ 0x7b ∷ 0x7d ∷ []
 
 -- no sequence and after ESC: below 80h, and 1 for all above
 unfoldable pub firstBytes : List ByteCase

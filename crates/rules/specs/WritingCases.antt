@@ -1,8 +1,14 @@
 -- Worked cases of document 01, "Writing and clearing".
 use mathlib.Core.List.{List, [], _∷_, _++_}
+use Prim.Native.Nat.{ℕ}
 use lib.ListN.{replicate}
 use Rattle.rules.specs.Bench.{Cell, Cursor, InModes, Case}
 use Rattle.rules.specs.Inputs.{esc, goTo, labelled, threeLetters, lettersBelow, cursorAt, protectAt, upperAt, lowerAt, obeys, refuses, obeysFrom, refusesFrom}
+
+-- the bytes of these commands after ESC: ! * + , . : ; E G H Q R T V W Y q r t y
+unfoldable pub writingBytes : List ℕ
+writingBytes =
+    0x21 ∷ 0x2a ∷ 0x2b ∷ 0x2c ∷ 0x2e ∷ 0x3a ∷ 0x3b ∷ 0x45 ∷ 0x47 ∷ 0x48 ∷ 0x51 ∷ 0x52 ∷ 0x54 ∷ 0x56 ∷ 0x57 ∷ 0x59 ∷ 0x71 ∷ 0x72 ∷ 0x74 ∷ 0x79 ∷ []
 
 unfoldable pub writingCases : List Case
 writingCases =

@@ -30,7 +30,8 @@ use Rattle.rules.specs.Carry.{Effect, effect, quiet, planWidth, carried}
 use Rattle.rules.specs.Step.{obeyed, innerRule}
 use Rattle.rules.specs.Room.{over}
 use Rattle.rules.proofs.Marks.{length-guards}
-use Rattle.rules.proofs.Good.{commandOk, PlanKept, plan-kept}
+use Rattle.rules.proofs.Commands.{kindOf}
+use Rattle.rules.proofs.Good.{PlanKept, plan-kept}
 use Rattle.page.proofs.RowList.{beside-is}
 use Rattle.carry.specs.Carried.{Carried}
 use Rattle.carry.specs.Rows.{BesideAfter}
@@ -83,7 +84,7 @@ module _ (p : List ℕ) (c : Core) (tabs : List Bool) (d : Command) {n : Core} {
 
   -- the width of the plan is that of the core
   module _ (size : length p ≡ pageLength (c .screen)) (ok : screenOk (c .screen) ≡ true) where
-    abbrev kept : PlanKept (commandOk d) (idle c) (planRule (guardedAt (c .modes .protect) p) tabs (idle c) d)
+    abbrev kept : PlanKept (kindOf d .ok) (idle c) (planRule (guardedAt (c .modes .protect) p) tabs (idle c) d)
     kept = plan-kept (idle c) ok (guardedAt (c .modes .protect) p) (length-guards (c .modes .protect) p ∙ size) tabs d
 
     wide : planWidth x ≡ widthOf (c .screen)
