@@ -26,7 +26,7 @@ use Rattle.counter.specs.declared.Counted.{Counted}
 use Rattle.counter.specs.declared.Told.{Told}
 use Rattle.counter.specs.declared.Told.the-variants as Told
 use Rattle.counter.specs.Count.{countRule}
-use Rattle.counter.specs.Ask.{isReady, question, lent, asking, isCut, toldRule, askRule, Asks, Silent, AskCases}
+use Rattle.counter.specs.Ask.{isReady, question, lent, asking, isCut, toldRule, askRule, Asks, Silent, AskingCases}
 use Rattle.counter.proofs.Replies.{asked-begun, asked-stopped, by-room, asked-nothing, asked-refused, asking-page, cut-fills, whole-state, never-cut}
 
 -- ---- what the caller is told
@@ -189,7 +189,7 @@ module _ (p : List ℕ) (s : State) (first last room : ℕ) where
     unfolding askRule
     counted k = (sym (tell-counted _ _ _ _ _ not-refused r k), whole-state p s room g r k)
 
-pub ask-cases : (p : List ℕ) (s : State) (first last room : ℕ) → AskCases p s first last room
+pub ask-cases : AskingCases
 ask-cases p s first last room = record {
   bad-page = bad-page p s first last room;
   bad-state = bad-state p s first last room;

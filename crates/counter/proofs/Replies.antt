@@ -46,7 +46,7 @@ use Rattle.rules.proofs.Kept.{good-parts, possible-parts, step-good}
 use Rattle.rules.proofs.Labels.{labels-stay-in}
 use Rattle.rules.proofs.Run.{run-refused, run-go, run-stop, run-done}
 use Rattle.counter.specs.Pieces.{isMark}
-use Rattle.counter.specs.Ask.{isReady, question, asking, isCut, isSent, AllSent, none, more, Replies, RepliesToAsking}
+use Rattle.counter.specs.Ask.{isReady, question, asking, isCut, isSent, AllSent, none, more, Replies, RepliesToAsking, AskingPage}
 
 -- ---- the bytes of a send
 
@@ -333,7 +333,7 @@ pub asked-refused : (p : List ℕ) (s : State) (room : ℕ) → good p s ≡ fal
 unfolding asking
 asked-refused p s room g = run-refused p s (question (isReady s)) (pick (isReady s) room 0) g
 
-pub asking-page : (p : List ℕ) (s : State) (room : ℕ) → (asking p s room) .page ≡ p
+pub asking-page : AskingPage
 asking-page p s room = by-tests (good p s) (isReady s) refl refl
   where
     by-tests : (t u : Bool) → good p s ≡ t → isReady s ≡ u → (asking p s room) .page ≡ p

@@ -79,6 +79,13 @@ pub record AskCases (p : List ℕ) (s : State) (first last room : ℕ) : Type 0 
   -- a byte for each cell and one for each row are always room enough: 1,944 on a page of 80 columns
   pub enough : good p s ≡ true → isReady s ≡ true → 24 * (widthOf (s .core .screen) + 1) ≤ room → isCut (asking p s room) ≡ false
 
+abbrev pub AskingCases : Type 0
+AskingCases = (p : List ℕ) (s : State) (first last room : ℕ) → AskCases p s first last room
+
+-- the page is as it was, on every path
+abbrev pub AskingPage : Type 0
+AskingPage = (p : List ℕ) (s : State) (room : ℕ) → (asking p s room) .page ≡ p
+
 -- ---- what the terminal replies to ESC 5
 
 -- FS, US, or a byte from 20h to 7Eh

@@ -182,11 +182,11 @@ wide-blank : length (converted false blank) ≡ 3168
 unfolding columns
 wide-blank = converted-length false blank
 
-pub power-ons : (m : Personality) → PowerOns m
+pub power-ons : PowerOns
 unfolding powerOnAt powerOn
-power-ons m = record {
-  narrow = refl;
-  wide = λ t e.
+power-ons = record {
+  narrow = λ m. refl;
+  wide = λ m t e.
       let k = converts-on m t e in
       (ap (λ (r : Turned). r .answer) k, ap (λ (r : Turned). r .state) k ∙ on-wide m (converted false blank) wide-blank);
 }

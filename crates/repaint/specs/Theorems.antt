@@ -60,6 +60,7 @@ pub record Judging : Type 0 where
   pub bytes-accepted : (m : Personality) (a b : List ℕ) → served m a b ≡ true → BytesVerdict m a b (paintBytes a b) Verdict.Accepted
 
 -- power-on at a width: the narrow one is power-on's own, and the wide one what the conversion makes of it
-pub record PowerOns (m : Personality) : Type 0 where
-  pub narrow : powerOnAt false m ≡ powerOn m
-  pub wide : (t : List ℕ) → length t ≡ wideCells → (convertRule blank (powerOn m) t .answer ≡ 0) × (convertRule blank (powerOn m) t .state ≡ powerOnAt true m)
+pub record PowerOns : Type 0 where
+  pub narrow : (m : Personality) → powerOnAt false m ≡ powerOn m
+  pub wide : (m : Personality) (t : List ℕ) → length t ≡ wideCells
+      → (convertRule blank (powerOn m) t .answer ≡ 0) × (convertRule blank (powerOn m) t .state ≡ powerOnAt true m)

@@ -2,39 +2,45 @@
 --     inner-bounded     the inner step on a good page and core: its reply fits the room and the bound, with any room it does not answer 6, and a
 --                       reply that does not end uses the room up
 --     goes-bounded      the same of a send that goes on, which sends a byte at least
---     reply-bound, reply-fits, press-bound     of any page and state: a bad one replies nothing
+--     reply-most, reply-fits, press-bound     of any page and state: a bad one replies nothing
+--     reply-bound       the longest reply, that some reply is as long, and that of one under way less is left
 --     step-taken, step-full, step-begins     on a good page and state, outside a send
 -- Assumes nothing.
 use mathlib.Core.Path.{_≡_, refl, sym, ap, subst, _∙_}
 use mathlib.Core.Bool.{Bool, true, false, false≢true}
 use mathlib.Core.List.{List, [], _∷_}
-use Prim.Native.Nat.{ℕ, _+_, _*_, _≤_, _<_}
+use Prim.Native.Nat.{ℕ, _+_, _-_, _*_, _≤_, _<_}
 use native.Mathlib.Omega.{arith}
 use lib.Dec.{ltb, leb, eqb}
-use lib.ListN.{length, length-take}
+use lib.ListN.{length, length-take, replicate}
 use borrow.Author.Tests.{ltb-true, eqb-true, eqb-false, ne-eqb}
 use Rattle.rules.specs.declared.Core.{Core}
 use Rattle.rules.specs.declared.Screen.{Screen}
 use Rattle.rules.specs.declared.ShortText.{ShortText}
 use Rattle.rules.specs.declared.Setup.{Setup}
 use Rattle.rules.specs.declared.State.{State}
+use Rattle.rules.specs.declared.Pending.the-variants as Pending
 use Rattle.rules.specs.declared.Sending.{Sending}
 use Rattle.rules.specs.declared.Sending.the-variants as Sending
 use Rattle.rules.specs.declared.Plan.{Plan}
 use Rattle.rules.specs.declared.Decoded.{Decoded}
 use Rattle.rules.specs.declared.Decoded.the-variants as Decoded
-use Rattle.rules.specs.Row.{columns}
-use Rattle.rules.specs.State.{number, widthOf, pageLength, keyPlace, idle, sends, sendingAfter}
-use Rattle.rules.specs.Arguments.{isKey}
-use Rattle.rules.specs.Slot.{allText, textOk}
-use Rattle.rules.specs.Possible.{good}
-use Rattle.rules.specs.Decode.{decodeRule}
+use Rattle.rules.specs.Row.{columns, height}
+use Rattle.rules.specs.State.{number, widthOf, pageLength, segmentTop, cursorOf, keyPlace, awaiting, idle, sends, sendingAfter}
+use Rattle.rules.specs.Arguments.{isAttribute, featurePlace, isKey}
+use Rattle.rules.specs.Slot.{allText, textOk, textsOk}
+use Rattle.rules.specs.Possible.{powerOn, unsplitOk, screenOk, attributesOk, featuresOk, noStops, pendingOk, rememberedOk, sendingOk, coreOk, setupOk, possible, good}
+use Rattle.rules.specs.Decode.{lookup, escapeRule, decodeRule}
+use Rattle.rules.specs.Plan.{excludedPlan, planRule}
+use Rattle.rules.specs.Send.{cellPlace, textPlaces, followsLeftOut, textAt, places, bytesOf, sentFrom}
 use Rattle.rules.specs.Carry.{Effect, done, begun, carried}
 use Rattle.rules.specs.Step.{obeyed, innerRule, Outcome, goesOn, stepInside, stepRule}
 use Rattle.rules.specs.Calls.{keySends, keyAt, Pressed, pressRule}
+use Rattle.rules.specs.Bound.{longest, ReplyBound}
+use Rattle.rules.specs.Inputs.{placedOn}
 use Rattle.rules.proofs.Tests.{pick-if, among-parts}
 use Rattle.rules.proofs.Screens.{screen-inside}
-use Rattle.rules.proofs.Sends.{ok-good, not-sending, sent-fits, sent-bound, sent-some, sent-full}
+use Rattle.rules.proofs.Sends.{ok-good, not-sending, sent-fits, sent-bound, left-bound, sent-some, sent-full}
 use Rattle.rules.proofs.Good.{PlanKept}
 use Rattle.rules.proofs.Texts.{text-parts, texts-at}
 use Rattle.rules.proofs.Decoding.{decodedOk, decoded-ok}
@@ -147,8 +153,8 @@ module _ (p : List ℕ) (s : State) (b room : ℕ) where
       Q : Outcome → Type 0
       Q o = P (o .reply)
 
-  pub reply-bound : length (stepRule p s b room .reply) ≤ mostReply (s .core .screen)
-  reply-bound =
+  reply-most : length (stepRule p s b room .reply) ≤ mostReply (s .core .screen)
+  reply-most =
       by-call (λ (l : List ℕ). length l ≤ mostReply (s .core .screen)) (omega arith) (λ g. step-bounded p s g b room .bound)
       (λ g u h. goes-bounded p s g room u h .bound)
 
@@ -179,6 +185,46 @@ module _ (p : List ℕ) (s : State) (b room : ℕ) where
   pub step-begins : good p s ≡ true → sends (s .sending) ≡ false → sends (stepRule p s b room .state .sending) ≡ true
       → 0 < length (stepRule p s b room .reply)
   step-begins g u h = omega (arith, step-full g u h, step-bounded p s g b room .some (begins g u h))
+
+-- ---- the longest reply
+
+pub within-longest : (wide : Bool) → 24 * (columns wide + 1) ≤ longest wide
+unfolding longest columns
+within-longest true = omega arith
+within-longest false = omega arith
+
+-- ESC has come, and the cursor is in the last cell
+lastCell : Bool → State
+lastCell wide =
+    let s = placedOn wide 0 0 (height * columns wide - 1) 0 in
+    record { core = awaiting (s .core) Pending.Escape; sending = s .sending; gathered = s .gathered; setup = s .setup }
+
+-- ESC 7 there, on a page of nulls
+whole-page : (wide : Bool) → length (stepRule (replicate (height * columns wide) 0) (lastCell wide) 0x37 (longest wide) .reply) ≡ longest wide
+unfolding longest columns lastCell placedOn powerOn cursorOf segmentTop stepRule good possible coreOk screenOk unsplitOk rememberedOk pendingOk sendingOk
+    setupOk textsOk textOk allText attributesOk isAttribute featuresOk featurePlace noStops innerRule decodeRule escapeRule lookup obeyed planRule
+    excludedPlan carried begun sentFrom places textAt textPlaces cellPlace followsLeftOut bytesOf
+whole-page true = refl
+whole-page false = refl
+
+pub reply-bound : ReplyBound
+reply-bound = record {
+  most = λ p s b room. omega (arith, reply-most p s b room, within-longest (s .core .screen .wide));
+  reached = λ wide. record {
+    page = replicate (height * columns wide) 0;
+    state = lastCell wide;
+    byte = 0x37;
+    room = longest wide;
+    width = unfold lastCell placedOn in refl;
+    count = whole-page wide;
+  };
+  left = λ p s g u.
+      let w = possible-parts s (good-parts p s g .1) in
+      let i = screen-inside (s .core .screen) (w .core .screen) in
+      omega (arith, left-bound p (s .core) i (s .core .pending) (s .sending) (w .sending), within-longest (s .core .screen .wide));
+}
+
+-- ---- a key press
 
 key-bound : (k : ShortText) (v : ℕ) → textOk 0 8 (k .len) (k .bytes) ≡ true → length (keySends k v) ≤ 8
 unfolding keySends

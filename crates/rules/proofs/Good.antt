@@ -17,7 +17,7 @@ use Rattle.rules.specs.Cell.{among}
 use Rattle.rules.specs.State.{number, widthOf, pageLength}
 use Rattle.rules.specs.Possible.{screenOk, rememberedOk}
 use Rattle.rules.specs.Plan.{planRule}
-use Rattle.rules.specs.Good.{GoodPlan}
+use Rattle.rules.specs.Good.{GoodPlan, GoodPlans}
 use Rattle.rules.proofs.Screens.{screen-inside}
 use Rattle.rules.proofs.Commands.{Kind, changeOk, kindOf}
 use Rattle.rules.proofs.Forms.{Sound, Form, a-refusal, a-reply, a-change, a-write, formed}
@@ -91,5 +91,5 @@ module _ (c : Core) (ok : screenOk (c .screen) ≡ true) (g : List Bool) (n : le
   pub plan-kept : PlanKept (kindOf d .ok) c (planRule g tabs c d)
   plan-kept = kept (record { ok = ok; inside = screen-inside (c .screen) ok; size = n }) (formed g c tabs d)
 
-  pub good-plan : GoodPlan (planRule g tabs c d)
-  good-plan = plan-kept .good
+pub good-plan : GoodPlans
+good-plan c ok g n tabs d = plan-kept c ok g n tabs d .good

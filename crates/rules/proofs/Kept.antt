@@ -2,9 +2,9 @@
 --     planned-kept, carried-kept, inner-kept, inner-setup     the inner step on a good page and core: what a loop over it wants
 --     step-keeps, run-keeps, call-keeps, play-keeps           of any page and state, bad ones too: the length and the personality stay, and possible
 --                                                             stays possible
---     call-length, call-possible                              these two of a call
 --     step-good, run-good, call-good, play-good               a good page and state stay good
 --     powerOn-possible, powerOn-good, powerOn-length
+--     kept                                                    all this of the calls, as one statement
 -- Assumes nothing.
 use mathlib.Core.Path.{_≡_, refl, sym, ap, subst, _∙_}
 use mathlib.Core.Bool.{Bool, true, false, not}
@@ -44,6 +44,7 @@ use Rattle.rules.specs.Slot.{slotOk, slotLow, slotMost, allText, textOk,
 use Rattle.rules.specs.Decode.{decodeRule}
 use Rattle.rules.specs.Plan.{planRule}
 use Rattle.rules.specs.Good.{GoodLand}
+use Rattle.rules.specs.Kept.{Keeps, Kept}
 use Rattle.rules.specs.Send.{leftFrom}
 use Rattle.rules.specs.Carry.{landed, Effect, pageAfter, done, begun, carried}
 use Rattle.rules.specs.Step.{obeyed, innerRule, Outcome, outcomeOf, goesOn, stepInside, stepRule}
@@ -327,13 +328,6 @@ module _ (p : List ℕ) (c : Core) (n : length p ≡ pageLength (c .screen)) (g 
 
 -- ---- the calls
 
--- from a page and a state to a page and a state: the length, the width and the personality stay, and possible stays possible
-pub record Keeps (p : List ℕ) (s : State) (q : List ℕ) (t : State) : Type 0 where
-  pub size : length q ≡ length p
-  pub wide : t .core .screen .wide ≡ s .core .screen .wide
-  pub personality : t .core .personality ≡ s .core .personality
-  pub state : possible s ≡ true → possible t ≡ true
-
 keeps-same : {p : List ℕ} {s : State} → Keeps p s p s
 keeps-same = record { size = refl; wide = refl; personality = refl; state = λ h. h }
 
@@ -458,12 +452,6 @@ run-good p s bytes room h = keeps-good (run-keeps p s bytes room) h
 pub call-good : (p : List ℕ) (s : State) (c : Call) → good p s ≡ true → good (callRule p s c .page) (callRule p s c .given .state) ≡ true
 call-good p s c h = keeps-good (call-keeps p s c) h
 
-pub call-length : (p : List ℕ) (s : State) (c : Call) → length (callRule p s c .page) ≡ length p
-call-length p s c = call-keeps p s c .size
-
-pub call-possible : (p : List ℕ) (s : State) (c : Call) → possible s ≡ true → possible (callRule p s c .given .state) ≡ true
-call-possible p s c h = call-keeps p s c .state h
-
 pub play-good : (calls : List Call) (p : List ℕ) (s : State) → good p s ≡ true → good (play calls p s .page) (play calls p s .state) ≡ true
 play-good calls p s h = keeps-good (play-keeps calls p s) h
 
@@ -484,3 +472,6 @@ pub powerOn-length : (m : Personality) (p : List ℕ) → length (powerOnRule m 
 unfolding powerOnRule blank
 powerOn-length m p =
     pick-if (λ (o : Outcome). length (o .page) ≡ length p) (eqb (length p) 1920) (λ e. sym (eqb-true (length p) 1920 e)) (λ e. refl)
+
+pub kept : Kept
+kept = record { call = call-keeps; list = play-keeps; stays-good = play-good; power-on = powerOn-good }

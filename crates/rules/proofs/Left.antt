@@ -24,7 +24,7 @@ use Rattle.rules.specs.Possible.{pendingOk, good}
 use Rattle.rules.specs.Decode.{decodeRule}
 use Rattle.rules.specs.Carry.{Effect, quiet, applied, landed, done, begun, carried}
 use Rattle.rules.specs.Step.{Outcome, unheard, outcomeOf, obeyed, innerRule, goesOn, stepInside, stepRule}
-use Rattle.rules.specs.Left.{Left, Unchanged}
+use Rattle.rules.specs.Left.{Left, Unchanged, StepLeft, StepHigh}
 use Rattle.rules.proofs.Tests.{pick-if, among-parts}
 use Rattle.rules.proofs.Decoding.{decodedOk, decoded-ok}
 use Rattle.rules.proofs.Kept.{good-parts, possible-parts}
@@ -92,16 +92,6 @@ module _ (p : List ℕ) (s : State) where
         (λ g. pick-if P (sends (s .sending)) (λ u. pick-if P (eqb room 0) (λ e. none 6 (inl refl)) (λ e. send)) (λ u. byte g))
         (λ g. none 7 (inr refl))
 
-    -- an answer other than 0 leaves the page, replies nothing, and leaves of the state what the table says
-    pub step-left : (stepRule p s b room .answer ≡ 0 → ⊥) → Left p s (stepRule p s b room)
-    unfolding goesOn
-    step-left =
-        by-step (λ (o : Outcome). (o .answer ≡ 0 → ⊥) → Left p s o) (λ n h z. unheard-left n h) (λ z. absurd (z refl)) (λ g. ended-left (good-ends g))
-      where
-        unheard-left : (n : ℕ) → (n ≡ 6) ⊎ (n ≡ 7) → Left p s (unheard n p s)
-        unheard-left n (inl e) = rw e record { page = refl; state = refl; reply = refl }
-        unheard-left n (inr e) = rw e record { page = refl; state = refl; reply = refl }
-
     -- no answer is above 7
     pub step-most : stepRule p s b room .answer ≤ 7
     unfolding goesOn
@@ -121,19 +111,29 @@ module _ (p : List ℕ) (s : State) where
         by-step (λ (o : Outcome). o .answer ≡ 5 → ⊥) (λ n h z. ⊎-elim (λ e. omega (arith, e, z)) (λ e. omega (arith, e, z)) h) (λ z. omega (arith, z))
         (λ g. ended-five (good-ends g))
 
-    -- nothing but answer 0 changes a page
-    pub page-changed : (stepRule p s b room .page ≡ p → ⊥) → stepRule p s b room .answer ≡ 0
-    page-changed h = by (eqb (stepRule p s b room .answer) 0) refl
-      where
-        by : (t : Bool) → eqb (stepRule p s b room .answer) 0 ≡ t → stepRule p s b room .answer ≡ 0
-        by true e = eqb-true _ _ e
-        by false e = absurd (h (step-left (eqb-false _ _ e) .page))
+-- an answer other than 0 leaves the page, replies nothing, and leaves of the state what the table says
+pub step-left : StepLeft
+unfolding goesOn
+step-left p s b room =
+    by-step p s b room (λ (o : Outcome). (o .answer ≡ 0 → ⊥) → Left p s o) (λ n h z. unheard-left n h) (λ z. absurd (z refl))
+    (λ g. ended-left p s (good-ends p s b room g))
+  where
+    unheard-left : (n : ℕ) → (n ≡ 6) ⊎ (n ≡ 7) → Left p s (unheard n p s)
+    unheard-left n (inl e) = rw e record { page = refl; state = refl; reply = refl }
+    unheard-left n (inr e) = rw e record { page = refl; state = refl; reply = refl }
 
-    -- a byte of 80h or above changes nothing, whatever sequence is under way; inside a send it waits
-    pub step-high : 128 ≤ b → sends (s .sending) ≡ false → Unchanged (pick (good p s) 1 7) p s (stepRule p s b room)
-    unfolding stepRule innerRule sendingAfter gatheredAfter setupAfter changed
-    step-high h u = rw (le-ltb b 128 h, u) (by (good p s))
-      where
-        by : (t : Bool) → Unchanged (pick t 1 7) p s (pick t (outcomeOf s (quiet 1 (s .core) p)) (unheard 7 p s))
-        by true = record { answer = refl; page = refl; state = refl; reply = refl }
-        by false = record { answer = refl; page = refl; state = refl; reply = refl }
+-- nothing but answer 0 changes a page
+pub page-changed : (p : List ℕ) (s : State) (b room : ℕ) → (stepRule p s b room .page ≡ p → ⊥) → stepRule p s b room .answer ≡ 0
+page-changed p s b room h = by (eqb (stepRule p s b room .answer) 0) refl
+  where
+    by : (t : Bool) → eqb (stepRule p s b room .answer) 0 ≡ t → stepRule p s b room .answer ≡ 0
+    by true e = eqb-true _ _ e
+    by false e = absurd (h (step-left p s b room (eqb-false _ _ e) .page))
+
+pub step-high : StepHigh
+unfolding stepRule innerRule sendingAfter gatheredAfter setupAfter changed
+step-high p s b room h u = rw (le-ltb b 128 h, u) (by (good p s))
+  where
+    by : (t : Bool) → Unchanged (pick t 1 7) p s (pick t (outcomeOf s (quiet 1 (s .core) p)) (unheard 7 p s))
+    by true = record { answer = refl; page = refl; state = refl; reply = refl }
+    by false = record { answer = refl; page = refl; state = refl; reply = refl }

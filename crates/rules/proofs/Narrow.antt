@@ -1,6 +1,7 @@
 -- Replies through a narrow line.
 --     in-rooms     a stream through rooms of any sizes comes to what one run with their sum gives
 --     progress     with any room a call takes a byte or sends one
+--     enough-room  with the room of the longest reply a run over some bytes takes one of them, inside a send too
 -- Assumes nothing.
 use mathlib.Core.Path.{_≡_, refl, sym, ap, subst, _∙_}
 use mathlib.Core.Bool.{Bool, true, false, false≢true}
@@ -10,7 +11,7 @@ use Prim.Native.Nat.{ℕ, zero, suc, _+_, _-_, _<_, _≤_}
 use native.Mathlib.Nat.{zero-add, add-assoc, suc-add, sub-zero, add-zero}
 use native.Mathlib.Omega.{arith}
 use lib.Dec.{ltb, eqb}
-use lib.ListN.{length, length-append, length-drop}
+use lib.ListN.{length, length-append, length-drop, length-take}
 use lib.Seq.{take-nil}
 use borrow.Author.Tests.{ltb-true, lt-ltb, eqb-true, eqb-false, ne-eqb}
 use Rattle.rules.specs.declared.Core.{Core}
@@ -36,16 +37,17 @@ use Rattle.rules.specs.Carry.{Effect, effect, quiet, done, begun, carrie
 use Rattle.rules.specs.Step.{Outcome, outcomeOf, obeyed, innerRule, goesOn, stepInside, stepRule}
 use Rattle.rules.specs.Calls.{Ran, ended, refusal, joined, repeated, behind, runInside, runRule}
 use Rattle.rules.specs.Steps.{Stopped, in-send, no-room, Repeats, Resumes, preceded}
-use Rattle.rules.specs.Narrow.{sum, fed, Same, Over, InRooms, Progress}
+use Rattle.rules.specs.Bound.{leftOver}
+use Rattle.rules.specs.Narrow.{sum, fed, Same, Over, InRooms, Progress, EnoughRoom}
 use Rattle.rules.proofs.Tests.{pick-if, either-way, among-parts}
 use Rattle.rules.proofs.Screens.{screen-inside}
-use Rattle.rules.proofs.Sends.{ok-good, not-sending, stands-still, sent-add, left-add, sent-fits, sent-full}
+use Rattle.rules.proofs.Sends.{ok-good, not-sending, stands-still, sent-add, left-add, some-left, sent-fits, sent-full, sent-over}
 use Rattle.rules.proofs.Good.{PlanKept}
 use Rattle.rules.proofs.Decoding.{decodedOk, decoded-ok}
 use Rattle.rules.proofs.Planned.{Planned, obeys, replies, refuses, planned}
 use Rattle.rules.proofs.AskedBytes.{asked, asked-byte}
 use Rattle.rules.proofs.Kept.{planned-kept, possible-parts, good-parts, step-good, run-good}
-use Rattle.rules.proofs.Bound.{step-taken, goes-bounded}
+use Rattle.rules.proofs.Bound.{step-taken, goes-bounded, within-longest, reply-bound}
 use Rattle.rules.proofs.Left.{step-good-most}
 use Rattle.rules.proofs.Run.{run-waits, run-stop, run-go, run-done, run-repeats, run-resumes, run-unheard, goes-good}
 
@@ -563,3 +565,48 @@ run-stops p s bytes (suc n) g a h = by (sends (s .sending)) refl
 
 pub progress : Progress
 progress = record { step = step-moves; run = run-moves; stops = run-stops }
+
+-- ---- room enough
+
+module _ (p : List ℕ) (s : State) (g : good p s ≡ true) (u : sends (s .sending) ≡ true) where
+  -- a send under way wants some room, and with as much as it wants it is over
+  some-over : 0 < length (leftOver p s)
+  some-over = some-left p (s .core) (s .core .pending) (s .sending) (possible-parts s (good-parts p s g .1) .sending) u
+
+  send-over : (room : ℕ) → length (leftOver p s) ≤ room → sends (goesOn p s room .state .sending) ≡ false
+  unfolding goesOn
+  send-over room h =
+      let r = good-parts p s g in
+      let w = possible-parts s (r .1) in
+      let x = s .core .screen in
+      sent-over p (s .core) (r .0) (screen-inside x (w .core .screen)) (s .sending) (ok-good x (s .core .pending) (s .sending) (w .sending)) room
+      (omega (arith, some-over)) h
+
+  sent-most : (room : ℕ) → length (goesOn p s room .reply) ≤ length (leftOver p s)
+  unfolding goesOn sentFrom
+  sent-most room = omega (arith, length-take room (leftOver p s))
+
+  -- with more, the run goes on to its bytes with some room
+  inside-taken : (bytes : List ℕ) (room : ℕ) → 0 < length bytes → length (leftOver p s) < room → 0 < runRule p s bytes room .taken
+  unfolding behind
+  inside-taken bytes room n h =
+      let x = goesOn p s room in
+      let r = room - length (x .reply) in
+      let k = goes-good p s room g u (omega arith) in
+      let v = send-over room (omega arith) in
+      rw (inside-room p s bytes room g u (omega arith))
+      (rw (outside p (x .state) bytes r k v) at (first-taken p (x .state) bytes r k v (omega (arith, sent-most room)) n))
+
+  step-ends : (b room : ℕ) → length (leftOver p s) ≤ room → sends (stepRule p s b room .state .sending) ≡ false
+  step-ends b zero h = absurd (omega (arith, some-over))
+  step-ends b (suc n) h = rw (step-inside p s b (suc n) g u, step-sends p s n .1) (send-over (suc n) h)
+
+pub enough-room : EnoughRoom
+enough-room = record {
+  outside = λ p s bytes room g n u h. first-taken p s bytes room g u h n;
+  inside = λ p s bytes room g n u h. inside-taken p s g u bytes room n h;
+  takes = λ p s bytes room g n h.
+      ⊎-elim (λ u. inside-taken p s g u bytes room n (omega (arith, reply-bound .left p s g u)))
+      (λ u. first-taken p s bytes room g u (omega (arith, within-longest (s .core .screen .wide))) n) (either-way (sends (s .sending)));
+  ends = λ p s b room g u h. step-ends p s g u b room h;
+}

@@ -8,14 +8,14 @@ use native.Mathlib.Omega.{arith}
 use lib.ListN.{length}
 use borrow.Author.Tests.{le-leb, lt-leb, ne-eqb}
 use Rattle.rules.specs.declared.State.{State}
-use Rattle.rules.specs.Calls.{Press, keySends, keyAt, pressRule, ofPress, callRule}
-use Rattle.rules.specs.Press.{Sends, PressGives}
+use Rattle.rules.specs.Calls.{keySends, keyAt, pressRule, ofPress, callRule}
+use Rattle.rules.specs.Press.{Sends, PressesGive}
 
 key-sends : (s : State) (v : ℕ) → Sends s v (keySends (keyAt s v) v)
 unfolding keySends
 key-sends s v = record { own = λ h. rw (ne-eqb (keyAt s v .len) 0 (omega arith)); unprogrammed = λ e. rw e }
 
-pub press-gives : (p : List ℕ) (s : State) (v room : ℕ) → PressGives p s v room (keySends (keyAt s v) v) (callRule p s (Press v room))
+pub press-gives : PressesGive
 unfolding callRule ofPress pressRule
 press-gives p s v room = record {
   bad = λ g. rw g;

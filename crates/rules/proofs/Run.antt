@@ -18,7 +18,7 @@ use Rattle.rules.specs.State.{sends}
 use Rattle.rules.specs.Possible.{good}
 use Rattle.rules.specs.Step.{Outcome, goesOn, stepRule}
 use Rattle.rules.specs.Calls.{Ran, ended, refusal, joined, repeated, runInside, runRule}
-use Rattle.rules.specs.Steps.{steps, isRefusal, refusals, repliesOf, lastPage, lastState, Stopped, in-send, no-room, Repeats, Resumes, Refused, preceded, continued}
+use Rattle.rules.specs.Steps.{steps, isRefusal, refusals, repliesOf, lastPage, lastState, Stopped, in-send, no-room, Repeats, RunRepeats, RunResumes, RunUnheard, RunRefused, preceded, continued}
 use Rattle.rules.proofs.Kept.{keeps-good, goes-keeps, step-good}
 use Rattle.rules.proofs.Bound.{reply-fits, step-full, goes-bounded}
 
@@ -143,14 +143,12 @@ repeated-repeats (b ∷ bs) p s room g z =
     (sends (s .sending)) (eqb (o .answer) 6) refl refl
 
 -- a run on a good page and state is the step repeated
-pub run-repeats : (p : List ℕ) (s : State) (bytes : List ℕ) (room : ℕ) → good p s ≡ true → sends (s .sending) ≡ false
-    → Repeats p s bytes room (steps bytes p s room) (runRule p s bytes room)
+pub run-repeats : RunRepeats
 unfolding runRule
 run-repeats p s bytes room g u = rw (g, u) (repeated-repeats bytes p s room g (λ t. absurd (false≢true (sym u ∙ t))))
 
 -- inside a send it goes on with that first; without room it answers 6, over no bytes 0, and nothing has changed
-pub run-resumes : (p : List ℕ) (s : State) (bytes : List ℕ) (room : ℕ) → good p s ≡ true → sends (s .sending) ≡ true → 0 < room
-    → Resumes p s bytes room (runRule p s bytes room)
+pub run-resumes : RunResumes
 unfolding runRule runInside
 run-resumes p s bytes room g u h =
     let o = goesOn p s room in
@@ -162,13 +160,12 @@ run-resumes p s bytes room g u h =
       whole = refl;
     })
 
-pub run-unheard : (p : List ℕ) (s : State) (bytes : List ℕ) → good p s ≡ true → sends (s .sending) ≡ true
-    → runRule p s bytes 0 ≡ ended p s (pick (eqb (length bytes) 0) 0 6) bytes
+pub run-unheard : RunUnheard
 unfolding runRule runInside
 run-unheard p s bytes g u = rw (g, u)
 
 -- on any other it is refused
-pub run-refused : (p : List ℕ) (s : State) (bytes : List ℕ) (room : ℕ) → good p s ≡ false → Refused p s bytes (runRule p s bytes room)
+pub run-refused : RunRefused
 unfolding runRule
 run-refused p s bytes room g =
     rw g (record { answer = refl; taken = refl; refused = refl; reply = refl; rest = refl; page = refl; state = refl })

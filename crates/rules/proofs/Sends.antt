@@ -6,7 +6,7 @@
 --                                         follow in the row
 --     places-left, left-ok, sent-add, left-add     a send in two parts
 --     idle-is, not-sending                no sequence, no send under way
---     sent-bound, short-most              a byte for each cell and one for each row at the most; 7 bytes of a short reply
+--     sent-bound, left-bound, short-most  a byte for each cell and one for each row at the most, and fewer once one went; 7 bytes of a short reply
 -- Assumes nothing.
 use mathlib.Core.Path.{_≡_, refl, sym, ap, subst, _∙_}
 use mathlib.Core.Bool.{Bool, true, false, not, false≢true}
@@ -480,22 +480,39 @@ pub sent-some : (p : List ℕ) (c : Core) (q : Pending) (y : Sending) (room : �
 unfolding sentFrom
 sent-some p c q y room h s r = omega (arith, length-take room (bytesOf (places p c y)), some-left p c q y h s)
 
--- one that is not over has used its room up
-pub sent-full : (p : List ℕ) (c : Core) → length p ≡ pageLength (c .screen) → Inside (c .screen) → (y : Sending) → GoodSend (c .screen) y → (room : ℕ) → 0 < room
-    → sends (leftFrom p c y room) ≡ true → length (sentFrom p c y room) ≡ room
-unfolding sentFrom
-sent-full p c n i y g room h s =
-    let left = some-left p c Pending.Idle (leftFrom p c y room) (left-ok p c n i y g room h) s in
-    let is : length (bytesOf (places p c (leftFrom p c y room))) ≡ length (bytesOf (places p c y)) - room =
-    ap (λ (l : List Spot). length (bytesOf l)) (places-left p c n i y g room h)
-    ∙ (ap length (bytes-beyond (places-small p c y) room) ∙ length-drop room (bytesOf (places p c y))) in
-    omega (arith, length-take room (bytesOf (places p c y)), left, is)
+module _ (p : List ℕ) (c : Core) (n : length p ≡ pageLength (c .screen)) (i : Inside (c .screen)) (y : Sending) (g : GoodSend (c .screen) y) (room : ℕ) (h : 0 < room) where
+  -- one that is not over wants more room, and has used its room up
+  wants-more : sends (leftFrom p c y room) ≡ true → room < length (bytesOf (places p c y))
+  wants-more s =
+      let left = some-left p c Pending.Idle (leftFrom p c y room) (left-ok p c n i y g room h) s in
+      let is : length (bytesOf (places p c (leftFrom p c y room))) ≡ length (bytesOf (places p c y)) - room =
+      ap (λ (l : List Spot). length (bytesOf l)) (places-left p c n i y g room h)
+      ∙ (ap length (bytes-beyond (places-small p c y) room) ∙ length-drop room (bytesOf (places p c y))) in
+      omega (arith, left, is)
 
--- a US stands before a row's first cell, and not before the page's
-abbrev GoodAt : ℕ → Place → Type 0
-GoodAt w (Place.Cell i) = Unit {0}
-GoodAt w (Place.Break i) = (columnOf w i ≡ 0) × (0 < i)
-GoodAt w Place.Return = Unit {0}
+  pub sent-full : sends (leftFrom p c y room) ≡ true → length (sentFrom p c y room) ≡ room
+  unfolding sentFrom
+  sent-full s = omega (arith, length-take room (bytesOf (places p c y)), wants-more s)
+
+  -- with as much as it wants it is over
+  pub sent-over : length (bytesOf (places p c y)) ≤ room → sends (leftFrom p c y room) ≡ false
+  sent-over e = by (sends (leftFrom p c y room)) refl
+    where
+      by : (t : Bool) → sends (leftFrom p c y room) ≡ t → sends (leftFrom p c y room) ≡ false
+      by true u = absurd (omega (arith, wants-more u))
+      by false u = u
+
+-- before the text's end e; a US stands before a row's first cell, and not before the page's
+abbrev GoodAt : ℕ → ℕ → Place → Type 0
+GoodAt w e (Place.Cell i) = i < e
+GoodAt w e (Place.Break i) = (columnOf w i ≡ 0) × ((0 < i) × (i < e))
+GoodAt w e Place.Return = Unit {0}
+
+-- how many places of the page's text have gone, at the least
+abbrev gone : Place → ℕ
+gone (Place.Cell i) = i
+gone (Place.Break i) = i
+gone Place.Return = 1
 
 module _ {w : ℕ} (k : Width w) where
   -- a place for each cell, for each row that begins behind the first n cells, and for CR
@@ -514,27 +531,27 @@ module _ {w : ℕ} (k : Width w) where
       rw e (omega (arith, text-count all segment n (leftOut (leavesOut all) v) (suc i) l (omega arith)))
 
   -- a text that ends on a page, from cell i on: n cells of its row are left
-  from-bound : (all segment after : Bool) (n i : ℕ) (l : List ℕ) → n ≤ w → length l + (length l - n + (w - 1)) / w + 1 ≤ 24 * (w + 1)
-      → length (bytesOf (textPlaces w all segment n after i l)) ≤ 24 * (w + 1)
+  from-bound : (all segment after : Bool) (n i : ℕ) (l : List ℕ) → n ≤ w → length l + (length l - n + (w - 1)) / w + 1 + i ≤ 24 * (w + 1)
+      → length (bytesOf (textPlaces w all segment n after i l)) + i ≤ 24 * (w + 1)
   from-bound all segment after n i l h b =
       omega (arith, bytes-most (small-text w all segment n after i l), text-count all segment n after i l h)
 
   cells-most : (p : List ℕ) (e i : ℕ) → length (take (e - i) (drop i p)) ≤ e - i
   cells-most p e i = omega (arith, length-take (e - i) (drop i p))
 
-  pub at-bound : (p : List ℕ) (e : ℕ) (all segment : Bool) (z : Place) → e ≤ 24 * w → GoodAt w z
-      → length (bytesOf (textAt w p e all segment z)) ≤ 24 * (w + 1)
+  pub at-bound : (p : List ℕ) (e : ℕ) (all segment : Bool) (z : Place) → e ≤ 24 * w → GoodAt w e z
+      → length (bytesOf (textAt w p e all segment z)) + gone z ≤ 24 * (w + 1)
   unfolding textAt bytesOf
   at-bound p e all segment (Place.Cell i) h g =
       let x = length (take (e - i) (drop i p)) in
       from-bound all segment _ (w - columnOf w i) i (take (e - i) (drop i p)) (omega arith)
-      (by-width (λ (w : ℕ). e ≤ 24 * w → x ≤ e - i → x + (x - (w - columnOf w i) + (w - 1)) / w + 1 ≤ 24 * (w + 1)) (λ h m. omega arith) (λ h m. omega arith)
-      k h (cells-most p e i))
+      (by-width (λ (w : ℕ). e ≤ 24 * w → i < e → x ≤ e - i → x + (x - (w - columnOf w i) + (w - 1)) / w + 1 + i ≤ 24 * (w + 1)) (λ h b m. omega arith) (λ h b m. omega arith)
+      k h g (cells-most p e i))
   at-bound p e all segment (Place.Break i) h g =
       let x = length (take (e - i) (drop i p)) in
       from-bound all segment _ 0 i (take (e - i) (drop i p)) (omega arith)
-      (by-width (λ (w : ℕ). e ≤ 24 * w → columnOf w i ≡ 0 → 0 < i → x ≤ e - i → x + (x - 0 + (w - 1)) / w + 1 ≤ 24 * (w + 1)) (λ h z s m. omega (arith, z))
-      (λ h z s m. omega (arith, z)) k h (g .0) (g .1) (cells-most p e i))
+      (by-width (λ (w : ℕ). e ≤ 24 * w → columnOf w i ≡ 0 → 0 < i → i < e → x ≤ e - i → x + (x - 0 + (w - 1)) / w + 1 + i ≤ 24 * (w + 1))
+      (λ h z s b m. omega (arith, z)) (λ h z s b m. omega (arith, z)) k h (g .0) (g .1 .0) (g .1 .1) (cells-most p e i))
   at-bound p e all segment Place.Return h g = omega (arith, width-range k)
 
 pub short-most : (r : Short) → shortLength r ≤ 7
@@ -550,25 +567,46 @@ unfolding each bytesOf
 each-most r n [] = refl
 each-most r n (b ∷ l) = ap suc (each-most r (suc n) l)
 
-pub sent-bound : (p : List ℕ) (c : Core) → Inside (c .screen) → (y : Sending) → GoodSend (c .screen) y → (room : ℕ)
-    → length (sentFrom p c y room) ≤ 24 * (widthOf (c .screen) + 1)
-unfolding sentFrom places
-sent-bound p c i y g room = omega (arith, length-take room (bytesOf (places p c y)), by y g)
-  where
-    none-sent : length (bytesOf []) ≡ 0
-    none-sent = unfold bytesOf in refl
+module _ (p : List ℕ) (c : Core) (i : Inside (c .screen)) where
+  good-at : (segment : Bool) (z : Place) → GoodPlace (c .screen) segment z → GoodAt (widthOf (c .screen)) (cursorOf (c .screen) + 1) z
+  good-at segment (Place.Cell j) g = omega (arith, g .1)
+  good-at segment (Place.Break j) g = (g .0, (omega (arith, g .1 .0), omega (arith, g .1 .1)))
+  good-at segment Place.Return g = tt
 
-    good-at : (segment : Bool) (z : Place) → GoodPlace (c .screen) segment z → GoodAt (widthOf (c .screen)) z
-    good-at segment (Place.Cell j) g = tt
-    good-at segment (Place.Break j) g = (g .0, omega (arith, g .1 .0))
-    good-at segment Place.Return g = tt
+  short-bound : (r : Short) (n : ℕ) → length (bytesOf (places p c (Sending.Short r n))) ≤ 7 - n
+  unfolding places
+  short-bound r n = omega (arith, each-most r n (drop n (shortReply p c r)), length-drop n (shortReply p c r), short-few p c r, short-most r)
 
-    by : (y : Sending) → GoodSend (c .screen) y → length (bytesOf (places p c y)) ≤ 24 * (widthOf (c .screen) + 1)
-    by Sending.Nothing g = omega (arith, none-sent)
-    by (Sending.Short r n) g =
-        omega (arith, each-most r n (drop n (shortReply p c r)), length-drop n (shortReply p c r), short-few p c r, short-most r)
-    by (Sending.Text all segment z) g =
-        at-bound (columns-width (c .screen .wide)) p (cursorOf (c .screen) + 1) all segment z (omega (arith, i .below, i .placed .page)) (good-at segment z g)
+  text-bound : (all segment : Bool) (z : Place) → GoodPlace (c .screen) segment z
+      → length (bytesOf (places p c (Sending.Text all segment z))) + gone z ≤ 24 * (widthOf (c .screen) + 1)
+  unfolding places
+  text-bound all segment z g =
+      at-bound (columns-width (c .screen .wide)) p (cursorOf (c .screen) + 1) all segment z (omega (arith, i .below, i .placed .page)) (good-at segment z g)
+
+  whole-bound : (y : Sending) → GoodSend (c .screen) y → length (bytesOf (places p c y)) ≤ 24 * (widthOf (c .screen) + 1)
+  whole-bound Sending.Nothing g = unfold places bytesOf in omega arith
+  whole-bound (Sending.Short r n) g = omega (arith, short-bound r n)
+  whole-bound (Sending.Text all segment z) g = omega (arith, text-bound all segment z g)
+
+  pub sent-bound : (y : Sending) → GoodSend (c .screen) y → (room : ℕ) → length (sentFrom p c y room) ≤ 24 * (widthOf (c .screen) + 1)
+  unfolding sentFrom
+  sent-bound y g room = omega (arith, length-take room (bytesOf (places p c y)), whole-bound y g)
+
+  -- a possible send stands behind the first place of its reply
+  some-gone : (x : Screen) (segment : Bool) (z : Place) → placeOk x segment z ≡ true → 0 < gone z
+  unfolding placeOk
+  some-gone x segment (Place.Cell j) h = omega (arith, ltb-true (textStart x segment) j (both-parts (ltb (textStart x segment) j) _ h .0))
+  some-gone x segment (Place.Break j) h =
+      let a = both-parts (eqb (columnOf (widthOf x) j) 0) _ h in
+      omega (arith, ltb-true (textStart x segment) j (both-parts (ltb (textStart x segment) j) _ (a .1) .0))
+  some-gone x segment Place.Return h = omega arith
+
+  pub left-bound : (q : Pending) (y : Sending) → sendingOk (c .screen) q y ≡ true → length (bytesOf (places p c y)) < 24 * (widthOf (c .screen) + 1)
+  unfolding sendingOk
+  left-bound q Sending.Nothing h = unfold places bytesOf in omega arith
+  left-bound q (Sending.Short r n) h = omega (arith, short-bound r n)
+  left-bound q (Sending.Text all segment z) h =
+      omega (arith, text-bound all segment z (ok-good (c .screen) q (Sending.Text all segment z) h), some-gone (c .screen) segment z (both-parts (isIdle q) _ h .1))
 
 -- with no room it stands where it stood
 pub stands-still : (p : List ℕ) (c : Core) → length p ≡ pageLength (c .screen) → Inside (c .screen) → (q : Pending) (y : Sending) → sendingOk (c .screen) q y ≡ true

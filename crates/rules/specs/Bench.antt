@@ -145,9 +145,9 @@ casesHold (from-page p s calls claims ∷ cs) = both (allHold (play calls p s) c
 unfoldable pub host : List ℕ → List Call
 host bytes = map (λ b. Step b 1944) bytes
 
--- ESC ) and two letters, ESC ( and ESC &, CR, 08h
+-- ESC ) and two letters, ESC ( and ESC &
 unfoldable pub label : ℕ → ℕ → List ℕ
-label a b = 0x1b ∷ 0x29 ∷ a ∷ b ∷ 0x1b ∷ 0x28 ∷ 0x1b ∷ 0x26 ∷ 0x0d ∷ 0x08 ∷ []
+label a b = 0x1b ∷ 0x29 ∷ a ∷ b ∷ 0x1b ∷ 0x28 ∷ 0x1b ∷ 0x26 ∷ []
 
 -- the text of a blank page: 24 rows of spaces with US between them
 unfoldable pub rowsOfSpaces : ℕ → List ℕ
@@ -169,12 +169,15 @@ table =
     -- 4: ESC a 24R80C, ESC b
     ∷ from-power-on (host (0x1b ∷ 0x61 ∷ 0x32 ∷ 0x34 ∷ 0x52 ∷ 0x38 ∷ 0x30 ∷ 0x43 ∷ 0x1b ∷ 0x62 ∷ []))
     (Cursor 1919 ∷ Replies (0x32 ∷ 0x34 ∷ 0x52 ∷ 0x30 ∷ 0x38 ∷ 0x30 ∷ 0x43 ∷ []) ∷ Answers (replicate 10 0) ∷ [])
-    -- 5, amended by request A2 of document 02: No protected, CR, 08h; then x, ESC 4
-    ∷ from-power-on (host (label 0x4e 0x6f)) (Cell 0 206 ∷ Cell 1 239 ∷ Cursor 2 ∷ Answers (replicate 10 0) ∷ [])
-    ∷ from-power-on (host (label 0x4e 0x6f ++ 0x78 ∷ 0x1b ∷ 0x34 ∷ []))
+    -- 5, amended by request A2 of document 02: No protected; then CR; then 08h; then x, ESC 4
+    ∷ from-power-on (host (label 0x4e 0x6f)) (Cell 0 206 ∷ Cell 1 239 ∷ Answers (replicate 8 0) ∷ [])
+    ∷ from-power-on (host (label 0x4e 0x6f ++ 0x0d ∷ [])) (Cursor 2 ∷ Answers (replicate 9 0) ∷ [])
+    ∷ from-power-on (host (label 0x4e 0x6f ++ 0x0d ∷ 0x08 ∷ [])) (Cursor 2 ∷ Answers (replicate 10 0) ∷ [])
+    ∷ from-power-on (host (label 0x4e 0x6f ++ 0x0d ∷ 0x08 ∷ 0x78 ∷ 0x1b ∷ 0x34 ∷ []))
     (Cell 2 0x78 ∷ Replies (0x1c ∷ 0x78 ∷ 0x20 ∷ 0x0d ∷ []) ∷ Answers (replicate 13 0) ∷ [])
     -- 6: the same with Hi
-    ∷ from-power-on (host (label 0x48 0x69 ++ 0x78 ∷ 0x1b ∷ 0x34 ∷ [])) (Replies (0x1c ∷ 0x78 ∷ 0x20 ∷ 0x0d ∷ []) ∷ Answers (replicate 13 0) ∷ [])
+    ∷ from-power-on (host (label 0x48 0x69 ++ 0x0d ∷ 0x08 ∷ 0x78 ∷ 0x1b ∷ 0x34 ∷ []))
+    (Replies (0x1c ∷ 0x78 ∷ 0x20 ∷ 0x0d ∷ []) ∷ Answers (replicate 13 0) ∷ [])
     -- 7: ESC , ESC & A
     ∷ from-power-on (host (0x1b ∷ 0x2c ∷ 0x1b ∷ 0x26 ∷ 0x41 ∷ [])) (Cell 0 160 ∷ Cursor 0 ∷ Answers (0 ∷ 0 ∷ 0 ∷ 0 ∷ 4 ∷ []) ∷ [])
     -- 8: ESC z 40h hi DEL; key 40h; key 41h

@@ -1,7 +1,11 @@
 -- A plan that stays inside the page: what carrying it out needs.
 use mathlib.Core.Path.{_≡_}
 use mathlib.Core.Bool.{Bool, true}
+use mathlib.Core.List.{List}
 use Prim.Native.Nat.{ℕ, _*_, _<_, _≤_}
+use lib.ListN.{length}
+use Rattle.rules.specs.declared.Core.{Core}
+use Rattle.rules.specs.declared.Command.{Command}
 use Rattle.rules.specs.declared.Screen.{Screen}
 use Rattle.rules.specs.declared.Plan.{Plan}
 use Rattle.rules.specs.declared.Write.{Write}
@@ -13,8 +17,9 @@ use Rattle.rules.specs.declared.Place.the-variants as Place
 use Rattle.rules.specs.declared.Sending.{Sending}
 use Rattle.rules.specs.declared.Sending.the-variants as Sending
 use Rattle.rules.specs.Row.{height, columnOf}
-use Rattle.rules.specs.State.{widthOf, segmentStart, segmentEnd, cursorOf, textStart}
+use Rattle.rules.specs.State.{widthOf, pageLength, segmentStart, segmentEnd, cursorOf, textStart}
 use Rattle.rules.specs.Possible.{screenOk, shortLength, repliesOn}
+use Rattle.rules.specs.Plan.{planRule}
 use Rattle.rules.specs.Carry.{planWidth}
 
 -- its cells and rows lie in the page, w being its width
@@ -48,3 +53,9 @@ pub record GoodPlan (x : Plan) : Type 0 where
   pub reply : GoodSend (x .next .screen) (x .reply)
   pub screen : screenOk (x .next .screen) ≡ true
   pub place : GoodLand (x .next .screen) (x .land)
+
+-- every plan does, g being which cells of the page are guarded
+abbrev pub GoodPlans : Type 0
+GoodPlans =
+    (c : Core) → screenOk (c .screen) ≡ true → (g : List Bool) → length g ≡ pageLength (c .screen) → (tabs : List Bool) (d : Command)
+    → GoodPlan (planRule g tabs c d)

@@ -20,7 +20,9 @@ pub mod RowCalls
 pub mod Completed
 pub mod Labels
 pub mod Good
+pub mod Kept
 pub mod Steps
+pub mod Bound
 pub mod Narrow
 pub mod Next
 pub mod Left

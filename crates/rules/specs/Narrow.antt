@@ -12,6 +12,7 @@ use Rattle.rules.specs.Send.{sentFrom}
 use Rattle.rules.specs.Step.{stepRule}
 use Rattle.rules.specs.Calls.{Ran, runRule}
 use Rattle.rules.specs.Steps.{preceded}
+use Rattle.rules.specs.Bound.{longest, leftOver}
 
 unfoldable pub sum : List ℕ → ℕ
 sum [] = 0
@@ -62,3 +63,18 @@ pub record Progress : Type 0 where
   pub stops : (p : List ℕ) (s : State) (bytes : List ℕ) (room : ℕ) → good p s ≡ true → runRule p s bytes room .answer ≡ 0
       → 0 < length (runRule p s bytes room .rest)
       → (sends (runRule p s bytes room .state .sending) ≡ true) × (length (runRule p s bytes room .reply) ≡ room)
+
+-- when a run over some bytes takes at least one, on a good page and state
+pub record EnoughRoom : Type 0 where
+  -- outside a send, with any room
+  pub outside : (p : List ℕ) (s : State) (bytes : List ℕ) (room : ℕ) → good p s ≡ true → 0 < length bytes → sends (s .sending) ≡ false → 0 < room
+      → 0 < runRule p s bytes room .taken
+  -- inside one, with more room than the send wants
+  pub inside : (p : List ℕ) (s : State) (bytes : List ℕ) (room : ℕ) → good p s ≡ true → 0 < length bytes → sends (s .sending) ≡ true
+      → length (leftOver p s) < room → 0 < runRule p s bytes room .taken
+  -- "so with that room a non-empty run on a good page and state takes at least one byte"
+  pub takes : (p : List ℕ) (s : State) (bytes : List ℕ) (room : ℕ) → good p s ≡ true → 0 < length bytes → longest (s .core .screen .wide) ≤ room
+      → 0 < runRule p s bytes room .taken
+  -- a step inside a send ends it, with as much room as it wants
+  pub ends : (p : List ℕ) (s : State) (b room : ℕ) → good p s ≡ true → sends (s .sending) ≡ true → length (leftOver p s) ≤ room
+      → sends (stepRule p s b room .state .sending) ≡ false

@@ -102,6 +102,9 @@ narrowCases =
     (Answers (0 ∷ 6 ∷ []) ∷ Counts (2 ∷ 1 ∷ 0 ∷ 1 ∷ 2 ∷ 0 ∷ []) ∷ Rests (0x05 ∷ []) ∷ Replies (0x35 ∷ 0x30 ∷ 0x0d ∷ []) ∷ Cell 0 0x41 ∷ [])
     ∷ from-power-on (Run (esc 0x20) 1 ∷ Run (0x41 ∷ 0x42 ∷ []) 1 ∷ [])
     (Answers (0 ∷ 0 ∷ []) ∷ Counts (2 ∷ 1 ∷ 0 ∷ 0 ∷ 1 ∷ 0 ∷ []) ∷ Rests (0x41 ∷ 0x42 ∷ []) ∷ Replies (0x35 ∷ 0x30 ∷ []) ∷ Cell 0 0 ∷ [])
+    -- of the longest reply 1,943 bytes are left: one more is room for 05h and its reply, and with no more that byte answers 6
+    ∷ from-page blank (withSending (cursorAt 1919) (wholeSegment (Place.Cell 1))) (Run (0x05 ∷ []) 1944 ∷ []) (Answers (0 ∷ []) ∷ Counts (1 ∷ 1944 ∷ 0 ∷ []) ∷ [])
+    ∷ from-page blank (withSending (cursorAt 1919) (wholeSegment (Place.Cell 1))) (Run (0x05 ∷ []) 1943 ∷ []) (Answers (6 ∷ []) ∷ Counts (0 ∷ 1943 ∷ 0 ∷ []) ∷ [])
     -- no room: 6 over bytes, 0 over none
     ∷ from-power-on (Run (esc 0x20) 1 ∷ Run (0x41 ∷ []) 0 ∷ Run [] 0 ∷ [])
     (Answers (0 ∷ 6 ∷ 0 ∷ []) ∷ Counts (2 ∷ 1 ∷ 0 ∷ 0 ∷ 0 ∷ 0 ∷ 0 ∷ 0 ∷ 0 ∷ []) ∷ Rests (0x41 ∷ []) ∷ Stands (Sending.Short Short.Identity 1) ∷ [])

@@ -8,7 +8,7 @@ use Rattle.rules.specs.declared.State.{State}
 use Rattle.rules.specs.State.{shortBytes, sends}
 use Rattle.rules.specs.Possible.{good}
 use Rattle.rules.specs.Arguments.{isKey}
-use Rattle.rules.specs.Calls.{Called, keyAt}
+use Rattle.rules.specs.Calls.{Press, Called, keySends, keyAt, callRule}
 
 -- what a call gives that answers n, replies r and changes nothing
 abbrev pub answering : List ℕ → State → ℕ → List ℕ → Called
@@ -38,3 +38,7 @@ pub record PressGives (p : List ℕ) (s : State) (v room : ℕ) (sent : List ℕ
   -- whatever it answers
   pub page : r .page ≡ p
   pub state : r .given .state ≡ s
+
+-- of every press
+abbrev pub PressesGive : Type 0
+PressesGive = (p : List ℕ) (s : State) (v room : ℕ) → PressGives p s v room (keySends (keyAt s v) v) (callRule p s (Press v room))

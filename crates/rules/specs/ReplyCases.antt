@@ -41,7 +41,7 @@ replyCases =
     -- ESC A n attr
     ∷ obeys (esc 0x41 ++ 0x30 ∷ 0x34 ∷ [] ++ esc 0x41 ++ 0x33 ∷ 0x7e ∷ []) (FieldAttributes (0x34 ∷ 0x30 ∷ 0x30 ∷ 0x7e ∷ []) ∷ Cell 0 0 ∷ Cursor 0 ∷ [])
     ∷ obeys (esc 0x41 ++ 0x31 ∷ 0x20 ∷ [] ++ esc 0x41 ++ 0x32 ∷ 0x70 ∷ []) (FieldAttributes (0x30 ∷ 0x20 ∷ 0x70 ∷ 0x30 ∷ []) ∷ [])
-    -- ESC ` f: each code sets its one feature; 3Ah changes nothing
+    -- ESC ` f: each code sets its one feature; 3Ah sets none, since A11 a wish
     ∷ obeys (esc 0x60 ++ 0x30 ∷ [] ++ esc 0x60 ++ 0x32 ∷ [] ++ esc 0x60 ++ 0x36 ∷ [] ++ esc 0x60 ++ 0x38 ∷ [] ++ esc 0x60 ++ 0x3c ∷ [])
     (Features (0x30 ∷ 0x32 ∷ 0x36 ∷ 0x38 ∷ 0x3c ∷ []) ∷ [])
     ∷ obeys (esc 0x60 ++ 0x30 ∷ [] ++ esc 0x60 ++ 0x31 ∷ [] ++ esc 0x60 ++ 0x33 ∷ [] ++ esc 0x60 ++ 0x41 ∷ [] ++ esc 0x60 ++ 0x3d ∷ [])
@@ -73,12 +73,12 @@ replyCases =
     -- a text cell with code 20h to 7Eh goes as its code, any other cell as 20h
     ∷ obeysFrom (0x1f ∷ 0x20 ∷ 0x7e ∷ 0x7f ∷ 0x141 ∷ 0x241 ∷ 0x341 ∷ 0xff41 ∷ 0xc1 ∷ 0x00 ∷ []) wy50 (goTo 0 9 ++ esc 0x36)
     (Replies (0x20 ∷ 0x20 ∷ 0x7e ∷ 0x20 ∷ 0x20 ∷ 0x20 ∷ 0x20 ∷ 0x20 ∷ 0x41 ∷ 0x20 ∷ 0x0d ∷ []) ∷ Cursor 9 ∷ [])
-    -- ESC 6: the row from column 1 through the cursor, then CR, guarded cells too; ESC 4: the same with guarded cells left out
+    -- ESC 6: the row from column 1 through the cursor, then CR, protected cells too; ESC 4: the same with an FS for each stretch of protected cells
     ∷ obeys (0x41 ∷ 0x1f ∷ [] ++ labelled 1 1 ++ 0x42 ∷ [] ++ esc 0x26 ++ esc 0x36) (Replies (0x20 ∷ 0x4e ∷ 0x42 ∷ 0x20 ∷ 0x0d ∷ []) ∷ [])
     ∷ obeys (0x41 ∷ 0x1f ∷ [] ++ labelled 1 1 ++ 0x42 ∷ [] ++ esc 0x26 ++ esc 0x34) (Replies (0x20 ∷ 0x1c ∷ 0x42 ∷ 0x20 ∷ 0x0d ∷ []) ∷ [])
     ∷ obeysFrom (0 ∷ 206 ∷ []) (cursorAt 2) (0x42 ∷ [] ++ esc 0x34) (Replies (0x20 ∷ 0x1c ∷ 0x42 ∷ 0x20 ∷ 0x0d ∷ []) ∷ [])
     ∷ obeysFrom (206 ∷ []) (protectAt 0) (esc 0x34) (Replies (0x1c ∷ 0x0d ∷ []) ∷ Cursor 0 ∷ [])
-    -- ESC 7: segment home through the cursor, US between rows, then CR; ESC 5: guarded cells left out, the US stays
+    -- ESC 7: segment home through the cursor, US between rows, then CR; ESC 5: an FS for each stretch of protected cells, the US stays
     ∷ obeys (0x41 ∷ 0x1f ∷ 0x42 ∷ [] ++ esc 0x37) (Replies (0x41 ∷ replicate 79 32 ++ 0x1f ∷ 0x42 ∷ 0x20 ∷ 0x0d ∷ []) ∷ [])
     ∷ obeysFrom (206 ∷ [] ++ replicate 79 0 ++ 206 ∷ []) (cursorAt 81) (0x42 ∷ [] ++ esc 0x26 ++ esc 0x37)
     (Replies (0x4e ∷ replicate 79 32 ++ 0x1f ∷ 0x4e ∷ 0x42 ∷ 0x20 ∷ 0x0d ∷ []) ∷ [])

@@ -49,7 +49,7 @@ lastMark none at [] = none
 lastMark none at (true ∷ m) = lastMark at (suc at) m
 lastMark none at (false ∷ m) = lastMark none (suc at) m
 
--- of the marks a up to, not including, e: the first, or e; the last, or `none`
+-- of the marks a up to, not including, e, as far as the list goes: the place of the first, or the one past the last of them; that of the last, or `none`
 unfoldable pub firstIn : List Bool → ℕ → ℕ → ℕ
 firstIn m a e = firstMark a (slice a e m)
 

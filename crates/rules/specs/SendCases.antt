@@ -19,14 +19,14 @@ labelOverRowEnd = labelled 0 79 ++ labelled 1 0
 
 unfoldable pub sendCases : List Case
 sendCases =
-    -- fields are parted: one FS for each longest stretch of guarded cells
+    -- fields are parted: one FS for each longest stretch of protected cells
     obeys (twoFields ++ esc 0x26 ++ esc 0x34) (Replies (0x1c ∷ 0x41 ∷ 0x42 ∷ 0x1c ∷ 0x43 ∷ 0x20 ∷ 0x0d ∷ []) ∷ [])
     ∷ obeys (twoFields ++ esc 0x26 ++ esc 0x35) (Replies (0x1c ∷ 0x41 ∷ 0x42 ∷ 0x1c ∷ 0x43 ∷ 0x20 ∷ 0x0d ∷ []) ∷ [])
     ∷ obeys (labelled 0 2 ++ labelled 0 3 ++ labelled 0 4 ++ esc 0x26 ++ esc 0x34) (Replies (0x20 ∷ 0x20 ∷ 0x1c ∷ 0x20 ∷ 0x0d ∷ []) ∷ [])
     -- a row end cuts a stretch: FS, US, FS
     ∷ obeys (labelOverRowEnd ++ esc 0x26 ++ esc 0x35) (Replies (replicate 79 32 ++ 0x1c ∷ 0x1f ∷ 0x1c ∷ 0x20 ∷ 0x0d ∷ []) ∷ [])
     ∷ obeys (labelOverRowEnd ++ esc 0x26 ++ esc 0x34) (Replies (0x1c ∷ 0x20 ∷ 0x0d ∷ []) ∷ [])
-    -- a wholly guarded row is one FS, and the US between rows stays
+    -- a wholly protected row is one FS, and the US between rows stays
     ∷ obeys (twoLabelRows ++ esc 0x26 ++ 0x41 ∷ [] ++ esc 0x35) (Replies (0x1c ∷ 0x1f ∷ 0x1c ∷ 0x1f ∷ 0x41 ∷ 0x20 ∷ 0x0d ∷ []) ∷ [])
     -- a stretch that goes on past the cursor is still one FS
     ∷ obeys (esc 0x2c ++ esc 0x26 ++ esc 0x34) (Replies (0x1c ∷ 0x0d ∷ []) ∷ [])

@@ -1,6 +1,6 @@
 -- The run over many bytes as the single step repeated: the steps that it takes, and what it gives by them.
 use mathlib.Core.Path.{_≡_}
-use mathlib.Core.Bool.{Bool, true}
+use mathlib.Core.Bool.{Bool, true, false}
 use mathlib.Core.List.{List, [], _∷_, _++_}
 use Prim.Native.Nat.{ℕ, _+_, _-_, _<_, _≤_}
 use lib.Dec.{leb, eqb}
@@ -8,8 +8,9 @@ use lib.ListN.{length, getD, take, drop}
 use Rattle.rules.specs.declared.State.{State}
 use Rattle.rules.specs.Cell.{pick, both}
 use Rattle.rules.specs.State.{sends}
+use Rattle.rules.specs.Possible.{good}
 use Rattle.rules.specs.Step.{Outcome, goesOn, stepRule}
-use Rattle.rules.specs.Calls.{Ran, behind, repeated}
+use Rattle.rules.specs.Calls.{Ran, ended, behind, repeated, runRule}
 
 -- the step on each byte in turn, on the page and the state that the last left, with the room that is left, up to the first that answers 6 or
 -- finds a send under way
@@ -82,6 +83,27 @@ pub record Refused (p : List ℕ) (s : State) (bytes : List ℕ) (r : Ran) : Typ
   pub rest : r .rest ≡ bytes
   pub page : r .page ≡ p
   pub state : r .state ≡ s
+
+-- "a run over many bytes is the single step repeated, replies joined", on a good page and state
+abbrev pub RunRepeats : Type 0
+RunRepeats =
+    (p : List ℕ) (s : State) (bytes : List ℕ) (room : ℕ) → good p s ≡ true → sends (s .sending) ≡ false
+    → Repeats p s bytes room (steps bytes p s room) (runRule p s bytes room)
+
+-- inside a send (document 02, A9): with room the send goes on first; without, 6, or 0 over no bytes, and nothing has changed
+abbrev pub RunResumes : Type 0
+RunResumes =
+    (p : List ℕ) (s : State) (bytes : List ℕ) (room : ℕ) → good p s ≡ true → sends (s .sending) ≡ true → 0 < room
+    → Resumes p s bytes room (runRule p s bytes room)
+
+abbrev pub RunUnheard : Type 0
+RunUnheard =
+    (p : List ℕ) (s : State) (bytes : List ℕ) → good p s ≡ true → sends (s .sending) ≡ true
+    → runRule p s bytes 0 ≡ ended p s (pick (eqb (length bytes) 0) 0 6) bytes
+
+-- on any other page or state it is refused
+abbrev pub RunRefused : Type 0
+RunRefused = (p : List ℕ) (s : State) (bytes : List ℕ) (room : ℕ) → good p s ≡ false → Refused p s bytes (runRule p s bytes room)
 
 -- a run after another that took i bytes, of which f were refused, and replied a
 abbrev pub preceded : ℕ → ℕ → List ℕ → Ran → Ran

@@ -132,6 +132,8 @@ wideCases =
     ∷ from-page (widePage []) (wideAt 132) (Run (esc 0x35) 132 ∷ []) (Stands (Sending.Text false true (Place.Break 132)) ∷ [])
     -- the longest reply
     ∷ from-page (widePage []) (wideAt 3167) (Run (esc 0x37) 9999 ∷ []) (Counts (2 ∷ 3192 ∷ 0 ∷ []) ∷ Stands Sending.Nothing ∷ [])
+    ∷ from-page (widePage []) (wideAt 3167) (Run (esc 0x37) 1 ∷ Run (0x05 ∷ []) 3192 ∷ []) (Counts (2 ∷ 1 ∷ 0 ∷ 1 ∷ 3192 ∷ 0 ∷ []) ∷ [])
+    ∷ from-page (widePage []) (wideAt 3167) (Run (esc 0x37) 1 ∷ Run (0x05 ∷ []) 3191 ∷ []) (Counts (2 ∷ 1 ∷ 0 ∷ 0 ∷ 3191 ∷ 0 ∷ []) ∷ [])
     ∷ from-page (widePage []) (wideAt 3167) (Run (esc 0x35) 3191 ∷ []) (Counts (2 ∷ 3191 ∷ 0 ∷ []) ∷ Stands (Sending.Text false true Place.Return) ∷ [])
     -- the sizes of texts are those of a narrow page
     ∷ from-page (widePage []) (wideAt 0) (Run (esc 0x46 ++ replicate 46 0x61 ++ 0x0d ∷ []) 0 ∷ []) (Counts (49 ∷ 0 ∷ 0 ∷ []) ∷ Message (replicate 46 0x61) ∷ [])
