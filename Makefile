@@ -12,8 +12,9 @@ LIB := target/staticlib/libwy50.a
 COUNTER := target/staticlib/libwy50_counter.a
 HEADERS := wy50.h wy50_counter.h
 CRATES := wy50 wy50-counter
-# bench writes its table where git does not see it, unless it is to be saved
+# bench writes its tables and their pictures where git does not see them, unless they are to be saved
 TABLE := $(if $(SAVE),docs,target)/BENCHMARKS.md
+PICTURES := $(dir $(TABLE))pictures
 TERMINAL := $(addprefix crates/,rules page state plan carry terminal)
 sources = crates.txt $(shell find $(1) -name '*.rt' -o -name '*.antt')
 
@@ -24,7 +25,7 @@ demo: ## plays two host streams: page, refusals, what members are sent with its 
 	@tools/need rt
 	@examples/demo
 
-test: ## the gate: proves every crate, tries the must-fail edits, runs the tests; an hour on two cores
+test: ## the gate: proves every crate, tries the must-fail edits, runs the tests; about half an hour on two cores
 	@tools/need rt cargo
 	@tests/gate
 
@@ -57,11 +58,13 @@ sessions: $(LIB) ## demand 3 over whole sessions: pairs of terminals through the
 	$(CC) -std=c99 -Wall -Wextra -Werror -O2 -Iinclude tests/face/sessions.c $(LIB) -o target/face/sessions
 	target/face/sessions $(CALLS) $(SEED)
 
-bench: lib ## times beside the peers, to target/BENCHMARKS.md; with SAVE=1 to docs/BENCHMARKS.md
+bench: lib ## times beside the peers, with bars, to target/BENCHMARKS.md; with SAVE=1 to docs/BENCHMARKS.md
 	@tools/need cargo
 	@echo '#include <vterm.h>' | $(CC) -E - >/dev/null 2>&1 || { echo 'make bench needs libvterm: apt-get update && apt-get install -y libvterm-dev'; exit 1; }
 	@CARGO_TARGET_DIR=target/bench cargo build --release --offline --quiet --manifest-path tests/bench/Cargo.toml
 	@target/bench/release/bench $(TABLE)
+	@mkdir -p $(PICTURES)
+	@for name in peers growth; do tools/draw $$name $(TABLE) > $(PICTURES)/$$name.svg || exit 1; done
 
 install: lib ## libraries, headers, pkg-config files and the Rust crates' source; PREFIX=/usr/local
 	install -d $(TO)/lib/pkgconfig $(TO)/include

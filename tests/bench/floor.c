@@ -1,5 +1,6 @@
-/* The floors: a loop that stores text and ends lines by 0Dh and 0Ah, one that shifts rows, one that sends cells, one that counts text parts, one that
- * mends a page, and one that compares two pages and paints what differs. */
+/* The floors: a loop that stores text and ends lines by 0Dh and 0Ah, one that inserts it, one that moves the cursor, one that sums a state, one
+ * that shifts rows, one that sends cells, one that counts text parts, one that mends a page, and one that compares two pages and paints what
+ * differs. */
 #include <stdbool.h>
 #include <stddef.h>
 #include <stdint.h>
@@ -35,6 +36,80 @@ size_t floor_run(uint16_t *page, size_t at, const uint8_t *bytes, size_t count)
         }
     }
     return at;
+}
+
+/* The same in insert mode: the cells up to the row's end move right by one. An ESC and the byte after it are passed over. */
+size_t floor_insert(uint16_t *page, size_t at, const uint8_t *bytes, size_t count)
+{
+    for (size_t i = 0; i < count; i++) {
+        uint8_t b = bytes[i];
+        if (b >= 0x20 && b < 0x7f) {
+            memmove(page + at + 1, page + at, (COLUMNS - 1 - at % COLUMNS) * sizeof *page);
+            page[at++] = b;
+            if (at == CELLS) {
+                scroll(page);
+                at = LAST_ROW;
+            }
+        } else if (b == 0x0d) {
+            at -= at % COLUMNS;
+        } else if (b == 0x0a) {
+            if (at < LAST_ROW)
+                at += COLUMNS;
+            else
+                scroll(page);
+        } else if (b == 0x1b) {
+            i++;
+        }
+    }
+    return at;
+}
+
+static size_t down(uint16_t *page, size_t at)
+{
+    if (at < LAST_ROW)
+        return at + COLUMNS;
+    scroll(page);
+    return at;
+}
+
+/* The moves of single bytes: 08h, 0Ah to 0Dh, 1Eh and 1Fh. */
+size_t floor_move(uint16_t *page, size_t at, const uint8_t *bytes, size_t count)
+{
+    for (size_t i = 0; i < count; i++) {
+        switch (bytes[i]) {
+        case 0x08:
+            at -= at > 0;
+            break;
+        case 0x0a:
+            at = down(page, at);
+            break;
+        case 0x0b:
+            at = at < COLUMNS ? at + LAST_ROW : at - COLUMNS;
+            break;
+        case 0x0c:
+            at = at + 1 == CELLS ? 0 : at + 1;
+            break;
+        case 0x0d:
+            at -= at % COLUMNS;
+            break;
+        case 0x1e:
+            at = 0;
+            break;
+        case 0x1f:
+            at = down(page, at - at % COLUMNS);
+            break;
+        }
+    }
+    return at;
+}
+
+/* A sum over the numbers of a state, as who keeps one in a file makes it: turned by a bit before each is added. */
+uint32_t floor_sum(const uint16_t *state, size_t count)
+{
+    uint32_t sum = 0;
+    for (size_t k = 0; k < count; k++)
+        sum = (sum << 1 | sum >> 31) + state[k];
+    return sum;
 }
 
 /* At a cell of the segment from `first` up to `end`, perhaps after ESC. */

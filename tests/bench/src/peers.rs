@@ -224,6 +224,9 @@ pub fn list_difference(stream: &[u8]) -> Option<String> {
 
 extern "C" {
     fn floor_run(page: *mut u16, at: usize, bytes: *const u8, count: usize) -> usize;
+    fn floor_insert(page: *mut u16, at: usize, bytes: *const u8, count: usize) -> usize;
+    fn floor_move(page: *mut u16, at: usize, bytes: *const u8, count: usize) -> usize;
+    fn floor_sum(state: *const u16, count: usize) -> u32;
     fn floor_shift(page: *mut u16, cursor: *mut Cursor, bytes: *const u8, count: usize);
     fn floor_send(page: *const u16, bytes: *const u8, count: usize, reply: *mut u8) -> usize;
     fn floor_count(text: *const u8, count: usize) -> u64;
@@ -283,22 +286,32 @@ pub fn floor_proposed([before, after]: &[Page; 2], painting: &mut Painting) {
         unsafe { floor_propose(before.as_ptr(), after.as_ptr(), painting.spans.as_mut_ptr(), painting.bytes.as_mut_ptr(), &mut counts.1) };
 }
 
-/// The floor of text, plain C.
-pub struct Floor {
+/// A sum over the numbers of a state, in plain C.
+pub fn summed(state: &[u16]) -> u32 {
+    // SAFETY: the pointer and the count are those of one slice.
+    unsafe { floor_sum(state.as_ptr(), state.len()) }
+}
+
+/// A loop in plain C over a page and host bytes, from the cursor, which it gives back.
+type Loop = unsafe extern "C" fn(*mut u16, usize, *const u8, usize) -> usize;
+
+/// A floor, plain C: of text (0), of inserted text (1), of moves (2).
+pub struct Floor<const OF: usize> {
     page: Page,
     at: usize,
 }
 
-impl Default for Floor {
+impl<const OF: usize> Default for Floor<OF> {
     fn default() -> Self {
         Floor { page: [0; CELLS], at: 0 }
     }
 }
 
-impl Peer for Floor {
+impl<const OF: usize> Peer for Floor<OF> {
     fn read(&mut self, bytes: &[u8]) {
+        let floor = const { [floor_run as Loop, floor_insert, floor_move][OF] };
         // SAFETY: the page has 1,920 cells, the cursor is one of them, and the pointer and the count are those of one slice.
-        self.at = unsafe { floor_run(self.page.as_mut_ptr(), self.at, bytes.as_ptr(), bytes.len()) };
+        self.at = unsafe { floor(self.page.as_mut_ptr(), self.at, bytes.as_ptr(), bytes.len()) };
     }
 
     fn page(&self) -> Page {

@@ -1,6 +1,6 @@
 //! The host streams that are timed. Each is made of rounds, from a seed that does not change.
 
-use crate::peers::{play, Page, Proved60};
+use crate::peers::{play, Floor, Page, Proved60};
 use std::ops::Range;
 use wy50::{COLUMNS, ROWS};
 
@@ -16,8 +16,8 @@ pub struct Workload {
     pub what: &'static str,
     /// libvterm has it.
     pub translated: bool,
-    /// It is plain text, which the floor has.
-    pub plain: bool,
+    /// Plain C, where there is a floor of it.
+    pub floor: Option<fn(&[u8]) -> Page>,
     /// It is for a WY-60.
     pub wy60: bool,
     start: fn(&mut Writer),
@@ -25,13 +25,21 @@ pub struct Workload {
 }
 
 pub const WORKLOADS: [Workload; 7] = [
-    Workload { name: "text", what: "lines of 20 to 79 characters, which scroll", translated: true, plain: true, wy60: false, start: nothing, round: line },
-    Workload { name: "addressed", what: "ESC = and 4 to 40 characters", translated: true, plain: false, wy60: false, start: nothing, round: addressed },
+    Workload {
+        name: "text",
+        what: "lines of 20 to 79 characters, which scroll",
+        translated: true,
+        floor: Some(play::<Floor<0>>),
+        wy60: false,
+        start: nothing,
+        round: line,
+    },
+    Workload { name: "addressed", what: "ESC = and 4 to 40 characters", translated: true, floor: None, wy60: false, start: nothing, round: addressed },
     Workload {
         name: "form",
         what: "a protected form with 16 fields of 24 cells: each filled with 4 to 22 characters and left by 09h, all asked with ESC 5",
         translated: false,
-        plain: false,
+        floor: None,
         wy60: false,
         start: draw_form,
         round: fill_form,
@@ -40,7 +48,7 @@ pub const WORKLOADS: [Workload; 7] = [
         name: "edits",
         what: "ESC =, then an edit (ESC Q W E R), a clear (ESC T Y t y ; :), a split (ESC x) or the other segment (ESC J), and 4 to 20 characters",
         translated: false,
-        plain: false,
+        floor: None,
         wy60: false,
         start: nothing,
         round: edit,
@@ -49,7 +57,7 @@ pub const WORKLOADS: [Workload; 7] = [
         name: "attributes",
         what: "on a WY-60: lines of four words of 3 to 18 characters, which scroll, ESC G and an attribute before each word",
         translated: false,
-        plain: false,
+        floor: None,
         wy60: true,
         start: nothing,
         round: attributed,
@@ -58,7 +66,7 @@ pub const WORKLOADS: [Workload; 7] = [
         name: "insert",
         what: "in insert mode: lines of 20 to 79 characters, which scroll",
         translated: false,
-        plain: false,
+        floor: Some(play::<Floor<1>>),
         wy60: false,
         start: insert_on,
         round: line,
@@ -67,7 +75,7 @@ pub const WORKLOADS: [Workload; 7] = [
         name: "moves",
         what: "any of 08h, 0Ah, 0Bh, 0Ch, 0Dh, 1Eh and 1Fh, and nothing else",
         translated: false,
-        plain: false,
+        floor: Some(play::<Floor<2>>),
         wy60: false,
         start: nothing,
         round: moves,
@@ -80,7 +88,7 @@ pub const LISTED: [Workload; 2] = [
         name: "home",
         what: "1Eh on a protected page that is open only in its last cell",
         translated: false,
-        plain: false,
+        floor: None,
         wy60: false,
         start: draw_closed,
         round: home,
@@ -89,7 +97,7 @@ pub const LISTED: [Workload; 2] = [
         name: "busy form",
         what: "a protected form of nine tenths labels, with a field of 24 cells in every third row: all filled to their ends, one after the other",
         translated: false,
-        plain: false,
+        floor: None,
         wy60: false,
         start: draw_busy_form,
         round: fill_busy_form,
