@@ -19,8 +19,9 @@ END {
         for (i = 1; i <= n; i++)
             if (word[i] in place)
                 needs[k, place[word[i]]] = over[k, place[word[i]]] = 1
-            else if (word[i] == "io")
-                program[k] = 1
+        main = "crates/" crate[k] "/src/main.rt"
+        program[k] = (getline line < main) > 0
+        close(main)
     }
     # over: it rests on it, if only by way of others; twice: also by way of others
     for (d = 1; d <= crates; d++)

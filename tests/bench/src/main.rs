@@ -47,8 +47,8 @@ const MEND_ROUNDS: usize = 50; // each is short
 const PAINT_CALLS: usize = 20;
 const PAINT_ROUNDS: usize = 1000; // each is short
 
-/// How many times as fast as the independent implementation a workload is to be, where that is more than once, and how many times what plain C takes it
-/// may take, where that is more than 1.5. All targets are ratios of one run: another machine, or a busy one, shifts both sides.
+/// How many times as fast as the independent implementation a workload is to be, where that is more than once, and how many times what plain C
+/// takes it may take, where that is more than 1.5. All targets are ratios of one run: another machine, or a busy one, shifts both sides.
 const AHEAD: [(&str, f64); 2] = [("form", 3.0), ("edits", 2.5)];
 const WITHIN: [(&str, f64); 1] = [("moves", 2.0)];
 const STEP_WITHIN: f64 = 1.4;
@@ -105,7 +105,8 @@ struct Single {
 fn main() -> ExitCode {
     let Some(path) = std::env::args().nth(1) else {
         eprintln!(
-            "bench FILE: the tables go to FILE\nbench --streams, --scrolls, --sends, --counts, --lists, --mends, --repaints, --singles: these alone, printed"
+            "bench FILE: the tables go to FILE\nbench --streams, --scrolls, --sends, --counts, --lists, --mends, \
+             --repaints, --singles: these alone, printed"
         );
         return ExitCode::from(2);
     };
