@@ -9,9 +9,9 @@
 --     block-filled, last-filled                a fill by blocks: one block more, and the last, which may overlap the one before
 --     left-turn, left-filled                   the loop of a shift to the left: a turn, and the fill after it
 --     right-turn, right-filled                 to the right
---     left-one, right-one                      after the loop of a shift by one cell
---     none-shifted, none-within                where nothing moves
---     whole-rows                               the cells of whole rows
+--     none-shifted                             where nothing moves
+--     last-count                               the counts of a shift
+--     none-or-some, edit-inside, whole-rows    what is lent to it: an edit run, the cells of whole rows
 --     column-step                              one row of a column
 -- Assumes nothing.
 use mathlib.Core.Path.{_≡_, refl, sym, ap, _∙_}
@@ -25,9 +25,11 @@ use native.Mathlib.Omega.{arith}
 use lib.ListN.{length, getD, set, take, drop, replicate, length-append, length-drop, length-map, length-replicate, getD-replicate, List·getD-append}
 use lib.Seq.{length-take-le, getD-drop, getD-take, getD-append-add, drop-cons, set-split, ext-getD}
 use borrow.Rule.Slice.PartMut.{putMid, mid-len, same-len-mid}
-use Rattle.page.proofs.Loop.{Joined, step-up, step-down, joined-all, joined-none}
+use Rattle.page.proofs.Loop.{Joined, step-up, step-down}
 use Rattle.rules.specs.Row.{Width}
 use Rattle.rules.specs.Change.{within, fillCell, filled, shiftLeft, shiftRight, shifted, columnFilled}
+use Rattle.rules.specs.Search.{guardedAt, editEnd}
+use Rattle.rules.proofs.Marks.{length-guards, edit-range}
 use Rattle.rules.proofs.Rows.{rows-le}
 
 -- a part was lent, `&mut page[a..e]`, and came back as q, which f makes of it
@@ -254,19 +256,6 @@ module _ (k v : ℕ) (p : List ℕ) {l : List ℕ} {i : ℕ} where
       (λ m b. absurd (omega arith)) (λ m b d. right-new k v p m (omega arith) (omega arith))
       (λ m b d. j .above m (omega arith))
 
--- ---- by one cell: what comes in
-
-module _ (v : ℕ) (p : List ℕ) {l : List ℕ} {i : ℕ} (some : 0 < length p) where
-  pub left-one : {f : ℕ} → f ≡ length p - 1 → f ≤ i → i ≤ f → Joined i (shiftLeft 1 v p) p l → set l f v ≡ shiftLeft 1 v p
-  left-one {f} e h n j =
-      let m : i ≡ f = omega arith in
-      joined-all (step-up (rw m at j) (omega arith) (sym (left-new 1 v p f (omega arith) (omega arith)))) (omega arith)
-
-  pub right-one : i ≤ 0 → Joined (i + 1) p (shiftRight 1 v p) l → set l 0 v ≡ shiftRight 1 v p
-  right-one n j =
-      let m : i + 1 ≡ 1 = omega arith in
-      joined-none (step-down (rw m at j) (omega arith) (omega (arith, length-right 1 v p)) (sym (right-new 1 v p 0 some (omega arith)))) (omega arith)
-
 -- ---- where nothing moves
 
 pub length-shifted : (right : Bool) (k v : ℕ) (p : List ℕ) → length (shifted right k v p) ≡ length p
@@ -278,12 +267,19 @@ none-shifted right k v p h n =
     ext-getD 0 p (shifted right k v p) (sym (length-shifted right k v p))
     (λ i b. absurd (⊎-elim (λ e. omega arith) (λ e. omega arith) h))
 
-pub none-within : (a e : ℕ) (right : Bool) (k v : ℕ) (p : List ℕ) → e ≤ length p → a ≡ e → p ≡ within a e (shifted right k v) p
-none-within a e right k v p h n =
-    let f = shifted right k v in
-    let s = length-shifted right k v (take (e - a) (drop a p)) in
-    sym (ext-getD 0 (within a e f p) p (length-within a e f p (omega arith) h s)
-    (λ i b. ⊎-elim (λ c. at-front a e f p (omega arith) h s i c) (λ c. at-back a e f p (omega arith) h s i (omega arith)) (lt-or-le i a)))
+-- ---- the parts that move, and their counts
+
+pub last-count : {k : ℕ} → (k ≡ 1) ⊎ Width k → (k ≡ 1 → ⊥) → (k ≡ 80 → ⊥) → k ≡ 132
+last-count h n m = ⊎-elim (λ e. absurd (n e)) (⊎-elim (λ e. absurd (m e)) (λ e. e)) h
+
+pub none-or-some : (n : ℕ) → (n ≡ 0) ⊎ (1 ≤ n)
+none-or-some zero = inl refl
+none-or-some (suc n) = inr (omega arith)
+
+-- the edit run lies in the page
+pub edit-inside : {w at e : ℕ} (on : Bool) (p : List ℕ) → Width w → length p ≡ 24 * w → at < 24 * w → e ≡ editEnd w (guardedAt on p) at
+    → (at ≤ e) × (e ≤ length p)
+edit-inside {w} {at} on p k n h e = omega (arith, e, length-guards on p, edit-range w (guardedAt on p) at k (length-guards on p ∙ n) h)
 
 -- whole rows are none, or one at least
 pub whole-rows : {w : ℕ} → Width w → (top bottom : ℕ) (p : List ℕ) → top ≤ bottom → bottom * w ≤ length p

@@ -1,4 +1,4 @@
-// Changes of cells: fills, the shift by one cell, and the shift by rows.
+// Changes of cells: fills, and the one shift, of cells and of rows.
 ghost use mathlib.Core.Path.{_≡_};
 ghost use mathlib.Core.Bool.{true, false};
 ghost use mathlib.Core.Logic.{_⊎_};
@@ -143,67 +143,32 @@ fn shift_right(part: &mut [u16], count: usize, value: u16)
     put_cells(part, 0, count, value);
 }
 
-// The shift of rows, `count` being their width: the part is empty, or has as many cells.
-fn shift(part: &mut [u16], down: bool, count: usize, value: u16)
+// The part is empty, or has as many cells.
+fn shift_by(part: &mut [u16], right: bool, count: usize, value: u16)
     requires { ⌜ (length (now part) ≡ 0) ⊎ (count ≤ length (now part)) ⌝ }
-    ensures { λ r. ⌜ now (part .exit) ≡ shifted down count value (now (part .entry)) ⌝ }
+    ensures { λ r. ⌜ now (part .exit) ≡ shifted right count value (now (part .entry)) ⌝ }
 {
     if part.len() < count {
         return;
     }
-    if down {
+    if right {
         shift_right(part, count, value);
     } else {
         shift_left(part, count, value);
     }
 }
 
-// The shifts by one cell, of a part that has one. As functions of their own they become block moves.
-fn insert_cell(part: &mut [u16], value: u16)
-    requires { ⌜ 0 < length (now part) ⌝ }
-    ensures { λ r. ⌜ now (part .exit) ≡ shiftRight 1 value (now (part .entry)) ⌝ }
+// The one shift, by a cell or by a row: every part that moves is lent to it. Each count is a number that is known when the program is built: these
+// become block moves.
+fn shift(part: &mut [u16], right: bool, count: usize, value: u16)
+    requires { ⌜ ((count ≡ 1) ⊎ Width count) × ((length (now part) ≡ 0) ⊎ (count ≤ length (now part))) ⌝ }
+    ensures { λ r. ⌜ now (part .exit) ≡ shifted right count value (now (part .entry)) ⌝ }
 {
-    let mut at = part.len() - 1;
-    while 0 < at {
-        at -= 1;
-        part[at + 1] = part[at];
+    match count {
+        1 => shift_by(part, right, 1, value),
+        80 => shift_by(part, right, 80, value),
+        _ => shift_by(part, right, 132, value),
     }
-    part[0] = value;
-}
-
-fn delete_cell(part: &mut [u16], value: u16)
-    requires { ⌜ 0 < length (now part) ⌝ }
-    ensures { λ r. ⌜ now (part .exit) ≡ shiftLeft 1 value (now (part .entry)) ⌝ }
-{
-    let last = part.len() - 1;
-    let mut i = 0;
-    while i < last {
-        part[i] = part[i + 1];
-        i += 1;
-    }
-    part[last] = value;
-}
-
-fn shift_cell(part: &mut [u16], right: bool, value: u16)
-    requires { ⌜ 0 < length (now part) ⌝ }
-    ensures { λ r. ⌜ now (part .exit) ≡ shifted right 1 value (now (part .entry)) ⌝ }
-{
-    if right {
-        insert_cell(part, value);
-    } else {
-        delete_cell(part, value);
-    }
-}
-
-// The cells `from` up to `to` move by one cell.
-fn shift_cells(page: &mut [u16], right: bool, from: usize, to: usize, value: u16)
-    requires { ⌜ (from ≤ to) × (to ≤ length (now page)) ⌝ }
-    ensures { λ r. ⌜ now (page .exit) ≡ within from to (shifted right 1 value) (now (page .entry)) ⌝ }
-{
-    if from == to {
-        return;
-    }
-    shift_cell(&mut page[from..to], right, value);
 }
 
 // The edit run at a cell moves by one cell: right for an insert, left for a delete; `value` comes in.
@@ -219,19 +184,7 @@ pub fn shift_edit_run(
     ensures { λ r. ⌜ now (page .exit) ≡ editShifted width protect right value at (now (page .entry)) ⌝ }
 {
     let end = edit_end(page, width, protect, at);
-    shift_cells(page, right, at, end, value);
-}
-
-// The cells of whole rows move by one row. Each distance is a number that is known when the program is built: these become block moves.
-fn shift_by_row(part: &mut [u16], width: usize, down: bool)
-    requires { ⌜ Width width × ((length (now part) ≡ 0) ⊎ (width ≤ length (now part))) ⌝ }
-    ensures { λ r. ⌜ now (part .exit) ≡ shifted down width space (now (part .entry)) ⌝ }
-{
-    if width == 132 {
-        shift(part, down, 132, SPACE);
-    } else {
-        shift(part, down, 80, SPACE);
-    }
+    shift(&mut page[at..end], right, 1, value);
 }
 
 // The rows `top` up to `bottom` move by one row: scrolling both ways, row insert, row delete.
@@ -241,5 +194,5 @@ pub fn shift_rows(page: &mut [u16], width: usize, down: bool, top: usize, bottom
 {
     let from = top * width;
     let to = bottom * width;
-    shift_by_row(&mut page[from..to], width, down);
+    shift(&mut page[from..to], down, width, SPACE);
 }

@@ -1,4 +1,5 @@
 -- `page::change::shift_rows` meets its contract.
+use mathlib.Core.Logic.{inr}
 use native.Mathlib.Omega.{arith}
 use borrow.Author.Needs.{needs}
 use denote.Ref.{now}
@@ -18,22 +19,22 @@ shift-rows-spec =
     (λ c. let k = c .before .pre in omega (arith, rows-small (k .0) {a = c .before .args .top} (omega arith)))
     -- mul-to
     (λ c. let k = c .before .pre in omega (arith, rows-small (k .0) (k .1 .1 .0)))
-    -- mul-shift-by-row
+    -- mul-shift
     (λ c. let k = c .before .pre in omega (arith, rows-small (k .0) {a = c .before .args .top} (omega arith)))
-    -- sub-shift-by-row
+    -- sub-shift
     (λ c. let k = c .before .pre in omega (arith, rows-le (k .0) (k .1 .0), rows-le (k .0) (k .1 .1 .0)))
-    -- part-shift-by-row-start
+    -- part-shift-start
     (λ c. let k = c .before .pre in omega (arith, rows-le (k .0) (k .1 .0), rows-le (k .0) (k .1 .1 .0)))
-    -- part-shift-by-row-end
+    -- part-shift-end
     (λ c. let k = c .before .pre in omega (arith, rows-le (k .0) (k .1 .1 .0)))
-    -- shift-by-row-requires
+    -- shift-requires
     (λ c κs.
     let x = c .before .before .args in
     let k = c .before .before .pre in
-    (k .0, whole-rows (k .0) (x .top) (x .bottom) (now (x .page)) (k .1 .0) (omega (arith, rows-le (k .0) (k .1 .1 .0)))))
+    (inr (k .0), whole-rows (k .0) (x .top) (x .bottom) (now (x .page)) (k .1 .0) (omega (arith, rows-le (k .0) (k .1 .1 .0)))))
     -- same-length
     (λ c. search needs)
     -- returns
     (λ c.
     let x = c .before .before .before .before .before .args in
-    lent _ _ (shifted (x .down) (x .width) space) (now (x .page)) (c .before .before .shift-by-row .ensures)))
+    lent _ _ (shifted (x .down) (x .width) space) (now (x .page)) (c .before .before .shift .ensures)))
