@@ -7,7 +7,7 @@ ghost use lib.ListN.{length, drop};
 ghost use Rattle.rules.specs.State.{Inside, pageLength, cursorRow, cursorColumn};
 ghost use Rattle.rules.specs.Possible.{screenOk, shortLength};
 ghost use Rattle.rules.specs.Good.{GoodSend};
-ghost use Rattle.rules.specs.Send.{model as modelOf, digit as digitOf, decimal, each, places};
+ghost use Rattle.rules.specs.Send.{model, digit as digitOf, decimal, each, places};
 ghost use Rattle.page.specs.Room.{stands, gone};
 ghost use Rattle.carry.specs.Went.{Went};
 use page::text::Sent;
@@ -38,16 +38,6 @@ fn cursor_column(x: Screen) -> u8
     screen::cursor_column(x) as u8
 }
 
-// The first digit of the model's number.
-fn model(m: Personality) -> u8
-    ensures { λ r. ⌜ r ≡ modelOf m ⌝ }
-{
-    match m {
-        Personality::Wy50 => b'5',
-        Personality::Wy60 => b'6',
-    }
-}
-
 // The last decimal digit of a number.
 fn digit(n: u8) -> u8
     ensures { λ r. ⌜ r ≡ digitOf n ⌝ }
@@ -55,13 +45,15 @@ fn digit(n: u8) -> u8
     0x30 + n % 10
 }
 
-// ESC SPACE: the model's number and CR.
+// ESC SPACE: the model's number and CR, a fixed byte string for each personality.
 fn send_identity(room: &mut [u8], m: Personality, from: u8) -> Sent
     requires { ⌜ from ≤ 3 ⌝ }
-    ensures { λ r. ⌜ stands (now (room .exit)) (r .replied) (r .left) ≡ gone (each Short.Identity from (drop from (modelOf m ∷ 0x30 ∷ 0x0d ∷ []))) 0 (now (room .entry)) ⌝ }
+    ensures { λ r. ⌜ stands (now (room .exit)) (r .replied) (r .left) ≡ gone (each Short.Identity from (drop from (model m ∷ 0x30 ∷ 0x0d ∷ []))) 0 (now (room .entry)) ⌝ }
 {
-    let bytes = [model(m), b'0', b'\r'];
-    send_bytes(room, &bytes, Short::Identity, from)
+    match m {
+        Personality::Wy50 => send_bytes(room, b"50\r", Short::Identity, from),
+        Personality::Wy60 => send_bytes(room, b"60\r", Short::Identity, from),
+    }
 }
 
 // ESC b: two digits, R, three digits, C.
