@@ -35,9 +35,9 @@ use writes::plan_clear;
 use writes::plan_edit;
 use writes::plan_store;
 
-pub fn plan_for(page: &[u16], tabs: &[bool; 132], core: Core, d: Command) -> Plan
+pub fn plan_for(page: &[u16], tabs: [bool; 132], core: Core, d: Command) -> Plan
     requires { ⌜ (length (now page) ≡ pageLength (core .screen)) × ((screenOk (core .screen) ≡ true) × (core .attribute < 32)) ⌝ }
-    ensures { λ r. ⌜ r ≡ planRule (guardedAt (core .modes .protect) (now (page .entry))) (now (tabs .entry)) core d ⌝ }
+    ensures { λ r. ⌜ r ≡ planRule (guardedAt (core .modes .protect) (now (page .entry))) tabs core d ⌝ }
 {
     match d {
         Command::Nothing => plain(core),

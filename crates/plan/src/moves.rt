@@ -128,9 +128,9 @@ fn back_cell(page: &[u16], on: bool, x: Screen) -> u16
     search::previous_open(page, on, start as usize, at as usize) as u16
 }
 
-fn tab_cell(page: &[u16], tabs: &[bool; 132], core: Core) -> u16
+fn tab_cell(page: &[u16], tabs: [bool; 132], core: Core) -> u16
     requires { ⌜ (length (now page) ≡ pageLength (core .screen)) × Inside (core .screen) ⌝ }
-    ensures { λ r. ⌜ r ≡ tabCell (guardedAt (core .modes .protect) (now (page .entry))) (now (tabs .entry)) core ⌝ }
+    ensures { λ r. ⌜ r ≡ tabCell (guardedAt (core .modes .protect) (now (page .entry))) tabs core ⌝ }
 {
     let x = core.screen;
     if core.modes.protect {
@@ -139,14 +139,13 @@ fn tab_cell(page: &[u16], tabs: &[bool; 132], core: Core) -> u16
         let end = segment_end(x);
         return search::next_field(page, true, start as usize, end as usize, at as usize) as u16;
     }
-    let stops = *tabs;
-    let column = search::next_tab(stops, width_of(x) as usize, cursor_column(x) as usize);
+    let column = search::next_tab(tabs, width_of(x) as usize, cursor_column(x) as usize);
     row_start(x) + column as u16
 }
 
-fn back_tab_cell(page: &[u16], tabs: &[bool; 132], core: Core) -> u16
+fn back_tab_cell(page: &[u16], tabs: [bool; 132], core: Core) -> u16
     requires { ⌜ (length (now page) ≡ pageLength (core .screen)) × Inside (core .screen) ⌝ }
-    ensures { λ r. ⌜ r ≡ backTabCell (guardedAt (core .modes .protect) (now (page .entry))) (now (tabs .entry)) core ⌝ }
+    ensures { λ r. ⌜ r ≡ backTabCell (guardedAt (core .modes .protect) (now (page .entry))) tabs core ⌝ }
 {
     let x = core.screen;
     if core.modes.protect {
@@ -155,8 +154,7 @@ fn back_tab_cell(page: &[u16], tabs: &[bool; 132], core: Core) -> u16
         let end = segment_end(x);
         return search::previous_field(page, true, start as usize, end as usize, at as usize) as u16;
     }
-    let stops = *tabs;
-    let column = search::previous_tab(stops, cursor_column(x) as usize);
+    let column = search::previous_tab(tabs, cursor_column(x) as usize);
     row_start(x) + column as u16
 }
 
@@ -186,9 +184,9 @@ pub fn address_plan(core: Core, x: Screen, base: u16, most: u16, row: u16, colum
     refusing(core, Answer::BadArgument)
 }
 
-pub fn plan_move(page: &[u16], tabs: &[bool; 132], core: Core, m: Move) -> Plan
+pub fn plan_move(page: &[u16], tabs: [bool; 132], core: Core, m: Move) -> Plan
     requires { ⌜ (length (now page) ≡ pageLength (core .screen)) × Inside (core .screen) ⌝ }
-    ensures { λ r. ⌜ r ≡ movePlan (guardedAt (core .modes .protect) (now (page .entry))) (now (tabs .entry)) core m ⌝ }
+    ensures { λ r. ⌜ r ≡ movePlan (guardedAt (core .modes .protect) (now (page .entry))) tabs core m ⌝ }
 {
     let x = core.screen;
     let at = cursor_of(x);

@@ -253,15 +253,8 @@ pub fn run_beside(
             continue;
         }
         let d = s.decoded;
-        let t = inner(
-            page,
-            rows,
-            &u.tabs,
-            c,
-            input[taken],
-            d,
-            &mut reply[replied..],
-        );
+        let tabs = u.tabs;
+        let t = inner(page, rows, tabs, c, input[taken], d, &mut reply[replied..]);
         let a = t.answer;
         if is_no_room(a) {
             return finished(

@@ -9,7 +9,7 @@ mod moves; // where a run moves the cursor
 mod runs; // host bytes without a plan for each
 mod sequence; // awaited bytes
 mod text; // text that a run stores
-pub mod width; // the state at the other width
+mod width; // the state at the other width
 
 ghost use mathlib.Core.Path.{_≡_};
 ghost use mathlib.Core.Bool.{true};
@@ -61,7 +61,7 @@ pub use state::sending::text_command;
 use state::texts::is_key;
 use state::width::NARROW_CELLS;
 use state::width::cells;
-use width::ConvertResult;
+pub use width::ConvertResult;
 use width::state_on;
 
 // A page of the state's own length, and a possible state.

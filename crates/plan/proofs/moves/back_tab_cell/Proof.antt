@@ -13,7 +13,7 @@ use Rattle.plan.proofs.moves.back_tab_cell.Tie as tie
 
 -- the column that the search of the tab stops gave
 tab-column : (c : tie.After-previous-tab) → c .previous-tab .result ≤ c .before .cursor-column .result
-tab-column c = rw (c .previous-tab .ensures) (previous-tab-below (now (c .before .before .before .before .before .before .args .tabs)) _)
+tab-column c = rw (c .previous-tab .ensures) (previous-tab-below (c .before .before .before .before .before .args .tabs) _)
 
 pub back-tab-cell-spec : {M : Type 1} → statement M
 unfolding backTabCell
@@ -48,12 +48,12 @@ back-tab-cell-spec =
     -- cast-previous-tab
     (λ c. search needs)
     -- previous-tab-requires
-    (λ c κs. omega (arith, c .cursor-column .ensures, c .before .before .before .before .before .pre .1 .placed))
+    (λ c κs. omega (arith, c .cursor-column .ensures, c .before .before .before .before .pre .1 .placed))
     -- row-start-requires
     (λ c κs. search needs)
     -- cast-result-2
-    (λ c. omega (arith, tab-column (c .before), c .before .before .cursor-column .ensures, c .before .before .before .before .before .before .before .pre .1 .placed))
+    (λ c. omega (arith, tab-column (c .before), c .before .before .cursor-column .ensures, c .before .before .before .before .before .before .pre .1 .placed))
     -- add-result
-    (λ c. omega (arith, tab-column (c .before), c .row-start .ensures, c .before .before .cursor-column .ensures, c .before .before .before .before .before .before .before .pre .1))
+    (λ c. omega (arith, tab-column (c .before), c .row-start .ensures, c .before .before .cursor-column .ensures, c .before .before .before .before .before .before .pre .1))
     -- returns-2
-    (λ c. rw (c .before .before .before .before .if1 .left, c .row-start .ensures, c .before .previous-tab .ensures, c .before .before .cursor-column .ensures)))
+    (λ c. rw (c .before .before .before .if1 .left, c .row-start .ensures, c .before .previous-tab .ensures, c .before .before .cursor-column .ensures)))

@@ -14,9 +14,9 @@ use Rattle.plan.proofs.moves.tab_cell.Tie as tie
 -- the column that the search of the tab stops gave
 tab-column : (c : tie.After-next-tab) → c .next-tab .result < c .before .before .width-of .result
 tab-column c =
-    let s = c .before .before .before .before .before .before .before in
+    let s = c .before .before .before .before .before .before in
     rw (c .next-tab .ensures)
-    (next-tab-below _ (now (s .args .tabs)) _ (omega (arith, c .before .cursor-column .ensures, c .before .before .width-of .ensures, s .pre .1 .placed)))
+    (next-tab-below _ (s .args .tabs) _ (omega (arith, c .before .cursor-column .ensures, c .before .before .width-of .ensures, s .pre .1 .placed)))
 
 pub tab-cell-spec : {M : Type 1} → statement M
 unfolding tabCell
@@ -55,12 +55,12 @@ tab-cell-spec =
     -- cast-next-tab-2
     (λ c. search needs)
     -- next-tab-requires
-    (λ c κs. omega (arith, c .cursor-column .ensures, c .before .width-of .ensures, c .before .before .before .before .before .before .pre .1 .placed))
+    (λ c κs. omega (arith, c .cursor-column .ensures, c .before .width-of .ensures, c .before .before .before .before .before .pre .1 .placed))
     -- row-start-requires
     (λ c κs. search needs)
     -- cast-result-2
-    (λ c. omega (arith, tab-column (c .before), c .before .before .before .width-of .ensures, c .before .before .before .before .before .before .before .before .pre .1 .placed))
+    (λ c. omega (arith, tab-column (c .before), c .before .before .before .width-of .ensures, c .before .before .before .before .before .before .before .pre .1 .placed))
     -- add-result
-    (λ c. omega (arith, tab-column (c .before), c .row-start .ensures, c .before .before .before .width-of .ensures, c .before .before .before .before .before .before .before .before .pre .1))
+    (λ c. omega (arith, tab-column (c .before), c .row-start .ensures, c .before .before .before .width-of .ensures, c .before .before .before .before .before .before .before .pre .1))
     -- returns-2
-    (λ c. rw (c .before .before .before .before .before .if1 .left, c .row-start .ensures, c .before .next-tab .ensures, c .before .before .cursor-column .ensures, c .before .before .before .width-of .ensures)))
+    (λ c. rw (c .before .before .before .before .if1 .left, c .row-start .ensures, c .before .next-tab .ensures, c .before .before .cursor-column .ensures, c .before .before .before .width-of .ensures)))

@@ -111,7 +111,7 @@ abbrev called : tie.After-is-no-room Inv-loop μ-loop → Inner
 called a = a .before .before .before .before .before .before .before
 
 abbrev present : Inner → tie.Else4 Inv-loop μ-loop
-present i = i .before .before .before .before .before .before .before
+present i = i .before .before .before .before .before .before
 
 abbrev waiting : Inner → Waiting
 waiting i = present i .before
@@ -283,16 +283,16 @@ run-beside-spec =
     -- loop-again-2
     (λ c. let w = c .before in (past w .running, (beside w, listed (followed w))))
     -- shared-slice-read-inner
-    (λ c. c .before .before .before .before .before .if4 .left)
+    (λ c. c .before .before .before .before .if4 .left)
     -- sub-inner
-    (λ c. room-size (past (c .before .before .before .before .before .before) .running))
+    (λ c. room-size (past (c .before .before .before .before .before) .running))
     -- part-inner-start
-    (λ c. room-size (past (c .before .before .before .before .before .before) .running))
+    (λ c. room-size (past (c .before .before .before .before .before) .running))
     -- part-inner-end
     (λ c. omega arith)
     -- inner-requires
     (λ c κs.
-    let e = c .before .before .before .before .before .before in
+    let e = c .before .before .before .before .before in
     let w = e .before in
     let g = ready (past w .running) in
     let came = w .before .awaited .ensures .1 (e .if4 .left) in

@@ -18,7 +18,7 @@ start k = k .before .before .before .before
 
 -- the effect of a byte below 80h, by what it decodes to
 came : (k : tie.Else1) {d : Decoded} → start k .args .d ≡ d
-    → let x = start k .args in let p = now (x .page) in let tabs = now (x .tabs) in let room = length (now (x .room)) in
+    → let x = start k .args in let p = now (x .page) in let tabs = x .tabs in let room = length (now (x .room)) in
     innerRule p (x .core) tabs (x .b) room ≡ obeyed p (x .core) tabs d room
 came k e = below _ _ _ _ _ (k .if1 .left) (start k .pre .1 .1 .1 .1 .1 (k .if1 .left)) e
 

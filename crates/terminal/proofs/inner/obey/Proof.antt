@@ -26,8 +26,8 @@ obey-spec =
     let x = start k .args in
     let p = start k .pre in
     let i = cleared k .idle .ensures in
-    let g = plan-good (now (x .page)) (x .core) (now (x .tabs)) (x .d) i (k .plan-for .ensures) (p .0) (p .1 .0) in
-    (g .0, (g .1, list-asked (now (x .page)) (x .core) (now (x .tabs)) (x .d) i (k .plan-for .ensures) (p .0) (p .1 .0) (p .1 .1 .1))))
+    let g = plan-good (now (x .page)) (x .core) (x .tabs) (x .d) i (k .plan-for .ensures) (p .0) (p .1 .0) in
+    (g .0, (g .1, list-asked (now (x .page)) (x .core) (x .tabs) (x .d) i (k .plan-for .ensures) (p .0) (p .1 .0) (p .1 .1 .1))))
     -- same-length
     (λ c. search needs)
     -- same-length-2
@@ -42,5 +42,5 @@ obey-spec =
     let p = start k .pre in
     let i = cleared k .idle .ensures in (
       plan-carried _ _ _ _ i (k .plan-for .ensures) (o .carry-out .ensures .0),
-      plan-beside (now (x .page)) (x .core) (now (x .tabs)) (x .d) i (k .plan-for .ensures) (p .0) (p .1 .0) (now (x .room)) (o .carry-out .ensures .1),
+      plan-beside (now (x .page)) (x .core) (x .tabs) (x .d) i (k .plan-for .ensures) (p .0) (p .1 .0) (now (x .room)) (o .carry-out .ensures .1),
     )))
