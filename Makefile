@@ -1,6 +1,6 @@
 # make, alone, says what there is to make.
 
-.PHONY: help demo test lib test-face fuzz fuzz-face sessions bench install uninstall clean
+.PHONY: help demo test edits lib test-face fuzz fuzz-face sessions bench install uninstall clean
 .DEFAULT_GOAL := help
 
 SECONDS ?= 60
@@ -11,7 +11,7 @@ TO := $(DESTDIR)$(PREFIX)
 LIB := target/staticlib/libwy50.a
 COUNTER := target/staticlib/libwy50_counter.a
 HEADERS := wy50.h wy50_counter.h
-CRATES := wy50 wy50-counter
+RUST := wy50 wy50-counter
 # bench writes its tables and their pictures where git does not see them, unless they are to be saved
 TABLE := $(if $(SAVE),docs,target)/BENCHMARKS.md
 PICTURES := $(dir $(TABLE))pictures
@@ -28,6 +28,10 @@ demo: ## plays two host streams: page, refusals, what members are sent with its 
 test: ## the gate: proves every crate, tries the must-fail edits, runs the tests; about half an hour on two cores
 	@tools/need rt cargo
 	@tests/gate
+
+edits: ## tries all wrong programs, and says in tests/edits/RECORD where each is refused; CRATES="page plan"
+	@tools/need rt cargo
+	@tests/edits/run $(CRATES)
 
 lib: $(LIB) $(COUNTER) ## libwy50.a and libwy50_counter.a, in target/staticlib
 
@@ -73,7 +77,7 @@ install: lib ## libraries, headers, pkg-config files and the Rust crates' source
 	for name in wy50 wy50_counter; do \
 	    sed -e 's|@PREFIX@|$(PREFIX)|' -e "s|@VERSION@|$$(cat VERSION)|" $$name.pc.in > $(TO)/lib/pkgconfig/$$name.pc || exit 1; \
 	done
-	for crate in $(CRATES); do \
+	for crate in $(RUST); do \
 	    install -d $(TO)/share/wy50/rust/$$crate/src && install -m 644 LICENSE rust/$$crate/Cargo.toml rust/$$crate/build.rs $(TO)/share/wy50/rust/$$crate \
 	        && install -m 644 rust/$$crate/src/*.rs $(TO)/share/wy50/rust/$$crate/src || exit 1; \
 	done
