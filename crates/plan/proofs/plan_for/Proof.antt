@@ -11,87 +11,47 @@ unfolding planRule
 plan-for-spec =
     tie.close
     (tie.spec
-    -- enum-told
+    -- in the code's order: what is told and what the calls require, then what each arm gives
     (λ c. search needs)
-    -- plain-requires
     (λ c κs. search needs)
-    -- enum-known-d
     (λ c. search needs)
-    -- plan-move-requires
     (λ c κs. let s = c .before .before .before .before in (s .pre .0, screen-inside _ (s .pre .1 .0)))
-    -- enum-known-d-2
     (λ c. search needs)
-    -- plan-window-requires
     (λ c κs. search needs)
-    -- enum-known-d-3
     (λ c. search needs)
-    -- plan-store-requires
     (λ c κs. let s = c .before .before .before .before in (s .pre .0, (screen-inside _ (s .pre .1 .0), s .pre .1 .1)))
-    -- enum-known-d-4
     (λ c. search needs)
-    -- plan-attribute-requires
     (λ c κs. let s = c .before .before .before .before in (s .pre .0, screen-inside _ (s .pre .1 .0)))
-    -- enum-known-d-5
     (λ c. search needs)
-    -- plan-edit-requires
     (λ c κs. let s = c .before .before .before .before in (s .pre .0, screen-inside _ (s .pre .1 .0)))
-    -- enum-known-d-6
     (λ c. search needs)
-    -- plan-clear-requires
     (λ c κs. screen-inside _ (c .before .before .before .before .pre .1 .0))
-    -- enum-known-d-7
     (λ c. search needs)
-    -- with-mode-requires
     (λ c κs. search needs)
-    -- with-modes-requires
     (λ c κs. search needs)
-    -- plain-requires-2
     (λ c κs. search needs)
-    -- enum-told-2
     (λ c. search needs)
-    -- with-protect-requires
     (λ c κs. search needs)
-    -- with-modes-requires-2
     (λ c κs. search needs)
-    -- cursor-of-requires
     (λ c κs. search needs)
-    -- settling-requires
     (λ c κs. search needs)
-    -- enum-told-3
     (λ c. search needs)
-    -- next-bell-requires
     (λ c κs. search needs)
-    -- with-bells-requires
     (λ c κs. search needs)
-    -- plain-requires-3
     (λ c κs. search needs)
-    -- enum-known-d-8
     (λ c. search needs)
-    -- plan-setting-requires
     (λ c κs. search needs)
-    -- enum-known-d-9
     (λ c. search needs)
-    -- plan-send-requires
     (λ c κs. search needs)
-    -- enum-known-d-10
     (λ c. search needs)
-    -- plan-excluded-requires
     (λ c κs. search needs)
-    -- returns
     (λ c. c .plain .ensures ∙ rw (c .before .enum-told .given .1))
-    -- returns-2
     (λ c. c .plan-move .ensures ∙ rw (c .before .before .d .given .1))
-    -- returns-3
     (λ c. c .plan-window .ensures ∙ rw (c .before .before .d2 .given .1))
-    -- returns-4
     (λ c. c .plan-store .ensures ∙ rw (c .before .before .d3 .given .1))
-    -- returns-5
     (λ c. c .plan-attribute .ensures ∙ rw (c .before .before .d4 .given .1))
-    -- returns-6
     (λ c. c .plan-edit .ensures ∙ rw (c .before .before .d5 .given .1))
-    -- returns-7
     (λ c. c .plan-clear .ensures ∙ rw (c .before .before .d6 .given .1))
-    -- returns-8
     (λ c.
     c .plain2 .ensures
     ∙ rw (
@@ -99,7 +59,6 @@ plan-for-spec =
       c .before .before .with-mode .ensures,
       c .before .before .before .before .d7 .given .1,
     ))
-    -- returns-9
     (λ c.
     c .settling .ensures
     ∙ rw (
@@ -108,7 +67,6 @@ plan-for-spec =
       c .before .cursor-of .ensures,
       c .before .before .before .before .enum-told2 .given .1,
     ))
-    -- returns-10
     (λ c.
     c .plain3 .ensures
     ∙ rw (
@@ -116,9 +74,6 @@ plan-for-spec =
       c .before .before .next-bell .ensures,
       c .before .before .before .enum-told3 .given .1,
     ))
-    -- returns-11
     (λ c. c .plan-setting .ensures ∙ rw (c .before .before .d8 .given .1))
-    -- returns-12
     (λ c. c .plan-send .ensures ∙ rw (c .before .before .d9 .given .1))
-    -- returns-13
     (λ c. c .plan-excluded .ensures ∙ rw (c .before .before .d10 .given .1)))

@@ -12,59 +12,32 @@ unfolding sendPlan unlessGuarded
 plan-send-spec =
     tie.close
     (tie.spec
-    -- enum-told
+    -- in the code's order: what is told and what the calls require, then what each arm gives
     (λ c. search needs)
-    -- short-requires
     (λ c κs. search needs)
-    -- enum-told-2
     (λ c. search needs)
-    -- short-requires-2
     (λ c κs. search needs)
-    -- enum-told-3
     (λ c. search needs)
-    -- narrowly-requires
     (λ c κs. search needs)
-    -- enum-told-4
     (λ c. search needs)
-    -- narrowly-requires-2
     (λ c κs. search needs)
-    -- enum-told-5
     (λ c. search needs)
-    -- short-requires-3
     (λ c κs. search needs)
-    -- enum-told-6
     (λ c. search needs)
-    -- cursor-of-requires
     (λ c κs. search needs)
-    -- guarded-at-requires
     (λ c κs. omega (arith, c .before .before .before .before .pre .0, cursor-below _ (c .before .before .before .before .pre .1) (c .cursor-of .ensures)))
-    -- refusing-requires
     (λ c κs. search needs)
-    -- returns
     (λ c. c .refusing .ensures ∙ rw (c .before .before .before .before .enum-told6 .given .1, ← c .before .before .before .cursor-of .ensures, ← c .before .before .guarded-at .ensures, c .before .if1 .taken))
-    -- short-requires-4
     (λ c κs. search needs)
-    -- enum-told-7
     (λ c. search needs)
-    -- text-requires
     (λ c κs. search needs)
-    -- enum-told-8
     (λ c. search needs)
-    -- text-requires-2
     (λ c κs. search needs)
-    -- returns-2
     (λ c. c .short .ensures ∙ rw (c .before .enum-told .given .1))
-    -- returns-3
     (λ c. c .short2 .ensures ∙ rw (c .before .enum-told2 .given .1))
-    -- returns-4
     (λ c. c .narrowly .ensures ∙ rw (c .before .enum-told3 .given .1))
-    -- returns-5
     (λ c. c .narrowly2 .ensures ∙ rw (c .before .enum-told4 .given .1))
-    -- returns-6
     (λ c. c .short3 .ensures ∙ rw (c .before .enum-told5 .given .1))
-    -- returns-7
     (λ c. c .short4 .ensures ∙ rw (c .before .before .before .before .enum-told6 .given .1, ← c .before .before .before .cursor-of .ensures, ← c .before .before .guarded-at .ensures, c .before .if1 .left))
-    -- returns-8
     (λ c. c .text .ensures ∙ rw (c .before .enum-told7 .given .1))
-    -- returns-9
     (λ c. c .text2 .ensures ∙ rw (c .before .enum-told8 .given .1)))

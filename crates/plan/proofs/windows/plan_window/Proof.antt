@@ -10,35 +10,21 @@ unfolding windowPlan
 plan-window-spec =
     tie.close
     (tie.spec
-    -- enum-told
+    -- in the code's order: what is told and what the calls require, then what each arm gives
     (λ c. search needs)
-    -- unsplit-screen-requires
     (λ c κs. search needs)
-    -- with-screen-requires
     (λ c κs. search needs)
-    -- settling-requires
     (λ c κs. search needs)
-    -- enum-known-w
     (λ c. search needs)
-    -- split-requires
     (λ c κs. search needs)
-    -- enum-told-2
     (λ c. search needs)
-    -- other-requires
     (λ c κs. search needs)
-    -- enum-told-3
     (λ c. search needs)
-    -- activate-requires
     (λ c κs. search needs)
-    -- enum-told-4
     (λ c. search needs)
-    -- second-requires
     (λ c κs. search needs)
-    -- enum-known-w-2
     (λ c. search needs)
-    -- place-requires
     (λ c κs. search needs)
-    -- returns
     (λ c.
     c .settling .ensures
     ∙ rw (
@@ -46,13 +32,8 @@ plan-window-spec =
       c .before .before .unsplit-screen .ensures,
       c .before .before .before .enum-told .given .1,
     ))
-    -- returns-2
     (λ c. c .split .ensures ∙ rw (c .before .before .w .given .1))
-    -- returns-3
     (λ c. c .other .ensures ∙ rw (c .before .enum-told2 .given .1))
-    -- returns-4
     (λ c. c .activate .ensures ∙ rw (c .before .enum-told3 .given .1))
-    -- returns-5
     (λ c. c .second .ensures ∙ rw (c .before .enum-told4 .given .1))
-    -- returns-6
     (λ c. c .place .ensures ∙ rw (c .before .before .w2 .given .1)))

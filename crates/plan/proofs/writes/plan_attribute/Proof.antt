@@ -10,13 +10,10 @@ unfolding attributePlan
 plan-attribute-spec =
     tie.close
     (tie.spec
-    -- takes-cell-requires
+    -- in the code's order: what is told and what the calls require, then what each arm gives
     (λ c κs. search needs)
-    -- attribute-contents-requires
     (λ c κs. search needs)
-    -- plan-store-requires
     (λ c κs. search needs)
-    -- returns
     (λ c.
     c .plan-store .ensures
     ∙ rw (
@@ -24,13 +21,9 @@ plan-attribute-spec =
       ← c .before .before .before .takes-cell .ensures,
       c .before .before .if1 .taken,
     ))
-    -- attribute-of-requires
     (λ c κs. search needs)
-    -- with-attribute-requires
     (λ c κs. search needs)
-    -- plain-requires
     (λ c κs. search needs)
-    -- returns-2
     (λ c.
     c .plain .ensures
     ∙ rw (

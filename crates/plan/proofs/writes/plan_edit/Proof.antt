@@ -10,27 +10,16 @@ unfolding editPlan
 plan-edit-spec =
     tie.close
     (tie.spec
-    -- enum-told
+    -- in the code's order: what is told and what the calls require, then what each arm gives
     (λ c. search needs)
-    -- edit-cells-requires
     (λ c κs. search needs)
-    -- enum-told-2
     (λ c. search needs)
-    -- edit-cells-requires-2
     (λ c κs. search needs)
-    -- enum-told-3
     (λ c. search needs)
-    -- edit-rows-requires
     (λ c κs. search needs)
-    -- enum-told-4
     (λ c. search needs)
-    -- edit-rows-requires-2
     (λ c κs. search needs)
-    -- returns
     (λ c. c .edit-cells .ensures ∙ rw (c .before .enum-told .given .1))
-    -- returns-2
     (λ c. c .edit-cells2 .ensures ∙ rw (c .before .enum-told2 .given .1))
-    -- returns-3
     (λ c. c .edit-rows .ensures ∙ rw (c .before .enum-told3 .given .1))
-    -- returns-4
     (λ c. c .edit-rows2 .ensures ∙ rw (c .before .enum-told4 .given .1)))

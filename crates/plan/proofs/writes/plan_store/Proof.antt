@@ -10,13 +10,10 @@ unfolding storePlan unlessGuarded
 plan-store-spec =
     tie.close
     (tie.spec
-    -- cursor-of-requires
+    -- in the code's order: what is told and what the calls require, then what each arm gives
     (λ c κs. search needs)
-    -- guarded-at-requires
     (λ c κs. search needs)
-    -- refusing-requires
     (λ c κs. search needs)
-    -- returns
     (λ c.
     c .refusing .ensures
     ∙ rw (
@@ -24,13 +21,9 @@ plan-store-spec =
       ← c .before .before .guarded-at .ensures,
       c .before .if1 .taken,
     ))
-    -- written-cell-requires
     (λ c κs. search needs)
-    -- storing-requires
     (λ c κs. search needs)
-    -- advancing-requires
     (λ c κs. search needs)
-    -- returns-2
     (λ c.
     let g = c .before .before .before .before in
     c .advancing .ensures
