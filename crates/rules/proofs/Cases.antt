@@ -17,7 +17,7 @@ use Rattle.rules.specs.Calls.{powerOnRule, joined, repeated, behind, run
 use Rattle.rules.specs.Room.{over}
 use Rattle.rules.specs.Noninterference.{completes, runCompletes, insideCompletes, callCompletes, anyCompleted}
 use Rattle.rules.specs.Completed.{completesFrom, stepCompletes}
-use Rattle.rules.specs.Bench.{replies, answers, countsOf, restsOf, segmentsOf, modesOf, stopsFrom, sendNumbers, holds, allHold, casesHold, host}
+use Rattle.rules.specs.Bench.{replies, answers, countsOf, restsOf, segmentsOf, modesOf, stopsFrom, sendNumbers, heldBytes, holds, allHold, casesHold, host, noneHold, wrongClaims}
 use Rattle.rules.specs.Inputs.{esc, goTo, labelled, halves, lower, threeLetters, lettersBelow, pageOf, cursorAt, protectAt, upperAt, placedOn, lowerAt, belled, fullKeys, typed, obeys, refuses, obeysFrom, refusesFrom}
 use Rattle.rules.specs.MovingCases.{movingCases}
 use Rattle.rules.specs.WritingCases.{writingBytes, writingCases}
@@ -37,7 +37,7 @@ use Rattle.rules.specs.PossibleCases.{placed, placedWide, keyed, labelle
 use Rattle.rules.specs.Cases.{CaseList}
 
 pub cases : CaseList
-unfolding completes runCompletes insideCompletes callCompletes anyCompleted completesFrom stepCompletes same replies answers holds allHold casesHold host
+unfolding completes runCompletes insideCompletes callCompletes anyCompleted completesFrom stepCompletes same replies answers heldBytes holds allHold casesHold host noneHold wrongClaims
     esc goTo labelled halves lower threeLetters lettersBelow pageOf cursorAt protectAt upperAt placedOn lowerAt belled fullKeys typed obeys refuses
     obeysFrom refusesFrom countsOf restsOf segmentsOf modesOf stopsFrom sendNumbers movingCases writingCases replyCases callCases twoFields twoLabelRows labelOverRowEnd sendCases form twoRows narrowCases as60 obeys60 refuses60 attr graphic flaggedCells personalityCases span lastAnswer
     triedHold bytesHold low high digitBytes attributeBytes writingBytes escapeBytes firstBytes argumentBytes addressBytes decimalBytes placed placedWide keyed
@@ -51,6 +51,9 @@ unfolding completes runCompletes insideCompletes callCompletes anyCompleted comp
     ofPress callRule after play firstColumn rowNumbers stepRowsRule runRowsRule nextRowsRule rowsAfter canRebuild rowCallRule rowAfter rowPlay rowsWith openRows
     rowHolds rowCasesHold fromPowerOn rowCases atEvent toEvent nextInside nextRule replyCommand nextHolds nextCasesHold inSend nextCases nextRefuses impossible
 cases = record {
+  read = refl;
+  second-claim = refl;
+  second-case = refl;
   moving = refl;
   writing = refl;
   replying = refl;

@@ -2,7 +2,7 @@
 -- one of the six. Together they are its kind, over which the forms of plans are stated (Forms).
 -- Assumes nothing.
 use mathlib.Core.Bool.{Bool, true, false}
-use mathlib.Core.List.{[]}
+use mathlib.Core.List.{List, []}
 use Prim.Native.Nat.{ℕ}
 use lib.Dec.{ltb, eqb}
 use Rattle.rules.specs.declared.Core.{Core}
@@ -28,6 +28,8 @@ use Rattle.rules.specs.Arguments.{isFlags, isAttribute, featurePlace}
 use Rattle.rules.specs.Plan.{unlessGuarded, unlessWide, clearPlan, settingPlan, sendPlan, excludedPlan}
 use Rattle.rules.specs.Send.{commandOf}
 use Rattle.rules.specs.Writable.{writable}
+use Rattle.rules.specs.Parts.{Part}
+use Rattle.rules.specs.Frames.{commandParts}
 
 -- ---- arguments
 
@@ -96,27 +98,40 @@ excludedAsked x = commandOf (excludedPlan atPowerOn x .reply)
 -- ---- the kinds
 
 -- its arguments are good; the byte that asks for its reply, or 0; it is one of the six; the change of the set-up that it asks for, from a core
-pub record Kind : Type 0 where
+pub record Nature : Type 0 where
   pub ok : Bool
   pub asks : ℕ
   pub excluded : Bool
   pub change : Core → SetupChange
 
--- most ask for no reply and no change
-abbrev pub quiet : Bool → Kind
+-- most ask for no reply and no change of the set-up
+abbrev pub quiet : Bool → Nature
 quiet b = record { ok = b; asks = 0; excluded = false; change = λ c. SetupChange.Nothing }
 
+abbrev pub natureOf : Command → Nature
+natureOf Command.Nothing = quiet true
+natureOf (Command.Go m) = quiet true
+natureOf (Command.Window x) = quiet true
+natureOf (Command.Store k) = quiet (storeOk k)
+natureOf (Command.Attribute a) = quiet (isAttribute a)
+natureOf (Command.Edit x) = quiet true
+natureOf (Command.Clear x) = quiet (clearOk x)
+natureOf (Command.Turn m b) = quiet true
+natureOf Command.ProtectOn = quiet true
+natureOf Command.Bell = quiet true
+natureOf (Command.Set x) = record { ok = settingOk x; asks = 0; excluded = false; change = λ c. settingPlan c x .change }
+natureOf (Command.Send x) = record { ok = true; asks = sendAsked x; excluded = false; change = λ c. SetupChange.Nothing }
+natureOf (Command.Excluded x) = record { ok = true; asks = excludedAsked x; excluded = true; change = λ c. SetupChange.Nothing }
+
+-- and its row in Frames
+pub record Kind : Type 0 where
+  pub ok : Bool
+  pub asks : ℕ
+  pub excluded : Bool
+  pub change : Core → SetupChange
+  pub touches : List Part
+
 abbrev pub kindOf : Command → Kind
-kindOf Command.Nothing = quiet true
-kindOf (Command.Go m) = quiet true
-kindOf (Command.Window x) = quiet true
-kindOf (Command.Store k) = quiet (storeOk k)
-kindOf (Command.Attribute a) = quiet (isAttribute a)
-kindOf (Command.Edit x) = quiet true
-kindOf (Command.Clear x) = quiet (clearOk x)
-kindOf (Command.Turn m b) = quiet true
-kindOf Command.ProtectOn = quiet true
-kindOf Command.Bell = quiet true
-kindOf (Command.Set x) = record { ok = settingOk x; asks = 0; excluded = false; change = λ c. settingPlan c x .change }
-kindOf (Command.Send x) = record { ok = true; asks = sendAsked x; excluded = false; change = λ c. SetupChange.Nothing }
-kindOf (Command.Excluded x) = record { ok = true; asks = excludedAsked x; excluded = true; change = λ c. SetupChange.Nothing }
+kindOf d =
+    let n = natureOf d in
+    record { ok = n .ok; asks = n .asks; excluded = n .excluded; change = n .change; touches = commandParts d }

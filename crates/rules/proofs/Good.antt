@@ -66,7 +66,7 @@ kept s (a-reply y e n r i) = record {
   change = λ t. refl;
   answer = refl;
 }
-kept s (a-change y e i) = record {
+kept s (a-change y e f i) = record {
   good = record { one = tt; two = tt; reply = tt; screen = s .ok; place = tt };
   wide = refl;
   pending = refl;
@@ -76,7 +76,7 @@ kept s (a-change y e i) = record {
   change = λ t. i t s;
   answer = refl;
 }
-kept s (a-write h a b i) = record {
+kept s (a-write h a b o e i) = record {
   good = record { one = a .inside s; two = b .inside s; reply = tt; screen = h .screen s; place = i s };
   wide = h .wide;
   pending = h .pending;

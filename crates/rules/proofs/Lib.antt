@@ -9,6 +9,7 @@ pub mod Marks
 pub mod Lengths
 pub mod Sends
 pub mod Related
+pub mod Framing
 pub mod Commands
 pub mod Forms
 pub mod Unrevealing
@@ -37,6 +38,9 @@ pub mod RowSteps
 pub mod RowNoninterference
 pub mod KeyStore
 pub mod ShiftedLine
+pub mod Areas
+pub mod Frames
+pub mod FrameCases
 pub mod Numbers
 pub mod PageNumbers
 pub mod CellReach

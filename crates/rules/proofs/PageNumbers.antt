@@ -102,8 +102,8 @@ of-form : {k : Kind} {g : List Bool} {c : Core} {x : Plan} → k .ok ≡ true �
 unfolding writeOk
 of-form t h (a-refusal a e) = record { first = refl; second = refl }
 of-form t h (a-reply y e n r i) = record { first = refl; second = refl }
-of-form t h (a-change y e i) = record { first = refl; second = refl }
-of-form t h (a-write m a b i) = record { first = a .numbers t h; second = b .numbers t h }
+of-form t h (a-change y e f i) = record { first = refl; second = refl }
+of-form t h (a-write m a b o e i) = record { first = a .numbers t h; second = b .numbers t h }
 
 -- every plan, of a command that a byte comes to
 pub plan-numbers : (g tabs : List Bool) (c : Core) → Remembers c → (d : Command) → kindOf d .ok ≡ true → PlanNumbers (c .personality) (planRule g tabs c d)

@@ -28,8 +28,8 @@ pub data Planned (n : ℕ) (c : Core) : Plan → Type 0 where
 of-form : {k : Kind} {g : List Bool} {c : Core} {x : Plan} → Form k g c x → Planned (k .asks) c x
 of-form (a-refusal a e) = refuses a e
 of-form (a-reply y e n r i) = replies y e n
-of-form (a-change y e i) = obeys refl refl
-of-form (a-write h a b i) = obeys refl refl
+of-form (a-change y e f i) = obeys refl refl
+of-form (a-write h a b o e i) = obeys refl refl
 
 pub planned : (c : Core) (g tabs : List Bool) (d : Command) → Planned (kindOf d .asks) c (planRule g tabs c d)
 planned c g tabs d = of-form (formed g c tabs d)

@@ -60,8 +60,8 @@ Still x = x .change ≡ SetupChange.Nothing
 still : {k : Kind} {g : List Bool} {c : Core} {x : Plan} → k .change c ≡ SetupChange.Nothing → Form k g c x → Still x
 still h (a-refusal a e) = refl
 still h (a-reply y e n r i) = refl
-still h (a-change y e i) = e ∙ h
-still h (a-write m a b i) = refl
+still h (a-change y e f i) = e ∙ h
+still h (a-write m a b o e i) = refl
 
 -- ---- the line after what a byte comes to
 

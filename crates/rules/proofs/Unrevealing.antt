@@ -36,8 +36,8 @@ of-form : {k : Kind} {g : List Bool} {c : Core} {x : Plan} → both (k .excluded
     → Form k g c x → Unrevealing x
 of-form u on (a-refusal a e) = record { on = on; first = refl; second = refl; reply = refl }
 of-form u on (a-reply y e n r i) = record { on = on; first = refl; second = refl; reply = r (none-of-six _ u) }
-of-form u on (a-change y e i) = record { on = on; first = refl; second = refl; reply = refl }
-of-form u on (a-write h a b i) =
+of-form u on (a-change y e f i) = record { on = on; first = refl; second = refl; reply = refl }
+of-form u on (a-write h a b o e i) =
     let o = none-of-six _ u in
     record { on = h .on o on; first = a .sparing o on; second = b .sparing o on; reply = refl }
 

@@ -8,6 +8,9 @@ use lib.ListN.{getD, take, replicate}
 use Rattle.rules.specs.declared.State.{State}
 use Rattle.rules.specs.declared.Screen.{Screen}
 use Rattle.rules.specs.declared.Modes.{Modes}
+use Rattle.rules.specs.declared.Setup.{Setup}
+use Rattle.rules.specs.declared.Slot.{Slot}
+use Rattle.rules.specs.declared.Slot.the-variants as Slot
 use Rattle.rules.specs.declared.Personality.the-variants as Personality
 use Rattle.rules.specs.declared.Short.{Short}
 use Rattle.rules.specs.declared.Short.the-variants as Short
@@ -16,7 +19,7 @@ use Rattle.rules.specs.declared.Place.the-variants as Place
 use Rattle.rules.specs.declared.Sending.{Sending}
 use Rattle.rules.specs.declared.Sending.the-variants as Sending
 use Rattle.rules.specs.Cell.{pick, both, same}
-use Rattle.rules.specs.State.{widthOf, cursorOf, shortBytes, labelPlace}
+use Rattle.rules.specs.State.{widthOf, cursorOf, shortBytes, keyPlace, labelPlace}
 use Rattle.rules.specs.Possible.{powerOn, blank}
 use Rattle.rules.specs.Calls.{Call, Step, Run, Press, Given, Played, play}
 
@@ -51,6 +54,8 @@ pub data Claim : Type 0 where
   Message : List ℕ → Claim
   Label : ℕ → List ℕ → Claim
   Shifted : Bool → Claim
+  -- the bytes that a text's array holds, those behind the text too
+  Held : Slot → List ℕ → Claim
   -- the send under way
   Stands : Sending → Claim
   -- the columns of the page; whether a wide one is wished for
@@ -106,6 +111,11 @@ sendNumbers Sending.Nothing = []
 sendNumbers (Sending.Short r n) = shortNumber r ∷ n ∷ []
 sendNumbers (Sending.Text all segment k) = bit all ∷ bit segment ∷ 9 ∷ placeNumbers k
 
+unfoldable pub heldBytes : Setup → Slot → List ℕ
+heldBytes u (Slot.Key v) = getD (u .keys) (keyPlace v) record { len = 0; bytes = [] } .bytes
+heldBytes u (Slot.Label v) = getD (u .labels) (labelPlace v) record { len = 0; bytes = [] } .bytes
+heldBytes u Slot.Message = u .message .bytes
+
 unfoldable pub holds : Played → Claim → Bool
 holds r (Cell i v) = eqb (getD (r .page) i 0) v
 holds r (Cursor c) = eqb (cursorOf (r .state .core .screen)) c
@@ -123,6 +133,7 @@ holds r (Remembered a) = eqb (r .state .core .attribute) a
 holds r (Message l) = same (take (r .state .setup .message .len) (r .state .setup .message .bytes)) l
 holds r (Label v l) = same (shortBytes (getD (r .state .setup .labels) (labelPlace v) record { len = 0; bytes = [] })) l
 holds r (Shifted b) = pick b (r .state .setup .shifted) (not (r .state .setup .shifted))
+holds r (Held x l) = same (heldBytes (r .state .setup) x) l
 holds r (Stands x) = same (sendNumbers (r .state .sending)) (sendNumbers x)
 holds r (Columns n) = eqb (widthOf (r .state .core .screen)) n
 holds r (Wishes b) = pick b (r .state .setup .wish) (not (r .state .setup .wish))
@@ -144,6 +155,18 @@ casesHold (from-page p s calls claims ∷ cs) = both (allHold (play calls p s) c
 -- host bytes, each with a room of 1,944
 unfoldable pub host : List ℕ → List Call
 host bytes = map (λ b. Step b 1944) bytes
+
+-- every kind of claim is read: each of these is wrong after A and 05h
+unfoldable pub noneHold : Played → List Claim → Bool
+noneHold r [] = true
+noneHold r (c ∷ cs) = both (not (holds r c)) (noneHold r cs)
+
+unfoldable pub wrongClaims : List Claim
+wrongClaims =
+    Cell 0 0x42 ∷ Cursor 0 ∷ Replies [] ∷ Answers (0 ∷ 1 ∷ []) ∷ Counts [] ∷ Rests (0x41 ∷ []) ∷ Segments 0 0 0 0 ∷ InModes (0 ∷ 0 ∷ 0 ∷ 0 ∷ 0 ∷ 0 ∷ [])
+    ∷ TabStops (0 ∷ []) ∷ FieldAttributes (0x30 ∷ 0x30 ∷ 0x30 ∷ 0x31 ∷ []) ∷ Features (0x31 ∷ 0x35 ∷ 0x37 ∷ 0x39 ∷ []) ∷ Bells 1 ∷ Remembered 1
+    ∷ Message (0x41 ∷ []) ∷ Label 0x30 (0x41 ∷ []) ∷ Shifted true ∷ Held (Slot.Key 0x40) (replicate 8 0x20) ∷ Stands (Sending.Short Short.Cell 0)
+    ∷ Columns 132 ∷ Wishes true ∷ []
 
 -- ESC ) and two letters, ESC ( and ESC &
 unfoldable pub label : ℕ → ℕ → List ℕ

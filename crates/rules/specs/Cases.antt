@@ -5,10 +5,10 @@ use mathlib.Core.List.{[], _∷_, _++_}
 use lib.ListN.{replicate}
 use Rattle.rules.specs.declared.Personality.the-variants as Personality
 use Rattle.rules.specs.Room.{over}
-use Rattle.rules.specs.Calls.{powerOnRule}
+use Rattle.rules.specs.Calls.{powerOnRule, play}
 use Rattle.rules.specs.RowList.{rowList}
 use Rattle.rules.specs.Completed.{SixCompleted}
-use Rattle.rules.specs.Bench.{wy50, wy60, casesHold}
+use Rattle.rules.specs.Bench.{wy50, wy60, Cursor, from-power-on, from-page, casesHold, host, noneHold, wrongClaims}
 use Rattle.rules.specs.MovingCases.{movingCases}
 use Rattle.rules.specs.WritingCases.{writingCases}
 use Rattle.rules.specs.ReplyCases.{replyCases}
@@ -23,6 +23,10 @@ use Rattle.rules.specs.ByteCases.{bytesHold, firstBytes, argumentBytes, 
 use Rattle.rules.specs.PossibleCases.{possibleStates, impossibleStates, allPossible, nonePossible}
 
 pub record CaseList : Type 0 where
+  -- every claim is read, and so are those behind the first claim and the first case
+  pub read : noneHold (play (host (0x41 ∷ 0x05 ∷ [])) (replicate 1920 0) wy50) wrongClaims ≡ true
+  pub second-claim : casesHold (from-power-on [] (Cursor 0 ∷ Cursor 1 ∷ []) ∷ []) ≡ false
+  pub second-case : casesHold (from-power-on [] [] ∷ from-page (replicate 1920 0) wy50 [] (Cursor 1 ∷ []) ∷ []) ≡ false
   pub moving : casesHold movingCases ≡ true
   pub writing : casesHold writingCases ≡ true
   pub replying : casesHold replyCases ≡ true

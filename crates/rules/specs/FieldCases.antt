@@ -5,7 +5,7 @@ use mathlib.Core.List.{List, [], _∷_, _++_}
 use Prim.Native.Nat.{ℕ}
 use lib.ListN.{replicate}
 use Rattle.rules.specs.declared.Field.{Field}
-use Rattle.rules.specs.Fields.{noField, nextFieldRule, told, fieldTextRule, rowTextRule, position, positionRule, cellRule}
+use Rattle.rules.specs.Fields.{nextFieldRule, told, fieldTextRule, rowTextRule, position, positionRule, cellRule}
 use Rattle.rules.specs.Inputs.{pageOf}
 
 abbrev field : ℕ → ℕ → ℕ → ℕ → Field
@@ -28,15 +28,15 @@ pub record FieldCases : Type 0 where
   pub cut : nextFieldRule filledForm 161 ≡ field 165 75 2 5
   pub row : nextFieldRule filledForm 166 ≡ field 240 80 3 0
   pub last : nextFieldRule filledForm 1840 ≡ field 1840 80 23 0
-  pub none : nextFieldRule filledForm 1841 ≡ noField
-  pub past : nextFieldRule filledForm 1920 ≡ noField
-  pub labels : nextFieldRule (replicate 1920 160) 0 ≡ noField
+  pub none : nextFieldRule filledForm 1841 ≡ field 0 0 0 0
+  pub past : nextFieldRule filledForm 1920 ≡ field 0 0 0 0
+  pub labels : nextFieldRule (replicate 1920 160) 0 ≡ field 0 0 0 0
   -- a page of 132 columns, and lengths that are no page's
   pub wide : nextFieldRule wideForm 0 ≡ field 1 131 0 1
   pub wide-row : nextFieldRule wideForm 2 ≡ field 132 132 1 0
   pub wide-last : nextFieldRule wideForm 3036 ≡ field 3036 131 23 0
-  pub short : nextFieldRule (replicate 1919 0) 0 ≡ noField
-  pub long : nextFieldRule (replicate 3169 0) 0 ≡ noField
+  pub short : nextFieldRule (replicate 1919 0) 0 ≡ field 0 0 0 0
+  pub long : nextFieldRule (replicate 3169 0) 0 ≡ field 0 0 0 0
   -- a field's text, whole or not at all; only trailing spaces are dropped
   pub text : fieldTextRule filledForm 1 false 2 ≡ told 0 (65 ∷ 66 ∷ [])
   pub no-room : fieldTextRule filledForm 1 false 1 ≡ told 6 []

@@ -3,9 +3,10 @@ use mathlib.Core.Bool.{true, false}
 use mathlib.Core.List.{List, [], _∷_, _++_}
 use Prim.Native.Nat.{ℕ}
 use lib.ListN.{replicate}
+use Rattle.rules.specs.declared.Slot.the-variants as Slot
 use Rattle.rules.specs.Calls.{Run, Press}
 use Rattle.rules.specs.Inputs.{esc}
-use Rattle.rules.specs.Bench.{Claim, Cell, Cursor, Replies, Answers, Counts, Message, Label, Shifted, Case, from-power-on, host}
+use Rattle.rules.specs.Bench.{Claim, Cell, Cursor, Replies, Answers, Counts, Message, Label, Shifted, Held, Case, from-power-on, host}
 
 -- ESC F text CR, ESC z value text CR
 unfoldable pub message : List ℕ → List ℕ
@@ -19,6 +20,15 @@ labelCases =
     -- set, and cleared; the page and the cursor stay
     from-power-on (host (message (0x68 ∷ 0x69 ∷ []))) (Message (0x68 ∷ 0x69 ∷ []) ∷ Cell 0 0 ∷ Cursor 0 ∷ Shifted false ∷ Answers (replicate 5 0) ∷ [])
     ∷ from-power-on (host (message (0x68 ∷ []) ++ message [])) (Message [] ∷ Answers (replicate 7 0) ∷ [])
+    -- a key and a label leave the message, a message a label
+    ∷ from-power-on (host (message (0x68 ∷ []) ++ 0x1b ∷ 0x7a ∷ 0x40 ∷ 0x61 ∷ 0x7f ∷ [])) (Message (0x68 ∷ []) ∷ [])
+    ∷ from-power-on (host (labelling 0x30 (0x61 ∷ []) ++ message (0x68 ∷ []) ++ labelling 0x31 (0x62 ∷ [])))
+    (Message (0x68 ∷ []) ∷ Label 0x30 (0x61 ∷ []) ∷ [])
+    -- zeros lie behind a short text: a message, a label, a key
+    ∷ from-power-on (host (message (0x68 ∷ 0x69 ∷ []))) (Held Slot.Message (0x68 ∷ 0x69 ∷ replicate 44 0) ∷ [])
+    ∷ from-power-on (host (labelling 0x30 (replicate 8 0x61) ++ labelling 0x30 (0x68 ∷ 0x69 ∷ [])))
+    (Held (Slot.Label 0x30) (0x68 ∷ 0x69 ∷ 0 ∷ 0 ∷ 0 ∷ 0 ∷ 0 ∷ 0 ∷ []) ∷ [])
+    ∷ from-power-on (host (0x1b ∷ 0x7a ∷ 0x40 ∷ 0x68 ∷ 0x69 ∷ 0x7f ∷ [])) (Held (Slot.Key 0x40) (0x68 ∷ 0x69 ∷ 0 ∷ 0 ∷ 0 ∷ 0 ∷ 0 ∷ 0 ∷ []) ∷ [])
     -- 46 fit, 47 do not, and leave the message as it was
     ∷ from-power-on (host (message (replicate 46 0x61))) (Message (replicate 46 0x61) ∷ Answers (replicate 49 0) ∷ [])
     ∷ from-power-on (host (message (0x68 ∷ []) ++ message (replicate 47 0x61))) (Message (0x68 ∷ []) ∷ Answers (replicate 53 0 ++ 3 ∷ []) ∷ [])

@@ -32,6 +32,7 @@ pub mod SendReach
 pub mod KeyStore
 pub mod Bench
 pub mod Inputs
+pub mod Trials
 pub mod MovingCases
 pub mod WritingCases
 pub mod ReplyCases
@@ -50,6 +51,10 @@ pub mod Wide
 pub mod Convert
 pub mod ConvertCases
 pub mod ShiftedLine
+pub mod Areas
+pub mod Parts
+pub mod Frames
+pub mod FrameCases
 pub mod Writable
 pub mod CellReach
 pub mod WritableCases

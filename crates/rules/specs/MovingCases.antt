@@ -1,8 +1,10 @@
 -- Worked cases of document 01, "Where the cursor may go".
+use mathlib.Core.Bool.{false}
 use mathlib.Core.List.{List, [], _∷_, _++_}
 use lib.ListN.{replicate}
 use Rattle.rules.specs.Bench.{wy50, Cell, Cursor, Segments, Case}
-use Rattle.rules.specs.Inputs.{esc, goTo, labelled, halves, lower, threeLetters, lettersBelow, cursorAt, protectAt, upperAt, lowerAt, obeys, refuses, obeysFrom, refusesFrom}
+use Rattle.rules.specs.Trials.{Trial, trial, one}
+use Rattle.rules.specs.Inputs.{esc, goTo, labelled, halves, lower, threeLetters, lettersBelow, cursorAt, protectAt, placedOn, upperAt, lowerAt, obeys, refuses, obeysFrom, refusesFrom}
 
 unfoldable pub movingCases : List Case
 movingCases =
@@ -147,4 +149,28 @@ movingCases =
     ∷ obeysFrom [] (upperAt 163) (esc 0x7d ++ esc 0x5d) (Segments 0 13 163 960 ∷ [])
     ∷ obeysFrom (206 ∷ []) (protectAt 0) (esc 0x5d) (Cursor 1 ∷ [])
     ∷ refuses 3 (esc 0x7d) (Segments 0 0 0 0 ∷ [])
+    ∷ []
+
+-- what each of these commands changes (Frames)
+unfoldable pub movingTrials : List (List Trial)
+movingTrials =
+    one [] (cursorAt 5) [] 0x08
+    ∷ one [] (cursorAt 5) [] 0x0c
+    ∷ one [] (cursorAt 165) [] 0x0d
+    ∷ one [] (cursorAt 165) [] 0x1e
+    ∷ one [] (cursorAt 165) [] 0x0b
+    ∷ (trial [] (cursorAt 165) (0x1b ∷ []) 0x6a ∷ trial (replicate 1839 0 ++ 0x41 ∷ []) (cursorAt 5) (0x1b ∷ []) 0x6a ∷ [])
+    ∷ (trial [] (cursorAt 165) [] 0x0a ∷ trial (0x41 ∷ []) (cursorAt 1845) [] 0x0a ∷ [])
+    ∷ (trial [] (cursorAt 165) [] 0x1f ∷ trial (0x41 ∷ []) (cursorAt 1845) [] 0x1f ∷ [])
+    ∷ one [] (cursorAt 8) (esc 0x31 ++ goTo 1 3) 0x09
+    ∷ one [] (cursorAt 8) (0x1b ∷ []) 0x49
+    ∷ one [] wy50 (0x1b ∷ 0x3d ∷ 0x25 ∷ []) 0x25
+    ∷ one [] wy50 (0x1b ∷ 0x61 ∷ 0x33 ∷ 0x52 ∷ 0x35 ∷ []) 0x43
+    -- segments
+    ∷ one [] (placedOn false 1 13 5 965) (esc 0x78) 0x30
+    ∷ one [] (placedOn false 1 13 5 965) (esc 0x78 ++ 0x31 ∷ []) 0x2a
+    ∷ one (replicate 960 0 ++ 206 ∷ []) (upperAt 0) (esc 0x26 ++ 0x1b ∷ []) 0x4a
+    ∷ one (206 ∷ []) (lowerAt 960) (esc 0x26 ++ 0x1b ∷ []) 0x5d
+    ∷ one (replicate 960 0 ++ 206 ∷ []) (upperAt 0) (esc 0x26 ++ 0x1b ∷ []) 0x7d
+    ∷ one [] (upperAt 0) (0x1b ∷ 0x2d ∷ 0x31 ∷ 0x21 ∷ []) 0x22
     ∷ []

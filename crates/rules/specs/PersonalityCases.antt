@@ -50,6 +50,10 @@ personalityCases =
     ∷ obeys60 (attr 0x38 ++ 0x41 ∷ [] ++ attr 0x34 ++ 0x42 ∷ [] ++ attr 0x32 ++ 0x43 ∷ [] ++ attr 0x31 ++ 0x44 ∷ [] ++ attr 0x70 ++ 0x45 ∷ [])
     (Cell 0 (0x41 + 8192) ∷ Cell 1 (0x42 + 4096) ∷ Cell 2 (0x43 + 2048) ∷ Cell 3 (0x44 + 1024) ∷ Cell 4 (0x45 + 16384) ∷ Cursor 5 ∷ [])
     ∷ obeys60 (attr 0x7e ++ 0x41 ∷ []) (Cell 0 (0x41 + 16384 + 8192 + 4096 + 2048) ∷ [])
+    -- the clear-alls leave it
+    ∷ obeys60 (attr 0x34 ++ esc 0x2a) (Remembered 4 ∷ [])
+    ∷ obeys60 (attr 0x34 ++ esc 0x2b) (Remembered 4 ∷ [])
+    ∷ obeys60 (attr 0x34 ++ esc 0x2c) (Remembered 4 ∷ [])
     -- codes that are none answer 3, and the attribute stays
     ∷ refuses60 3 (attr 0x34 ++ attr 0x7f) (Cell 0 0 ∷ Cursor 0 ∷ Remembered 4 ∷ [])
     ∷ refuses60 3 (attr 0x34 ++ attr 0x40) (Cell 0 0 ∷ Cursor 0 ∷ Remembered 4 ∷ [])

@@ -3,6 +3,7 @@ use mathlib.Core.List.{List, [], _∷_, _++_}
 use lib.ListN.{replicate}
 use Rattle.rules.specs.Calls.{Step, Press}
 use Rattle.rules.specs.Bench.{wy50, Cell, Cursor, Replies, Answers, Segments, InModes, TabStops, FieldAttributes, Features, Bells, Case, from-power-on, from-page}
+use Rattle.rules.specs.Trials.{Trial, one}
 use Rattle.rules.specs.Inputs.{esc, goTo, labelled, lettersBelow, pageOf, cursorAt, protectAt, lowerAt, belled, obeys, obeysFrom, refusesFrom}
 
 unfoldable pub replyCases : List Case
@@ -13,6 +14,19 @@ replyCases =
     ∷ FieldAttributes (0x30 ∷ 0x30 ∷ 0x30 ∷ 0x30 ∷ []) ∷ Features (0x31 ∷ 0x35 ∷ 0x37 ∷ 0x39 ∷ 0x40 ∷ []) ∷ Bells 0 ∷ Answers [] ∷ Replies [] ∷ [])
     ∷ from-power-on (Press 0x4f 3 ∷ Press 0x60 3 ∷ []) (Answers (0 ∷ 0 ∷ []) ∷ Replies (0x01 ∷ 0x4f ∷ 0x0d ∷ 0x01 ∷ 0x60 ∷ 0x0d ∷ []) ∷ [])
     ∷ from-power-on (Step 0x3f 1944 ∷ []) (Cell 0 0x3f ∷ [])
+    -- what a command does not name stays: ESC , leaves write-protect, CR insert mode
+    ∷ obeys (esc 0x29 ++ esc 0x2c) (InModes (0 ∷ 1 ∷ 0 ∷ 1 ∷ 0 ∷ 0 ∷ []) ∷ [])
+    ∷ obeys (esc 0x71 ++ 0x0d ∷ []) (InModes (0 ∷ 0 ∷ 1 ∷ 1 ∷ 0 ∷ 0 ∷ []) ∷ [])
+    -- and modes and settings settle no cursor, on a guarded cell either; protect-off does not
+    ∷ obeysFrom (206 ∷ []) (protectAt 0) (esc 0x29) (Cursor 0 ∷ [])
+    ∷ obeysFrom (206 ∷ []) (protectAt 0) (esc 0x72) (Cursor 0 ∷ [])
+    ∷ obeysFrom (206 ∷ []) (protectAt 0) (esc 0x4f) (Cursor 0 ∷ [])
+    ∷ obeysFrom (206 ∷ []) (protectAt 0) (0x0f ∷ []) (Cursor 0 ∷ [])
+    ∷ obeysFrom (206 ∷ []) (protectAt 0) (esc 0x6b) (Cursor 0 ∷ [])
+    ∷ obeysFrom (206 ∷ []) (protectAt 0) (esc 0x31) (Cursor 0 ∷ TabStops (0 ∷ []) ∷ [])
+    ∷ obeysFrom (206 ∷ []) (protectAt 0) (esc 0x32) (Cursor 0 ∷ [])
+    ∷ obeysFrom (206 ∷ []) (protectAt 0) (esc 0x41 ++ 0x30 ∷ 0x38 ∷ []) (Cursor 0 ∷ [])
+    ∷ obeysFrom (206 ∷ []) (protectAt 0) (esc 0x60 ++ 0x30 ∷ []) (Cursor 0 ∷ [])
     -- the modes, on and off: protect, write-protect, insert, autoscroll, lock, local edit
     ∷ obeys (esc 0x26) (InModes (1 ∷ 0 ∷ 0 ∷ 1 ∷ 0 ∷ 0 ∷ []) ∷ [])
     ∷ obeysFrom [] (protectAt 0) (esc 0x27) (InModes (0 ∷ 0 ∷ 0 ∷ 1 ∷ 0 ∷ 0 ∷ []) ∷ [])
@@ -86,4 +100,28 @@ replyCases =
     ∷ obeysFrom (206 ∷ []) (cursorAt 1) (0x42 ∷ [] ++ esc 0x35) (Replies (0x1c ∷ 0x42 ∷ 0x20 ∷ 0x0d ∷ []) ∷ [])
     ∷ obeysFrom lettersBelow (lowerAt 1041) (esc 0x37) (Replies (0x41 ∷ replicate 79 32 ++ 0x1f ∷ 0x42 ∷ 0x20 ∷ 0x0d ∷ []) ∷ [])
     ∷ obeysFrom lettersBelow (lowerAt 1041) (esc 0x35) (Replies (0x41 ∷ replicate 79 32 ++ 0x1f ∷ 0x42 ∷ 0x20 ∷ 0x0d ∷ []) ∷ [])
+    ∷ []
+
+-- what the modes, the settings and the texts change (Frames)
+unfoldable pub modeTrials : List (List Trial)
+modeTrials =
+    one [] wy50 (0x1b ∷ []) 0x29
+    ∷ one [] wy50 (0x1b ∷ []) 0x71
+    ∷ one [] wy50 (0x1b ∷ []) 0x4e
+    ∷ one [] wy50 [] 0x0f
+    ∷ one [] wy50 (0x1b ∷ []) 0x6b
+    ∷ one (206 ∷ []) wy50 (0x1b ∷ []) 0x26
+    ∷ one [] (protectAt 5) (0x1b ∷ []) 0x27
+    ∷ one [] wy50 [] 0x07
+    -- settings
+    ∷ one [] (cursorAt 5) (0x1b ∷ []) 0x31
+    ∷ one [] (cursorAt 5) (esc 0x31 ++ 0x1b ∷ []) 0x30
+    ∷ one [] wy50 (0x1b ∷ 0x41 ∷ 0x31 ∷ []) 0x38
+    ∷ one [] wy50 (esc 0x60) 0x30
+    ∷ one [] wy50 (0x1b ∷ 0x7a ∷ 0x50 ∷ 0x41 ∷ 0x0d ∷ 0x1b ∷ 0x7a ∷ []) 0x7f
+    ∷ one [] wy50 (esc 0x60) 0x3b
+    -- texts
+    ∷ one [] wy50 (0x1b ∷ 0x7a ∷ 0x40 ∷ 0x41 ∷ []) 0x7f
+    ∷ one [] wy50 (0x1b ∷ 0x7a ∷ 0x50 ∷ 0x41 ∷ []) 0x0d
+    ∷ one [] wy50 (0x1b ∷ 0x46 ∷ 0x41 ∷ []) 0x0d
     ∷ []

@@ -2,7 +2,8 @@
 use mathlib.Core.List.{List, [], _∷_, _++_}
 use Prim.Native.Nat.{ℕ}
 use lib.ListN.{replicate}
-use Rattle.rules.specs.Bench.{Cell, Cursor, InModes, Case}
+use Rattle.rules.specs.Bench.{wy50, wy60, Cell, Cursor, InModes, Case}
+use Rattle.rules.specs.Trials.{Trial, trial, one}
 use Rattle.rules.specs.Inputs.{esc, goTo, labelled, threeLetters, lettersBelow, cursorAt, protectAt, upperAt, lowerAt, obeys, refuses, obeysFrom, refusesFrom}
 
 -- the bytes of these commands after ESC: ! * + , . : ; E G H Q R T V W Y q r t y
@@ -118,4 +119,23 @@ writingCases =
     ∷ obeysFrom (replicate 85 0 ++ 206 ∷ []) (cursorAt 165) (esc 0x56) (Cell 85 160 ∷ [])
     ∷ obeysFrom [] (upperAt 165) (esc 0x56) (Cell 5 160 ∷ Cell 885 160 ∷ Cell 965 0 ∷ [])
     ∷ obeysFrom [] (lowerAt 1125) (esc 0x56) (Cell 885 0 ∷ Cell 965 160 ∷ Cell 1845 160 ∷ Cursor 1125 ∷ [])
+    ∷ []
+
+-- what each of these commands changes (Frames): a store takes its cell, in insert mode it shifts its row, past the last cell it scrolls
+unfoldable pub writingTrials : List (List Trial)
+writingTrials =
+    (trial [] wy50 [] 0x41 ∷ trial (replicate 78 0 ++ 0x41 ∷ []) wy50 (esc 0x71) 0x41 ∷ trial (0x42 ∷ []) (cursorAt 1919) [] 0x41 ∷ [])
+    ∷ one [] wy50 (esc 0x48) 0x30
+    ∷ (trial [] wy50 (esc 0x47) 0x34 ∷ trial [] wy60 (esc 0x47) 0x34 ∷ [])
+    ∷ one (replicate 78 0 ++ 0x41 ∷ []) (cursorAt 5) (0x1b ∷ []) 0x51
+    ∷ one (replicate 5 0 ++ 0x41 ∷ []) (cursorAt 5) (0x1b ∷ []) 0x57
+    ∷ one (replicate 1839 0 ++ 0x41 ∷ []) (cursorAt 5) (0x1b ∷ []) 0x45
+    ∷ one (0x41 ∷ []) (cursorAt 5) (0x1b ∷ []) 0x52
+    ∷ one [] (cursorAt 5) (0x1b ∷ []) 0x54
+    ∷ one [] (cursorAt 5) (0x1b ∷ []) 0x59
+    ∷ one [] (cursorAt 5) [] 0x1a
+    ∷ one [] (protectAt 5) (0x1b ∷ []) 0x56
+    ∷ one (0x41 ∷ replicate 1918 0 ++ 0x41 ∷ []) (cursorAt 5) (0x1b ∷ []) 0x2a
+    ∷ one [] (cursorAt 5) (0x1b ∷ []) 0x2b
+    ∷ one [] (protectAt 5) (0x1b ∷ []) 0x2c
     ∷ []
