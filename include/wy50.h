@@ -274,9 +274,12 @@ enum {
  * A program may read it and may fill it in. Numbers that are no possible state do no harm: a call that is handed them answers 7, replies
  * nothing and gives them back as they came. A width, a wish, a mode, a tab stop or a shifted line that is neither 0 nor 1, a personality that is
  * neither 50 nor 60, a sequence of no kind above, a send of no command or kind above, and a number other than 0 that its kind does not have are such
- * numbers too. So is a send while a sequence is under way, a tab stop beyond the width, and a send of ESC ? or ESC / on a wide page. The bytes of a
- * key, a label or the message beyond its len are not looked at, and no more are the bytes gathered beyond those that the sequence counts: they mean
- * nothing, and a call that is not refused with 7 gives zeros there.
+ * numbers too. So is a send while a sequence is under way, a tab stop beyond the width, and a send of ESC ? or ESC / on a wide page.
+ *
+ * The bytes of a key, a label or the message beyond its len are not looked at, and no more are the bytes gathered beyond those that the sequence
+ * counts: they mean nothing, and come back as they came. So a call that changes nothing, with the answers 1, 6, 7 and 8 too, gives every number as it
+ * came. What a call writes has zeros behind it: a text that it stores, and bytes gathered that it counts no longer are 0. From power-on on there are
+ * zeros everywhere, and two states that mean the same are the same bytes.
  */
 typedef struct wy50_state {
     wy50_screen screen;
@@ -597,7 +600,7 @@ wy50_text_result wy50_row_text(const uint16_t *page, size_t page_len, size_t row
 wy50_position wy50_position_of(size_t page_len, size_t cell);
 size_t wy50_cell_at(size_t page_len, size_t row, size_t column);
 
-/* The row and column of the active segment's cursor, in a page of the state's width; 3 for a cursor outside it, which no possible state has. */
+/* The row and column of the active segment's cursor, in a page of the state's width; 7 for numbers that are no possible state. */
 wy50_position wy50_cursor(wy50_state state);
 
 #ifdef __cplusplus

@@ -778,18 +778,98 @@ static void impossible(void)
     refused(&state, WY50_CELLS);
     part("states that are not possible: 7, and given back as they came");
 
+}
+
+/* A power-on state with rubbish behind every text: keys, labels and message of two bytes each, and the bytes gathered. */
+static void litter(void)
+{
+    size_t i;
     power_on();
-    memset(state.keys[3].bytes, 0xff, sizeof state.keys[3].bytes);
-    memset(state.labels[5].bytes, 0xff, sizeof state.labels[5].bytes);
-    memset(state.message.bytes, 0xff, sizeof state.message.bytes);
-    memset(state.gathered, 0xff, sizeof state.gathered);
-    CHECK(FEED("A") == 0 && state.keys[3].bytes[0] == 0xff && state.labels[5].bytes[7] == 0xff && state.message.bytes[0] == 0xff);
-    CHECK(state.gathered[0] == 0 && state.gathered[45] == 0);
-    state.sequence.kind = WY50_MESSAGE_TEXT;
-    state.sequence.second = 1;
-    memset(state.gathered, 0x62, sizeof state.gathered);
-    CHECK(FEED("c") == 0 && memcmp(state.gathered, "bc", 3) == 0 && FEED("\r") == 0 && state.message.len == 2);
-    part("bytes beyond a text are not looked at, and those gathered come back as zeros");
+    memset(state.gathered, 0xfe, sizeof state.gathered);
+    memset(&state.message, 0xfd, sizeof state.message);
+    state.message.len = 2;
+    memcpy(state.message.bytes, "hi", 2);
+    for (i = 0; i < WY50_KEYS; i++) {
+        memset(&state.keys[i], 0xfc, sizeof state.keys[i]);
+        state.keys[i].len = 2;
+        memcpy(state.keys[i].bytes, "ok", 2);
+    }
+    for (i = 0; i < WY50_LABELS; i++) {
+        memset(&state.labels[i], 0xfb, sizeof state.labels[i]);
+        state.labels[i].len = 2;
+        memcpy(state.labels[i].bytes, "go", 2);
+    }
+}
+
+/* One byte by each of the calls that give a state; a wrong page for 7, no room for 6. Each answers this, and gives the numbers as they came. */
+static void unchanged(uint8_t byte, size_t room, size_t cells, uint8_t answer)
+{
+    const wy50_state before = state;
+    uint16_t rows[WY50_ROW_NUMBERS] = {0};
+    wy50_step_result s = wy50_step(page, cells, state, byte, reply, room);
+    wy50_run_result r = wy50_run(page, cells, state, &byte, 1, reply, room);
+    wy50_next_result n = wy50_next(page, cells, NULL, 0, state, &byte, 1, reply, room);
+    CHECK(s.answer == answer && same(&s.state, &before));
+    CHECK(r.answer == (answer == 1 ? 0 : answer) && same(&r.state, &before));
+    CHECK(n.answer == answer && same(&n.state, &before));
+    wy50_rebuild_rows(page, cells, rows, WY50_ROW_NUMBERS, state);
+    s = wy50_step_rows(page, cells, rows, WY50_ROW_NUMBERS, state, byte, reply, room);
+    r = wy50_run_rows(page, cells, rows, WY50_ROW_NUMBERS, state, &byte, 1, reply, room);
+    CHECK(s.answer == answer && same(&s.state, &before) && r.answer == (answer == 1 ? 0 : answer) && same(&r.state, &before));
+}
+
+/* "Nothing changed" is the numbers as they came, whatever stands where nothing is looked at; and where something changed, the rest is as it came. */
+static void rubbish(void)
+{
+    static const char *const begun[] = {"", "\033", "\033F", "\033Fab", "\033zA", "\033zAab", "\033z0abc", "\033F\001", "\033="};
+    size_t i;
+    for (i = 0; i < sizeof begun / sizeof *begun; i++) {
+        litter();
+        CHECK(i == 0 || feed(begun[i], strlen(begun[i])) == 0);
+        unchanged(0xe9, 9, WY50_CELLS, 1);
+        unchanged('A', 9, WY50_CELLS - 1, 7);
+        CHECK(wy50_run(page, WY50_CELLS, state, NULL, 0, reply, 9).answer == 0);
+        expected = wy50_run(page, WY50_CELLS, state, NULL, 0, reply, 9).state;
+        CHECK(same(&expected, &state));
+    }
+    litter();
+    unchanged(5, 0, WY50_CELLS, 6);
+    CHECK(FEED("\033") == 0);
+    unchanged('?', 0, WY50_CELLS, 6);
+    part("1, 6 and 7 give the numbers as they came, rubbish behind every text too");
+
+    litter();
+    expected = state;
+    expected.screen.cursor0 = 1;
+    CHECK(FEED("A") == 0 && same(&state, &expected));
+    expected.sequence.kind = WY50_MESSAGE_TEXT;
+    CHECK(FEED("\033F") == 0 && same(&state, &expected));
+    expected.sequence.second = 2;
+    memcpy(expected.gathered, "xy", 2);
+    CHECK(FEED("xy") == 0 && same(&state, &expected));
+    expected.sequence.kind = WY50_IDLE;
+    expected.sequence.second = 0;
+    memset(expected.gathered, 0, 2);
+    memset(&expected.message, 0, sizeof expected.message);
+    expected.message.len = 2;
+    memcpy(expected.message.bytes, "xy", 2);
+    CHECK(FEED("\r") == 0 && same(&state, &expected));
+    memset(&expected.keys[1], 0, sizeof expected.keys[1]);
+    expected.keys[1].len = 3;
+    memcpy(expected.keys[1].bytes, "yes", 3);
+    CHECK(FEED("\033zAyes\177") == 0 && expected.gathered[2] == 0xfe && state.gathered[2] == 0);
+    memset(expected.gathered, 0, 3);
+    CHECK(same(&state, &expected));
+    part("a text that is written has zeros behind it, and so have bytes gathered; the others are as they came");
+
+    litter();
+    CHECK(wy50_press(page, WY50_CELLS, state, 0x40, reply, 9).replied == 2 && memcmp(reply, "ok", 2) == 0);
+    CHECK(wy50_press(page, WY50_CELLS, state, 0x3f, reply, 9).answer == WY50_BAD_ARGUMENT);
+    CHECK(wy50_press(page, WY50_CELLS, state, 0x40, reply, 1).answer == WY50_NO_ROOM);
+    CHECK(FEED("\033#") == 0 && wy50_press(page, WY50_CELLS, state, 0x40, reply, 9).answer == WY50_LOCKED);
+    state.screen.cursor0 = WY50_CELLS;
+    CHECK(wy50_press(page, WY50_CELLS, state, 0x40, reply, 9).answer == WY50_BAD_CALL);
+    part("a key is pressed by its length: 0, 3, 6, 8 and 7");
 }
 
 static void version(void)
@@ -898,6 +978,7 @@ int main(void)
     features();
     personalities();
     impossible();
+    rubbish();
     if (failures)
         printf("%d parts FAILED\n", failures);
     return failures != 0;

@@ -222,16 +222,24 @@ static void cursors(void)
     CHECK(at.answer == 0 && at.row == 2 && at.column == 5);
     state.screen.active = 1;
     at = wy50_cursor(state);
+    CHECK(at.answer == WY50_BAD_CALL && at.row == 0 && at.column == 0);
+    state.screen.split = 4;
+    at = wy50_cursor(state);
     CHECK(at.answer == 0 && at.row == 23 && at.column == 79);
     state.screen.cursor1 = 1920;
     at = wy50_cursor(state);
-    CHECK(at.answer == WY50_BAD_ARGUMENT && at.row == 0 && at.column == 0);
+    CHECK(at.answer == WY50_BAD_CALL && at.row == 0 && at.column == 0);
     state.screen.wide = 1;
     at = wy50_cursor(state);
     CHECK(at.answer == 0 && at.row == 14 && at.column == 72);
     state.screen.cursor1 = WY50_WIDE_CELLS;
-    CHECK(wy50_cursor(state).answer == WY50_BAD_ARGUMENT);
-    part("the cursor as row and column, by the state's width");
+    CHECK(wy50_cursor(state).answer == WY50_BAD_CALL);
+    state.screen.cursor1 = 1920;
+    state.modes.protect = 2;
+    CHECK(wy50_cursor(state).answer == WY50_BAD_CALL);
+    state.modes.protect = 1;
+    CHECK(wy50_cursor(state).answer == 0);
+    part("the cursor as row and column, by the state's width; 7 for a state that is not possible");
 }
 
 int main(void)

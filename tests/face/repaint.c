@@ -515,7 +515,20 @@ static void structs(void)
     CHECK(r.answer == WY50_DONE && r.spans == 0 && r.bytes == 0);
     r = wy50_propose(NULL, 0, NULL, 0, WY50_PERSONALITY_60, spans, 1, bytes, 1);
     CHECK(r.answer == WY50_BAD_CALL && r.spans == 0 && r.bytes == 0);
-    part("sizes; spans as structs; one page lent twice");
+    for (k = 901; k <= WY50_MOST_SPANS; k++) {
+        for (i = 0; i < WY50_CELLS; i++) {
+            before[i] = 0x41;
+            after[i] = i % 2 == 0 && i / 2 < k ? 0x42 : 0x41;
+        }
+        r = wy50_propose(before, WY50_CELLS, after, WY50_CELLS, WY50_PERSONALITY_50, spans, k - 1, bytes, MOST_BYTES);
+        CHECK(r.answer == WY50_NO_ROOM && r.spans == 0);
+        r = wy50_propose(before, WY50_CELLS, after, WY50_CELLS, WY50_PERSONALITY_50, spans, k, bytes, MOST_BYTES);
+        CHECK(r.answer == WY50_DONE && r.spans == k && r.bytes == 5 * k);
+        CHECK(spans[k - 1].row == (k - 1) / 40 + 1 && spans[k - 1].column == (k - 1) % 40 * 2 + 1 && spans[k - 1].length == 1);
+        CHECK(wy50_judge_spans(before, WY50_CELLS, after, WY50_CELLS, spans, k) == WY50_DONE);
+        CHECK(wy50_judge_spans(before, WY50_CELLS, after, WY50_CELLS, spans, k - 1) == WY50_BAD_ARGUMENT);
+    }
+    part("sizes; spans as structs, 901 to 960 too; one page lent twice");
 }
 
 /* A display that goes on from page to page, as wy50.h says. */

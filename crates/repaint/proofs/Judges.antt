@@ -13,7 +13,7 @@ use Rattle.rules.specs.Row.{columns}
 use Rattle.repaint.specs.declared.Span.{Span}
 use Rattle.repaint.specs.declared.Verdict.{Verdict}
 use Rattle.repaint.specs.declared.Verdict.the-variants as Verdict
-use Rattle.repaint.specs.Spans.{Pages, Accepts, SpansVerdict, spansOf, ListsVerdict}
+use Rattle.repaint.specs.Spans.{Pages, Accepts, verdictNumber, SpansVerdict, spansOf, ListsVerdict}
 use Rattle.repaint.specs.Bytes.{AcceptsBytes, BytesVerdict}
 use Rattle.repaint.specs.Proposal.{Stretch, spanOf, stretches, rowsOf, columnsOf, lengthsOf, paintBytes, served}
 use Rattle.repaint.specs.Theorems.{Judging}
@@ -31,7 +31,18 @@ one-page true false e = absurd (omega (arith, e))
 one-page false true e = absurd (omega (arith, e))
 one-page false false e = refl
 
-spans-one : (a b : List ℕ) (l : List Span) {r s : Verdict} → SpansVerdict a b l r → SpansVerdict a b l s → r ≡ s
+one-verdict : (v w : Verdict) → verdictNumber v ≡ verdictNumber w → v ≡ w
+one-verdict Verdict.Accepted Verdict.Accepted e = refl
+one-verdict Verdict.Accepted Verdict.NotAccepted e = absurd (omega (arith, e))
+one-verdict Verdict.Accepted Verdict.WrongLength e = absurd (omega (arith, e))
+one-verdict Verdict.NotAccepted Verdict.Accepted e = absurd (omega (arith, e))
+one-verdict Verdict.NotAccepted Verdict.NotAccepted e = refl
+one-verdict Verdict.NotAccepted Verdict.WrongLength e = absurd (omega (arith, e))
+one-verdict Verdict.WrongLength Verdict.Accepted e = absurd (omega (arith, e))
+one-verdict Verdict.WrongLength Verdict.NotAccepted e = absurd (omega (arith, e))
+one-verdict Verdict.WrongLength Verdict.WrongLength e = refl
+
+spans-one : (a b : List ℕ) (l : List Span) {r s : ℕ} → SpansVerdict a b l r → SpansVerdict a b l s → r ≡ s
 spans-one a b l (SpansVerdict.accepted w p x) (SpansVerdict.accepted v q y) = refl
 spans-one a b l (SpansVerdict.accepted w p x) (SpansVerdict.refused v q y) = absurd (y (subst (λ (k : ℕ). Accepts k a b l) (one-width a b w v p q) x))
 spans-one a b l (SpansVerdict.accepted w p x) (SpansVerdict.wrong n) = absurd (n w p)
@@ -42,13 +53,13 @@ spans-one a b l (SpansVerdict.wrong n) (SpansVerdict.accepted v q y) = absurd (n
 spans-one a b l (SpansVerdict.wrong n) (SpansVerdict.refused v q y) = absurd (n v q)
 spans-one a b l (SpansVerdict.wrong n) (SpansVerdict.wrong k) = refl
 
-lists-one : (a b x y z : List ℕ) {r s : Verdict} → ListsVerdict a b x y z r → ListsVerdict a b x y z s → r ≡ s
+lists-one : (a b x y z : List ℕ) {r s : ℕ} → ListsVerdict a b x y z r → ListsVerdict a b x y z s → r ≡ s
 lists-one a b x y z (ListsVerdict.parallel e f v) (ListsVerdict.parallel g h w) = spans-one a b (spansOf x y z) v w
 lists-one a b x y z (ListsVerdict.parallel e f v) (ListsVerdict.unlike n) = absurd (n e f)
 lists-one a b x y z (ListsVerdict.unlike n) (ListsVerdict.parallel e f v) = absurd (n e f)
 lists-one a b x y z (ListsVerdict.unlike n) (ListsVerdict.unlike k) = refl
 
-bytes-one : (m : Personality) (a b l : List ℕ) {r s : Verdict} → BytesVerdict m a b l r → BytesVerdict m a b l s → r ≡ s
+bytes-one : (m : Personality) (a b l : List ℕ) {r s : ℕ} → BytesVerdict m a b l r → BytesVerdict m a b l s → r ≡ s
 bytes-one m a b l (BytesVerdict.accepted w p x) (BytesVerdict.accepted v q y) = refl
 bytes-one m a b l (BytesVerdict.accepted w p x) (BytesVerdict.refused v q y) =
     absurd (y (subst (λ (k : Bool). AcceptsBytes m k a b l) (one-page w v (one-width a b (columns w) (columns v) p q)) x))
@@ -78,21 +89,22 @@ module _ (m : Personality) (a b : List ℕ) (e : served m a b ≡ true) where
   pages : Pages 80 a b
   pages = let s = served-parts m a b e in record { alike = s .from ∙ sym (s .to); width = inl (refl, s .from) }
 
-  lists-accepted : ListsVerdict a b (rowsOf (stretches a b)) (columnsOf (stretches a b)) (lengthsOf (stretches a b)) Verdict.Accepted
+  lists-accepted : ListsVerdict a b (rowsOf (stretches a b)) (columnsOf (stretches a b)) (lengthsOf (stretches a b)) 0
   lists-accepted =
       let l = stretches a b in
       ListsVerdict.parallel (same-rows l) (same-lengths l)
-      (subst (λ (t : List Span). SpansVerdict a b t Verdict.Accepted) (sym (lists-hold l)) (SpansVerdict.accepted 80 pages (proposing .spans-accepted m a b e)))
+      (subst (λ (t : List Span). SpansVerdict a b t 0) (sym (lists-hold l)) (SpansVerdict.accepted 80 pages (proposing .spans-accepted m a b e)))
 
   narrow : Pages (columns false) a b
   unfolding columns
   narrow = pages
 
-  bytes-accepted : BytesVerdict m a b (paintBytes a b) Verdict.Accepted
+  bytes-accepted : BytesVerdict m a b (paintBytes a b) 0
   bytes-accepted = BytesVerdict.accepted false narrow (proposing .bytes-accepted m a b e)
 
 pub judging : Judging
 judging = record {
+  one-verdict = one-verdict;
   spans-one = λ a b l r s x y. spans-one a b l x y;
   lists-one = λ a b rows columns lengths r s x y. lists-one a b rows columns lengths x y;
   bytes-one = λ m a b l r s x y. bytes-one m a b l x y;

@@ -35,7 +35,7 @@ use Rattle.rules.proofs.RowSteps.{same-is, same-refl}
 use Rattle.rules.proofs.Left.{step-good-most, step-unused}
 use Rattle.repaint.specs.declared.Verdict.{Verdict}
 use Rattle.repaint.specs.declared.Verdict.the-variants as Verdict
-use Rattle.repaint.specs.Spans.{Pages}
+use Rattle.repaint.specs.Spans.{Pages, verdictNumber}
 use Rattle.repaint.specs.Pass.{pagesWidth, equal}
 use Rattle.repaint.specs.Bytes.{powerOnAt, Leads, end, byte, AcceptsBytes, BytesVerdict, clean, paints}
 use Rattle.repaint.proofs.Passing.{widths}
@@ -316,9 +316,9 @@ no-pages a b w e z = by (widths a b)
     by (inr p) = λ v k. by-width (p .width)
 
 module _ (m : Personality) (a b bytes : List ℕ) (w : ℕ) {r : Bool} (x : At (eqb w 132) a b) (e : r ≡ paints m (eqb w 132) a b bytes) where
-  pub taken-verdict : r ≡ true → BytesVerdict m a b bytes Verdict.Accepted
+  pub taken-verdict : r ≡ true → BytesVerdict m a b bytes (verdictNumber Verdict.Accepted)
   taken-verdict t = BytesVerdict.accepted (eqb w 132) (x .pages) (paints-leads m (eqb w 132) a b bytes (x .size) (sym e ∙ t))
 
-  pub left-verdict : r ≡ false → BytesVerdict m a b bytes Verdict.NotAccepted
+  pub left-verdict : r ≡ false → BytesVerdict m a b bytes (verdictNumber Verdict.NotAccepted)
   left-verdict t =
       BytesVerdict.refused (eqb w 132) (x .pages) (λ l. false≢true (sym (sym e ∙ t) ∙ leads-paints m (eqb w 132) a b bytes (x .size) l))

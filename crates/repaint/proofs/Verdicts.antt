@@ -15,7 +15,7 @@ use Rattle.rules.proofs.Tests.{either-way, both-parts}
 use Rattle.repaint.specs.declared.Span.{Span}
 use Rattle.repaint.specs.declared.Verdict.{Verdict}
 use Rattle.repaint.specs.declared.Verdict.the-variants as Verdict
-use Rattle.repaint.specs.Spans.{first, after, none, spanAt, Covers, Within, Accepts, Pages, SpansVerdict, spansOf, ListsVerdict}
+use Rattle.repaint.specs.Spans.{first, after, none, spanAt, Covers, Within, Accepts, Pages, verdictNumber, SpansVerdict, spansOf, ListsVerdict}
 use Rattle.repaint.specs.Pass.{pagesWidth, alike, equal, fits, turned, passed, finished, beyond}
 use Rattle.repaint.proofs.Passing.{Fits, lies, fits-parts, fits-whole, eq-or-not, widths, same-beyond, turn-misfit, turn-differs, turn-moves, finish-wrong, finish-accepted, finish-refused}
 
@@ -260,14 +260,14 @@ module _ (a b : List ℕ) (ss : List Span) where
       by-case (inl x) = omega (arith, x .0)
       by-case (inr x) = omega (arith, x .0)
 
-  by-answer : Pages (pagesWidth a b) a b → (equal a b (passed a b 0 ss) (length a) ≡ true) ⊎ (equal a b (passed a b 0 ss) (length a) ≡ false) → SpansVerdict a b ss (finished a b (passed a b 0 ss))
+  by-answer : Pages (pagesWidth a b) a b → (equal a b (passed a b 0 ss) (length a) ≡ true) ⊎ (equal a b (passed a b 0 ss) (length a) ≡ false) → SpansVerdict a b ss (verdictNumber (finished a b (passed a b 0 ss)))
   by-answer p (inl t) = rw (← finish-accepted a b (passed a b 0 ss) (some-width p) t) (SpansVerdict.accepted (pagesWidth a b) p (accepts-of a b p ss t))
   by-answer p (inr t) = rw (← finish-refused a b (passed a b 0 ss) (some-width p) t) (SpansVerdict.refused (pagesWidth a b) p (λ x. false≢true (sym t ∙ of-accepts a b p ss x)))
 
-  pub verdict : SpansVerdict a b ss (finished a b (passed a b 0 ss))
+  pub verdict : SpansVerdict a b ss (verdictNumber (finished a b (passed a b 0 ss)))
   verdict = by-width (widths a b)
     where
-      by-width : ((pagesWidth a b ≡ 0) × ((w : ℕ) → Pages w a b → ⊥)) ⊎ Pages (pagesWidth a b) a b → SpansVerdict a b ss (finished a b (passed a b 0 ss))
+      by-width : ((pagesWidth a b ≡ 0) × ((w : ℕ) → Pages w a b → ⊥)) ⊎ Pages (pagesWidth a b) a b → SpansVerdict a b ss (verdictNumber (finished a b (passed a b 0 ss)))
       by-width (inl z) = rw (← finish-wrong a b (passed a b 0 ss) (z .0)) (SpansVerdict.wrong (z .1))
       by-width (inr p) = by-answer p (either-way (equal a b (passed a b 0 ss) (length a)))
 
@@ -286,7 +286,7 @@ pass-ends a b ss next i l = rw (drop-all ss i l)
     drop-all (x ∷ l) zero h = absurd (omega arith)
     drop-all (x ∷ l) (suc n) h = drop-all l n (omega arith)
 
-pub pass-verdict : (a b : List ℕ) (ss : List Span) (next i : ℕ) (r : Verdict) → length ss ≤ i → passed a b next (drop i ss) ≡ passed a b 0 ss → r ≡ finished a b next → SpansVerdict a b ss r
+pub pass-verdict : (a b : List ℕ) (ss : List Span) (next i : ℕ) (r : Verdict) → length ss ≤ i → passed a b next (drop i ss) ≡ passed a b 0 ss → r ≡ finished a b next → SpansVerdict a b ss (verdictNumber r)
 pass-verdict a b ss next i r l e f = rw (f, pass-ends a b ss next i l ∙ e) (verdict a b ss)
 
 -- one span more is passed
@@ -311,5 +311,5 @@ module _ (a b rs cs ls : List ℕ) (next i : ℕ) (e : length rs ≡ length cs) 
   pub lists-step : i < length rs → (next′ : ℕ) → next′ ≡ turned a b next (record { row = getD rs i 0; column = getD cs i 0; length = getD ls i 0 }) → passed a b next′ (drop (i + 1) (spansOf rs cs ls)) ≡ passed a b 0 (spansOf rs cs ls)
   lists-step l next′ t = rw (t, spans-at rs cs ls i l e f, pass-step a b (spansOf rs cs ls) next i (omega (arith, spans-length rs cs ls e f))) inv
 
-  pub lists-verdict : length rs ≤ i → (r : Verdict) → r ≡ finished a b next → ListsVerdict a b rs cs ls r
+  pub lists-verdict : length rs ≤ i → (r : Verdict) → r ≡ finished a b next → ListsVerdict a b rs cs ls (verdictNumber r)
   lists-verdict l r t = ListsVerdict.parallel e f (pass-verdict a b (spansOf rs cs ls) next i r (omega (arith, spans-length rs cs ls e f)) inv t)

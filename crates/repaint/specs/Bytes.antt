@@ -1,5 +1,5 @@
--- The judge of bytes (document 02, A12): "accepts bytes exactly if the ruled terminal of a named personality, fed them from power-on at the pages' width
--- with the first page and no reply room, answers 0 to each and ends with the second page".
+-- The judge of bytes (document 02, A12): "accepts bytes exactly if the ruled terminal of a named personality, fed them from power-on at the pages'
+-- width with the first page and no reply room, answers 0 to each and ends with the second page".
 use mathlib.Core.Path.{_≡_}
 use mathlib.Core.Bool.{Bool}
 use mathlib.Core.List.{List, [], _∷_}
@@ -15,9 +15,8 @@ use Rattle.rules.specs.Possible.{powerOn}
 use Rattle.rules.specs.Plan.{unsplitScreen}
 use Rattle.rules.specs.Step.{stepRule}
 use Rattle.rules.specs.Calls.{Ran, runRule}
-use Rattle.repaint.specs.declared.Verdict.{Verdict}
 use Rattle.repaint.specs.declared.Verdict.the-variants as Verdict
-use Rattle.repaint.specs.Spans.{Pages}
+use Rattle.repaint.specs.Spans.{Pages, verdictNumber}
 
 -- "from power-on at the pages' width": a wide one is the power-on state as the conversion of A11 leaves it
 unfoldable pub powerOnAt : Bool → Personality → State
@@ -39,10 +38,11 @@ abbrev pub AcceptsBytes : Personality → Bool → List ℕ → List ℕ → Lis
 AcceptsBytes m wide a b bytes = Leads b bytes a (powerOnAt wide m)
 
 -- accepted exactly if the sentence holds; "unlike or wrong lengths answer 7"
-pub data BytesVerdict (m : Personality) (a b bytes : List ℕ) : Verdict → Type 0 where
-  accepted : (wide : Bool) → Pages (columns wide) a b → AcceptsBytes m wide a b bytes → BytesVerdict m a b bytes Verdict.Accepted
-  refused : (wide : Bool) → Pages (columns wide) a b → (AcceptsBytes m wide a b bytes → ⊥) → BytesVerdict m a b bytes Verdict.NotAccepted
-  wrong : ((w : ℕ) → Pages w a b → ⊥) → BytesVerdict m a b bytes Verdict.WrongLength
+pub data BytesVerdict (m : Personality) (a b bytes : List ℕ) : ℕ → Type 0 where
+  accepted : (wide : Bool) → Pages (columns wide) a b → AcceptsBytes m wide a b bytes → BytesVerdict m a b bytes (verdictNumber Verdict.Accepted)
+  refused : (wide : Bool) → Pages (columns wide) a b → (AcceptsBytes m wide a b bytes → ⊥)
+      → BytesVerdict m a b bytes (verdictNumber Verdict.NotAccepted)
+  wrong : ((w : ℕ) → Pages w a b → ⊥) → BytesVerdict m a b bytes (verdictNumber Verdict.WrongLength)
 
 -- ---- as the code finds it: by one run
 

@@ -6,8 +6,6 @@ use Prim.Native.Nat.{ℕ, zero, suc}
 use lib.ListN.{replicate}
 use Rattle.rules.specs.declared.Personality.the-variants as Personality
 use Rattle.repaint.specs.declared.Span.{Span}
-use Rattle.repaint.specs.declared.Verdict.{Verdict}
-use Rattle.repaint.specs.declared.Verdict.the-variants as Verdict
 use Rattle.repaint.specs.Spans.{SpansVerdict}
 use Rattle.repaint.specs.Bytes.{paints}
 use Rattle.repaint.specs.Proposal.{Proposed, refusedWith, proposeRule}
@@ -55,13 +53,22 @@ reversed-bytes =
 pub record WorkedProposals : Type 0 where
   -- spans and bytes at the front, the rooms' rest untouched
   pub row-end : proposeRule Personality.Wy50 shown over-row (nines 3) (nines 2) (nines 4) (nines 12)
-      ≡ record { answer = 0; spans = 2; bytes = 11; rows = 1 ∷ 2 ∷ 9 ∷ []; columns = 79 ∷ 1 ∷ []; lengths = 2 ∷ 1 ∷ 9 ∷ 9 ∷ []; out = row-bytes ++ 9 ∷ [] }
+      ≡ record {
+        answer = 0;
+        spans = 2;
+        bytes = 11;
+        rows = 1 ∷ 2 ∷ 9 ∷ [];
+        columns = 79 ∷ 1 ∷ [];
+        lengths = 2 ∷ 1 ∷ 9 ∷ 9 ∷ [];
+        out = row-bytes ++ 9 ∷ [];
+      }
   pub attributes : proposeRule Personality.Wy60 shown reversed (nines 3) (nines 3) (nines 3) (nines 26)
       ≡ record { answer = 0; spans = 3; bytes = 26; rows = 1 ∷ 1 ∷ 2 ∷ []; columns = 1 ∷ 4 ∷ 1 ∷ []; lengths = 2 ∷ 2 ∷ 1 ∷ []; out = reversed-bytes }
   -- equal pages: no spans, no bytes, and no room is needed
   pub equal-pages : proposeRule Personality.Wy60 reversed reversed [] [] [] [] ≡ left 0 0 0
   -- too little room for spans, in one list alone, and for bytes
-  pub few-spans : proposeRule Personality.Wy50 shown over-row (nines 2) (nines 1) (nines 2) (nines 11) ≡ refusedWith 6 (nines 2) (nines 1) (nines 2) (nines 11)
+  pub few-spans : proposeRule Personality.Wy50 shown over-row (nines 2) (nines 1) (nines 2) (nines 11)
+      ≡ refusedWith 6 (nines 2) (nines 1) (nines 2) (nines 11)
   pub few-bytes : proposeRule Personality.Wy50 shown over-row (nines 2) (nines 2) (nines 2) (nines 10) ≡ left 6 2 10
   -- other pages answer 3, before 6
   pub last-cell : proposeRule Personality.Wy50 shown at-the-end [] [] [] [] ≡ left 3 0 0
@@ -87,7 +94,8 @@ pub record WorkedBytes : Type 0 where
   -- a sequence may be under way at the end
   pub under-way : paints Personality.Wy50 false shown over-row (row-bytes ++ 0x1b ∷ 0x3d ∷ []) ≡ true
   -- a wide page: the terminal is wide
-  pub on-wide : paints Personality.Wy60 true (spaces 3168) (spaces 131 ++ 0x41 ∷ spaces 3036) (0x1b ∷ 0x61 ∷ 0x31 ∷ 0x52 ∷ 0x31 ∷ 0x33 ∷ 0x32 ∷ 0x43 ∷ 0x41 ∷ []) ≡ true
+  pub on-wide : paints Personality.Wy60 true (spaces 3168) (spaces 131 ++ 0x41 ∷ spaces 3036)
+      (0x1b ∷ 0x61 ∷ 0x31 ∷ 0x52 ∷ 0x31 ∷ 0x33 ∷ 0x32 ∷ 0x43 ∷ 0x41 ∷ []) ≡ true
 
 -- the judge of spans, from all spaces to the page with attributes: it differs in the cells 0, 1, 3, 4 and 80
 abbrev pub span : ℕ → ℕ → ℕ → Span
@@ -100,17 +108,17 @@ rowsFrom r (suc n) = span r 1 80 ∷ rowsFrom (suc r) n
 
 pub record WorkedSpans : Type 0 where
   -- they may touch, and cover equal cells
-  pub touching : SpansVerdict shown reversed (rowsFrom 1 24) Verdict.Accepted
-  pub over-row-end : SpansVerdict shown reversed (span 1 1 81 ∷ []) Verdict.NotAccepted
-  pub overlapping : SpansVerdict shown reversed (span 1 1 2 ∷ span 1 2 4 ∷ span 2 1 1 ∷ []) Verdict.NotAccepted
-  pub out-of-order : SpansVerdict shown reversed (span 1 4 2 ∷ span 1 1 2 ∷ span 2 1 1 ∷ []) Verdict.NotAccepted
-  pub uncovered : SpansVerdict shown reversed (span 1 1 2 ∷ span 1 5 1 ∷ span 2 1 1 ∷ []) Verdict.NotAccepted
-  pub last-uncovered : SpansVerdict shown reversed (span 1 1 5 ∷ []) Verdict.NotAccepted
-  pub no-spans : SpansVerdict shown reversed [] Verdict.NotAccepted
-  pub empty : SpansVerdict shown reversed (span 1 1 0 ∷ span 1 1 5 ∷ span 2 1 1 ∷ []) Verdict.NotAccepted
-  pub row-0 : SpansVerdict shown reversed (span 0 1 5 ∷ []) Verdict.NotAccepted
-  pub row-25 : SpansVerdict shown reversed (span 1 1 5 ∷ span 2 1 1 ∷ span 25 1 1 ∷ []) Verdict.NotAccepted
-  pub column-0 : SpansVerdict shown reversed (span 1 0 6 ∷ span 2 1 1 ∷ []) Verdict.NotAccepted
-  pub largest : SpansVerdict shown reversed (span 65535 65535 65535 ∷ []) Verdict.NotAccepted
-  pub unlike-lengths : SpansVerdict shown (spaces 1919) [] Verdict.WrongLength
-  pub wrong-lengths : SpansVerdict (spaces 1921) (spaces 1921) [] Verdict.WrongLength
+  pub touching : SpansVerdict shown reversed (rowsFrom 1 24) 0
+  pub over-row-end : SpansVerdict shown reversed (span 1 1 81 ∷ []) 3
+  pub overlapping : SpansVerdict shown reversed (span 1 1 2 ∷ span 1 2 4 ∷ span 2 1 1 ∷ []) 3
+  pub out-of-order : SpansVerdict shown reversed (span 1 4 2 ∷ span 1 1 2 ∷ span 2 1 1 ∷ []) 3
+  pub uncovered : SpansVerdict shown reversed (span 1 1 2 ∷ span 1 5 1 ∷ span 2 1 1 ∷ []) 3
+  pub last-uncovered : SpansVerdict shown reversed (span 1 1 5 ∷ []) 3
+  pub no-spans : SpansVerdict shown reversed [] 3
+  pub empty : SpansVerdict shown reversed (span 1 1 0 ∷ span 1 1 5 ∷ span 2 1 1 ∷ []) 3
+  pub row-0 : SpansVerdict shown reversed (span 0 1 5 ∷ []) 3
+  pub row-25 : SpansVerdict shown reversed (span 1 1 5 ∷ span 2 1 1 ∷ span 25 1 1 ∷ []) 3
+  pub column-0 : SpansVerdict shown reversed (span 1 0 6 ∷ span 2 1 1 ∷ []) 3
+  pub largest : SpansVerdict shown reversed (span 65535 65535 65535 ∷ []) 3
+  pub unlike-lengths : SpansVerdict shown (spaces 1919) [] 7
+  pub wrong-lengths : SpansVerdict (spaces 1921) (spaces 1921) [] 7

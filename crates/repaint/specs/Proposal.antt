@@ -127,7 +127,8 @@ refusedWith n rows columns lengths out = record { answer = n; spans = 0; bytes =
 abbrev pub fitting : ℕ → ℕ → List ℕ → List ℕ → List ℕ → List ℕ → Bool
 fitting n k rows columns lengths out = both (both (leb n (length rows)) (both (leb n (length columns)) (leb n (length lengths)))) (leb k (length out))
 
--- "other pages answer 3, too little room 6, in the order 7, 3, 6, nothing written"; else spans and bytes stand at the front, "the rooms' rest untouched"
+-- "other pages answer 3, too little room 6, in the order 7, 3, 6, nothing written"; else spans and bytes stand at the front, "the rooms' rest
+-- untouched"
 unfoldable pub proposeRule : Personality → List ℕ → List ℕ → List ℕ → List ℕ → List ℕ → List ℕ → Proposed
 proposeRule m a b rows columns lengths out =
     let l = stretches a b in

@@ -1,6 +1,6 @@
--- The judge of spans (document 02, A12): "accepts a list of spans only if they are in reading order, don't overlap, lie within their rows, are not empty
--- and cover every cell that differs, and always accepts such a list".
--- A span is "a row, first column and length", rows and columns counted from 1. A page has 24 rows of w cells; cells count from 0.
+-- The judge of spans (document 02, A12): "accepts a list of spans only if they are in reading order, don't overlap, lie within their rows, are not
+-- empty and cover every cell that differs, and always accepts such a list". A span is "a row, first column and length", rows and columns counted from
+-- 1. A page has 24 rows of w cells; cells count from 0.
 use mathlib.Core.Path.{_≡_}
 use mathlib.Core.List.{List, [], _∷_}
 use mathlib.Core.Logic.{_⊎_}
@@ -50,16 +50,16 @@ pub record Pages (w : ℕ) (a b : List ℕ) : Type 0 where
   pub width : ((w ≡ 80) × (length a ≡ narrowCells)) ⊎ ((w ≡ 132) × (length a ≡ wideCells))
 
 -- the paper's number of each answer of a judge: what it does not accept answers 3
-abbrev pub number : Verdict → ℕ
-number Verdict.Accepted = 0
-number Verdict.NotAccepted = 3
-number Verdict.WrongLength = 7
+abbrev pub verdictNumber : Verdict → ℕ
+verdictNumber Verdict.Accepted = 0
+verdictNumber Verdict.NotAccepted = 3
+verdictNumber Verdict.WrongLength = 7
 
--- what an answer says of two pages and a list of spans: accepted exactly if the sentence holds; "unlike or wrong lengths answer 7"
-pub data SpansVerdict (a b : List ℕ) (spans : List Span) : Verdict → Type 0 where
-  accepted : (w : ℕ) → Pages w a b → Accepts w a b spans → SpansVerdict a b spans Verdict.Accepted
-  refused : (w : ℕ) → Pages w a b → (Accepts w a b spans → ⊥) → SpansVerdict a b spans Verdict.NotAccepted
-  wrong : ((w : ℕ) → Pages w a b → ⊥) → SpansVerdict a b spans Verdict.WrongLength
+-- what the number of an answer says of two pages and a list of spans: accepted exactly if the sentence holds; "unlike or wrong lengths answer 7"
+pub data SpansVerdict (a b : List ℕ) (spans : List Span) : ℕ → Type 0 where
+  accepted : (w : ℕ) → Pages w a b → Accepts w a b spans → SpansVerdict a b spans (verdictNumber Verdict.Accepted)
+  refused : (w : ℕ) → Pages w a b → (Accepts w a b spans → ⊥) → SpansVerdict a b spans (verdictNumber Verdict.NotAccepted)
+  wrong : ((w : ℕ) → Pages w a b → ⊥) → SpansVerdict a b spans (verdictNumber Verdict.WrongLength)
 
 -- the spans that parallel lists of one length hold; lists of unlike lengths answer 7
 abbrev pub spansOf : List ℕ → List ℕ → List ℕ → List Span
@@ -68,7 +68,8 @@ spansOf (r ∷ rs) [] ls = []
 spansOf (r ∷ rs) (c ∷ cs) [] = []
 spansOf (r ∷ rs) (c ∷ cs) (l ∷ ls) = record { row = r; column = c; length = l } ∷ spansOf rs cs ls
 
-pub data ListsVerdict (a b rows columns lengths : List ℕ) : Verdict → Type 0 where
-  parallel : {r : Verdict} → length rows ≡ length columns → length rows ≡ length lengths → SpansVerdict a b (spansOf rows columns lengths) r
+pub data ListsVerdict (a b rows columns lengths : List ℕ) : ℕ → Type 0 where
+  parallel : {r : ℕ} → length rows ≡ length columns → length rows ≡ length lengths → SpansVerdict a b (spansOf rows columns lengths) r
       → ListsVerdict a b rows columns lengths r
-  unlike : (length rows ≡ length columns → length rows ≡ length lengths → ⊥) → ListsVerdict a b rows columns lengths Verdict.WrongLength
+  unlike : (length rows ≡ length columns → length rows ≡ length lengths → ⊥)
+      → ListsVerdict a b rows columns lengths (verdictNumber Verdict.WrongLength)

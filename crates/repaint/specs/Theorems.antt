@@ -11,8 +11,7 @@ use Rattle.rules.specs.Convert.{convertRule}
 use Rattle.rules.specs.Possible.{powerOn, blank}
 use Rattle.repaint.specs.declared.Span.{Span}
 use Rattle.repaint.specs.declared.Verdict.{Verdict}
-use Rattle.repaint.specs.declared.Verdict.the-variants as Verdict
-use Rattle.repaint.specs.Spans.{first, after, Covers, spanAt, Accepts, SpansVerdict, ListsVerdict}
+use Rattle.repaint.specs.Spans.{first, after, Covers, spanAt, Accepts, verdictNumber, SpansVerdict, ListsVerdict}
 use Rattle.repaint.specs.Bytes.{AcceptsBytes, BytesVerdict, powerOnAt}
 use Rattle.repaint.specs.Proposal.{spanOf, stretches, rowsOf, columnsOf, lengthsOf, paintBytes, allText, served, refusedWith, proposeRule}
 
@@ -43,21 +42,25 @@ pub record Proposing : Type 0 where
   pub bytes : (m : Personality) (a b : List ℕ) → served m a b ≡ true → length (paintBytes a b) ≤ 7772
   -- what answers 3 is exactly what the paper excepts: pages of one length that are a page's, and not served
   pub excepted : (m : Personality) (a b rows columns lengths out : List ℕ) → proposeRule m a b rows columns lengths out .answer ≡ 3 → Served m a b → ⊥
-  pub refused : (m : Personality) (a b rows columns lengths out : List ℕ) → length a ≡ length b → (length a ≡ narrowCells) ⊎ (length a ≡ wideCells) → (Served m a b → ⊥)
+  pub refused : (m : Personality) (a b rows columns lengths out : List ℕ) → length a ≡ length b → (length a ≡ narrowCells) ⊎ (length a ≡ wideCells)
+      → (Served m a b → ⊥)
       → proposeRule m a b rows columns lengths out ≡ refusedWith 3 rows columns lengths out
   -- with room for 960 spans and 7,772 bytes nothing that is served is refused
-  pub roomy : (m : Personality) (a b rows columns lengths out : List ℕ) → Served m a b → 960 ≤ length rows → 960 ≤ length columns → 960 ≤ length lengths
+  pub roomy : (m : Personality) (a b rows columns lengths out : List ℕ) → Served m a b → 960 ≤ length rows → 960 ≤ length columns
+      → 960 ≤ length lengths
       → 7772 ≤ length out → proposeRule m a b rows columns lengths out .answer ≡ 0
 
 -- the judges' answers: each has one, so both accept what is proposed
 pub record Judging : Type 0 where
-  pub spans-one : (a b : List ℕ) (spans : List Span) (r s : Verdict) → SpansVerdict a b spans r → SpansVerdict a b spans s → r ≡ s
-  pub lists-one : (a b rows columns lengths : List ℕ) (r s : Verdict) → ListsVerdict a b rows columns lengths r → ListsVerdict a b rows columns lengths s
+  -- the numbers say which answer it is
+  pub one-verdict : (v w : Verdict) → verdictNumber v ≡ verdictNumber w → v ≡ w
+  pub spans-one : (a b : List ℕ) (spans : List Span) (r s : ℕ) → SpansVerdict a b spans r → SpansVerdict a b spans s → r ≡ s
+  pub lists-one : (a b rows columns lengths : List ℕ) (r s : ℕ) → ListsVerdict a b rows columns lengths r → ListsVerdict a b rows columns lengths s
       → r ≡ s
-  pub bytes-one : (m : Personality) (a b bytes : List ℕ) (r s : Verdict) → BytesVerdict m a b bytes r → BytesVerdict m a b bytes s → r ≡ s
+  pub bytes-one : (m : Personality) (a b bytes : List ℕ) (r s : ℕ) → BytesVerdict m a b bytes r → BytesVerdict m a b bytes s → r ≡ s
   pub lists-accepted : (m : Personality) (a b : List ℕ) → served m a b ≡ true
-      → ListsVerdict a b (rowsOf (stretches a b)) (columnsOf (stretches a b)) (lengthsOf (stretches a b)) Verdict.Accepted
-  pub bytes-accepted : (m : Personality) (a b : List ℕ) → served m a b ≡ true → BytesVerdict m a b (paintBytes a b) Verdict.Accepted
+      → ListsVerdict a b (rowsOf (stretches a b)) (columnsOf (stretches a b)) (lengthsOf (stretches a b)) 0
+  pub bytes-accepted : (m : Personality) (a b : List ℕ) → served m a b ≡ true → BytesVerdict m a b (paintBytes a b) 0
 
 -- power-on at a width: the narrow one is power-on's own, and the wide one what the conversion makes of it
 pub record PowerOns : Type 0 where

@@ -7,6 +7,7 @@ ghost use Rattle.rules.specs.Cell.{both};
 ghost use Rattle.rules.specs.Row.{columns, wideCells};
 ghost use Rattle.rules.specs.State.{number};
 ghost use Rattle.rules.specs.Room.{over};
+ghost use Rattle.repaint.specs.Spans.{verdictNumber};
 ghost use Rattle.repaint.specs.Bytes.{powerOnAt, paints as paintsRule, BytesVerdict};
 use crate::Verdict;
 use crate::same_cells;
@@ -47,7 +48,7 @@ fn power_on_at(wide: bool, personality: Personality) -> State
 }
 
 // Cells copied to the front of others; the rest of these is untouched.
-pub fn copy_cells(from: &[u16], to: &mut [u16])
+pub(crate) fn copy_cells(from: &[u16], to: &mut [u16])
     requires { ⌜ (length (now from) ≤ length (now to)) × (length (now from) ≤ wideCells) ⌝ }
     ensures { λ r. ⌜ now (to .exit) ≡ over (now (from .entry)) (now (to .entry)) ⌝ }
 {
@@ -91,7 +92,7 @@ fn paints(
 // Accepts bytes exactly if the ruled terminal makes the second page of the first with them. Ruled out: one that takes bytes of which the terminal
 // refuses some, or that ask for a reply.
 pub fn judge_bytes(before: &[u16], after: &[u16], personality: Personality, bytes: &[u8]) -> Verdict
-    ensures { λ r. ⌜ BytesVerdict personality (now (before .entry)) (now (after .entry)) (now (bytes .entry)) r ⌝ }
+    ensures { λ r. ⌜ BytesVerdict personality (now (before .entry)) (now (after .entry)) (now (bytes .entry)) (verdictNumber r) ⌝ }
 {
     let width = width_of(before, after);
     if width == 0 {

@@ -5,7 +5,7 @@ mod painter; // our own proposer
 ghost use mathlib.Core.Path.{_≡_};
 ghost use Prim.Native.Nat.{_+_, _<_, _≤_};
 ghost use lib.ListN.{length};
-ghost use Rattle.repaint.specs.Spans.{SpansVerdict, ListsVerdict};
+ghost use Rattle.repaint.specs.Spans.{verdictNumber, SpansVerdict, ListsVerdict};
 ghost use Rattle.repaint.specs.Pass.{pagesWidth, equal, fits, turned, finished};
 pub use feeding::judge_bytes;
 pub use painter::propose;
@@ -18,7 +18,7 @@ pub struct Span {
     pub length: u16,
 }
 
-// What a judge answers: 0, 3 and 7 of the paper.
+// What a judge answers.
 pub enum Verdict {
     Accepted,
     NotAccepted,
@@ -98,7 +98,7 @@ fn fits_row(width: usize, s: Span) -> bool
 }
 
 // One span: `next` moved past it, or 4000 where the list is refused.
-pub fn turn(before: &[u16], after: &[u16], next: usize, s: Span) -> usize
+fn turn(before: &[u16], after: &[u16], next: usize, s: Span) -> usize
     ensures { λ r. ⌜ r ≡ turned (now (before .entry)) (now (after .entry)) next s ⌝ }
 {
     let width = width_of(before, after);
@@ -113,7 +113,7 @@ pub fn turn(before: &[u16], after: &[u16], next: usize, s: Span) -> usize
 }
 
 // After the last span: the cells that are left must be equal.
-pub fn finish(before: &[u16], after: &[u16], next: usize) -> Verdict
+fn finish(before: &[u16], after: &[u16], next: usize) -> Verdict
     ensures { λ r. ⌜ r ≡ finished (now (before .entry)) (now (after .entry)) next ⌝ }
 {
     if width_of(before, after) == 0 {
@@ -126,9 +126,9 @@ pub fn finish(before: &[u16], after: &[u16], next: usize) -> Verdict
     }
 }
 
-// Accepts the spans of three parallel lists exactly if they are in reading order, do not overlap, lie within their rows, are not empty and cover every
-// cell that differs. One pass over the pages: `next` is the first cell not yet judged. Ruled out: one that takes a span over a row's end, an overlap,
-// or a differing cell that no span covers.
+// Accepts the spans of three parallel lists exactly if they are in reading order, do not overlap, lie within their rows, are not empty and cover
+// every cell that differs. One pass over the pages: `next` is the first cell not yet judged. Ruled out: one that takes a span over a row's end, an
+// overlap, or a differing cell that no span covers.
 pub fn judge_lists(
     before: &[u16],
     after: &[u16],
@@ -136,7 +136,7 @@ pub fn judge_lists(
     columns: &[u16],
     lengths: &[u16],
 ) -> Verdict
-    ensures { λ r. ⌜ ListsVerdict (now (before .entry)) (now (after .entry)) (now (rows .entry)) (now (columns .entry)) (now (lengths .entry)) r ⌝ }
+    ensures { λ r. ⌜ ListsVerdict (now (before .entry)) (now (after .entry)) (now (rows .entry)) (now (columns .entry)) (now (lengths .entry)) (verdictNumber r) ⌝ }
 {
     if rows.len() != columns.len() {
         return Verdict::WrongLength;
@@ -160,7 +160,7 @@ pub fn judge_lists(
 
 // The same for a slice of spans: each is taken out of it and handed to `turn`.
 pub fn judge_spans(before: &[u16], after: &[u16], spans: &[Span]) -> Verdict
-    ensures { λ r. ⌜ SpansVerdict (now (before .entry)) (now (after .entry)) (now (spans .entry)) r ⌝ }
+    ensures { λ r. ⌜ SpansVerdict (now (before .entry)) (now (after .entry)) (now (spans .entry)) (verdictNumber r) ⌝ }
 {
     let mut next = 0;
     let mut i = 0;

@@ -25,9 +25,11 @@ use Rattle.page.proofs.Room.{stored-cons, stored-over}
 use Rattle.saved.specs.SetupBytes.{setupBytes, longest}
 use Rattle.saved.specs.Settings.{fed}
 use Rattle.saved.specs.Store.{placeSize, storeSize, twoBytes, twoAt, place, lastNumber, lastOfAll, cut, places, joined, laid, placeOf, setupIn, setupOf, afterSave, allZero, isSetup, isPlace, placesOk, isStore}
-use Rattle.saved.specs.Calls.{SaveOutcome, saved, saveRule, restorable, restored, RestoreOutcome, restoring, restoreRule}
+use Rattle.saved.specs.Calls.{saved, saveRule, SaveGives, restorable, restored, restoreRule, RestoreGives, OneSave, OneRestore}
 use Rattle.saved.specs.Put.{Put}
+use Rattle.saved.specs.declared.SaveAnswer.{SaveAnswer}
 use Rattle.saved.specs.declared.SaveAnswer.the-variants as SaveAnswer
+use Rattle.saved.specs.declared.RestoreAnswer.{RestoreAnswer}
 use Rattle.saved.specs.declared.RestoreAnswer.the-variants as RestoreAnswer
 use Rattle.saved.proofs.Setups.{fed-fine}
 use Rattle.saved.proofs.Places.{padded-split, cut-length, joined-cut}
@@ -282,47 +284,51 @@ store-saved bytes store n at end {mid} {last} size e f g h z =
 -- ---- the calls
 
 module _ (s : State) (store : List ℕ) where
-  abbrev Saving : SaveOutcome → Type 0
-  Saving o = (o .result ≡ saveRule s store .result) × (o .store ≡ saveRule s store .store)
+  abbrev Saving : SaveAnswer → List ℕ → Type 0
+  Saving a t = SaveGives (saveRule s store) a t
 
-  pub save-impossible : possible s ≡ false → Saving (saved SaveAnswer.BadState store)
-  unfolding saveRule
-  save-impossible e = rw e (refl, refl)
+  gives : (a : SaveAnswer) (t : List ℕ) → SaveGives (saved a t) a t
+  gives a t = record { answer = refl; number = refl; store = refl }
 
-  pub save-unlike : possible s ≡ true → isStore store ≡ false → Saving (saved SaveAnswer.BadStore store)
+  pub save-impossible : possible s ≡ false → Saving SaveAnswer.BadState store
   unfolding saveRule
-  save-unlike e f = rw (e, f) (refl, refl)
+  save-impossible e = rw e (gives SaveAnswer.BadState store)
+
+  pub save-unlike : possible s ≡ true → isStore store ≡ false → Saving SaveAnswer.BadStore store
+  unfolding saveRule
+  save-unlike e f = rw (e, f) (gives SaveAnswer.BadStore store)
 
   module _ (e : possible s ≡ true) (f : isStore store ≡ true) where
-    pub save-over : {n : ℕ} → n ≡ lastNumber store → 65535 ≤ n → Saving (saved SaveAnswer.Full store)
+    pub save-over : {n : ℕ} → n ≡ lastNumber store → 65535 ≤ n → Saving SaveAnswer.Full store
     unfolding saveRule
-    save-over g h = rw (e, f, le-ltb (lastNumber store) lastOfAll (omega (arith, g, h))) (refl, refl)
+    save-over g h = rw (e, f, le-ltb (lastNumber store) lastOfAll (omega (arith, g, h))) (gives SaveAnswer.Full store)
 
     pub save-next : {n : ℕ} {after : List ℕ} → n ≡ lastNumber store → n < 65535 → after ≡ afterSave (setupBytes (s .setup)) store
-        → Saving (saved (SaveAnswer.Saved (n + 1)) after)
+        → Saving (SaveAnswer.Saved (n + 1)) after
     unfolding saveRule
-    save-next {n} {after} g h z = rw (e, f, lt-ltb (lastNumber store) lastOfAll (omega (arith, g, h))) (ap (λ (i : ℕ). SaveAnswer.Saved (i + 1)) g, z)
+    save-next {n} {after} g h z = rw (e, f, lt-ltb (lastNumber store) lastOfAll (omega (arith, g, h)))
+        record { answer = refl; number = ap (λ (i : ℕ). i + 1) g; store = z }
 
 module _ (s : State) (store : List ℕ) (n : ℕ) where
-  abbrev Restoring : RestoreOutcome → Type 0
-  Restoring o = (o .result ≡ restoreRule s store n .result) × (o .state ≡ restoreRule s store n .state)
+  abbrev Restoring : RestoreAnswer → State → Type 0
+  Restoring a t = RestoreGives (restoreRule s store n) (record { answer = a; state = t })
 
-  pub restore-impossible : possible s ≡ false → Restoring (restoring RestoreAnswer.BadState s)
+  pub restore-impossible : possible s ≡ false → Restoring RestoreAnswer.BadState s
   unfolding restoreRule
-  restore-impossible e = rw e (refl, refl)
+  restore-impossible e = rw e record { answer = refl; state = refl }
 
-  pub restore-unlike : possible s ≡ true → isStore store ≡ false → Restoring (restoring RestoreAnswer.BadStore s)
+  pub restore-unlike : possible s ≡ true → isStore store ≡ false → Restoring RestoreAnswer.BadStore s
   unfolding restoreRule
-  restore-unlike e f = rw (e, f) (refl, refl)
+  restore-unlike e f = rw (e, f) record { answer = refl; state = refl }
 
   module _ (e : possible s ≡ true) (f : isStore store ≡ true) where
-    pub restore-none : restorable (lastNumber store) n ≡ false → Restoring (restoring RestoreAnswer.BadNumber s)
+    pub restore-none : restorable (lastNumber store) n ≡ false → Restoring RestoreAnswer.BadNumber s
     unfolding restoreRule
-    restore-none g = rw (e, f, g) (refl, refl)
+    restore-none g = rw (e, f, g) record { answer = refl; state = refl }
 
-    pub restore-some : {t : State} → restorable (lastNumber store) n ≡ true → t ≡ restored (setupOf store n) s → Restoring (restoring RestoreAnswer.Restored t)
+    pub restore-some : {t : State} → restorable (lastNumber store) n ≡ true → t ≡ restored (setupOf store n) s → Restoring RestoreAnswer.Restored t
     unfolding restoreRule
-    restore-some g z = rw (e, f, g) (refl, z)
+    restore-some g z = rw (e, f, g) record { answer = refl; state = z }
 
 -- ---- numbers
 
@@ -339,3 +345,41 @@ module _ (last n : ℕ) where
       by : (t : Bool) → ltb (last - n) 8 ≡ t → t ≡ ltb last (n + 8)
       by true e = let y = ltb-true (last - n) 8 e in sym (lt-ltb last (n + 8) (omega arith))
       by false e = let y = ltb-false (last - n) 8 e in sym (le-ltb last (n + 8) (omega arith))
+
+-- ---- the answers' numbers
+
+pub one-save : OneSave
+one-save (SaveAnswer.Saved n) (SaveAnswer.Saved m) e k = ap SaveAnswer.Saved k
+one-save (SaveAnswer.Saved n) SaveAnswer.BadState e k = absurd (omega (arith, e))
+one-save (SaveAnswer.Saved n) SaveAnswer.BadStore e k = absurd (omega (arith, e))
+one-save (SaveAnswer.Saved n) SaveAnswer.Full e k = absurd (omega (arith, e))
+one-save SaveAnswer.BadState (SaveAnswer.Saved m) e k = absurd (omega (arith, e))
+one-save SaveAnswer.BadState SaveAnswer.BadState e k = refl
+one-save SaveAnswer.BadState SaveAnswer.BadStore e k = absurd (omega (arith, e))
+one-save SaveAnswer.BadState SaveAnswer.Full e k = absurd (omega (arith, e))
+one-save SaveAnswer.BadStore (SaveAnswer.Saved m) e k = absurd (omega (arith, e))
+one-save SaveAnswer.BadStore SaveAnswer.BadState e k = absurd (omega (arith, e))
+one-save SaveAnswer.BadStore SaveAnswer.BadStore e k = refl
+one-save SaveAnswer.BadStore SaveAnswer.Full e k = absurd (omega (arith, e))
+one-save SaveAnswer.Full (SaveAnswer.Saved m) e k = absurd (omega (arith, e))
+one-save SaveAnswer.Full SaveAnswer.BadState e k = absurd (omega (arith, e))
+one-save SaveAnswer.Full SaveAnswer.BadStore e k = absurd (omega (arith, e))
+one-save SaveAnswer.Full SaveAnswer.Full e k = refl
+
+pub one-restore : OneRestore
+one-restore RestoreAnswer.Restored RestoreAnswer.Restored e = refl
+one-restore RestoreAnswer.Restored RestoreAnswer.BadState e = absurd (omega (arith, e))
+one-restore RestoreAnswer.Restored RestoreAnswer.BadStore e = absurd (omega (arith, e))
+one-restore RestoreAnswer.Restored RestoreAnswer.BadNumber e = absurd (omega (arith, e))
+one-restore RestoreAnswer.BadState RestoreAnswer.Restored e = absurd (omega (arith, e))
+one-restore RestoreAnswer.BadState RestoreAnswer.BadState e = refl
+one-restore RestoreAnswer.BadState RestoreAnswer.BadStore e = absurd (omega (arith, e))
+one-restore RestoreAnswer.BadState RestoreAnswer.BadNumber e = absurd (omega (arith, e))
+one-restore RestoreAnswer.BadStore RestoreAnswer.Restored e = absurd (omega (arith, e))
+one-restore RestoreAnswer.BadStore RestoreAnswer.BadState e = absurd (omega (arith, e))
+one-restore RestoreAnswer.BadStore RestoreAnswer.BadStore e = refl
+one-restore RestoreAnswer.BadStore RestoreAnswer.BadNumber e = absurd (omega (arith, e))
+one-restore RestoreAnswer.BadNumber RestoreAnswer.Restored e = absurd (omega (arith, e))
+one-restore RestoreAnswer.BadNumber RestoreAnswer.BadState e = absurd (omega (arith, e))
+one-restore RestoreAnswer.BadNumber RestoreAnswer.BadStore e = absurd (omega (arith, e))
+one-restore RestoreAnswer.BadNumber RestoreAnswer.BadNumber e = refl

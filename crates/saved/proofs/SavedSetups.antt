@@ -91,8 +91,10 @@ module _ (s : State) (store : List ℕ) where
     bad-store = save-bad-store;
     full = save-full;
     done = λ p h n.
-        let e = save-done (p .possible) h n in
-        (ap (λ (o : SaveOutcome). o .result) e, subst (λ (o : SaveOutcome). Leaves (o .store)) (sym e) (after-leaves h p n));
+        let e = save-done (p .possible) h n in (
+          ap (λ (o : SaveOutcome). o .answer) e,
+          (ap (λ (o : SaveOutcome). o .number) e, subst (λ (o : SaveOutcome). Leaves (o .store)) (sym e) (after-leaves h p n)),
+        );
     next = λ p h n. ap (λ (o : SaveOutcome). lastNumber (o .store)) (save-done (p .possible) h n) ∙ after-last h p;
   }
 
@@ -293,7 +295,7 @@ module _ (s t : State) (store : List ℕ) (p : Possible s) (ok : possible t ≡ 
         ap (λ (z : List (List ℕ)). setupIn (getD z (placeOf number) [])) l
         ∙ (ap setupIn (y .held) ∙ place-setup bytes (setup-short (s .setup) (fine s p)))
 
-    back : more ≤ 7 → (restoreRule t end number .result ≡ RestoreAnswer.Restored) × SameSettings (restoreRule t end number .state .setup) (s .setup)
+    back : more ≤ 7 → (restoreRule t end number .answer ≡ 0) × SameSettings (restoreRule t end number .state .setup) (s .setup)
     unfolding restored
     back k =
         let e : restorable (lastNumber end) number ≡ true = both-true (le-leb 1 number (omega arith))
@@ -302,7 +304,7 @@ module _ (s t : State) (store : List ℕ) (p : Possible s) (ok : possible t ≡ 
         restore-done t end number ok good e ∙ ap (λ (b : List ℕ). restoring RestoreAnswer.Restored (restored b t)) (setup-there k) in
         let m = t .core .personality in
         let given-same : SameSettings (fed m bytes) (s .setup) = rw (fed-given m (s .setup) (fine s p)) (setup-same m (s .setup) (fine s p)) in (
-          ap (λ (o : RestoreOutcome). o .result) r,
+          ap (λ (o : RestoreOutcome). o .answer) r,
           subst (λ (o : RestoreOutcome). SameSettings (o .state .setup) (s .setup)) (sym r) (settings-same (fed m bytes) (t .setup) (fed-stops m bytes) given-same),
         )
 

@@ -23,7 +23,8 @@ on = powerOn Personality.Wy50
 -- a set-up with every stop, full keys and full labels
 abbrev pub full : Setup
 full =
-    withLabels (withKeys (withTabs (on .setup) (replicate 132 true)) (replicate 32 (shortText (replicate 8 0x41)))) (replicate 16 (shortText (replicate 8 0x41))) false
+    withLabels (withKeys (withTabs (on .setup) (replicate 132 true)) (replicate 32 (shortText (replicate 8 0x41))))
+    (replicate 16 (shortText (replicate 8 0x41))) false
 
 -- set-ups as bytes: the groups in their order, each ascending by value
 pub record Bytes : Type 0 where
@@ -64,7 +65,8 @@ one = afterSave (0x61 ∷ 0x62 ∷ 0x63 ∷ []) zeros
 
 abbrev pub eight : List ℕ
 eight =
-    afterSave (0x68 ∷ []) (afterSave (0x67 ∷ []) (afterSave (0x66 ∷ []) (afterSave (0x65 ∷ []) (afterSave (0x64 ∷ []) (afterSave (0x63 ∷ []) (afterSave (0x62 ∷ []) one))))))
+    afterSave (0x68 ∷ []) (afterSave (0x67 ∷ []) (afterSave (0x66 ∷ [])
+    (afterSave (0x65 ∷ []) (afterSave (0x64 ∷ []) (afterSave (0x63 ∷ []) (afterSave (0x62 ∷ []) one))))))
 
 abbrev pub nine : List ℕ
 nine = afterSave (0x69 ∷ []) eight

@@ -68,7 +68,7 @@ pub record OfSave (s : State) (store : List ℕ) : Type 0 where
   pub bad-store : possible s ≡ true → isStore store ≡ false → saveRule s store ≡ saved SaveAnswer.BadStore store
   pub full : possible s ≡ true → Leaves store → lastNumber store ≡ lastOfAll → saveRule s store ≡ saved SaveAnswer.Full store
   pub done : Possible s → Leaves store → lastNumber store < lastOfAll
-      → (saveRule s store .result ≡ SaveAnswer.Saved (lastNumber store + 1)) × Leaves (saveRule s store .store)
+      → (saveRule s store .answer ≡ 0) × ((saveRule s store .number ≡ lastNumber store + 1) × Leaves (saveRule s store .store))
   pub next : Possible s → Leaves store → lastNumber store < lastOfAll → lastNumber (saveRule s store .store) ≡ lastNumber store + 1
 
 -- of a restore: its refusals, each leaving the state; and whatever it answers, what it leaves
@@ -83,7 +83,7 @@ pub record OfRestore (s : State) (store : List ℕ) (n : ℕ) : Type 0 where
 -- of a save of s and a restore of its number into t, `more` saves later: up to seven, and the settings of s are back; from eight on the number is
 -- refused
 pub record OfBoth (s t : State) (store : List ℕ) (more : ℕ) (later : List ℕ) : Type 0 where
-  pub back : more ≤ 7 → (restoreRule t later (lastNumber store + 1) .result ≡ RestoreAnswer.Restored)
+  pub back : more ≤ 7 → (restoreRule t later (lastNumber store + 1) .answer ≡ 0)
       × SameSettings (restoreRule t later (lastNumber store + 1) .state .setup) (s .setup)
   pub gone : 8 ≤ more → restoreRule t later (lastNumber store + 1) ≡ restoring RestoreAnswer.BadNumber t
 

@@ -24,7 +24,8 @@ pub record SameSettings (u v : Setup) : Type 0 where
 -- the settings of v, and all else of u
 unfoldable pub withSettings : Setup → Setup → Setup
 withSettings v u =
-    withLabels (withKeys (withFeatures (withAttributes (withTabs u (take addressed (v .tabs) ++ drop addressed (u .tabs))) (v .attributes)) (v .features))
+    withLabels (withKeys (withFeatures (withAttributes (withTabs u (take addressed (v .tabs) ++ drop addressed (u .tabs))) (v .attributes))
+    (v .features))
     (v .keys)) (v .labels) (u .shifted)
 
 abbrev pub withSetup : State → Setup → State

@@ -5,13 +5,14 @@ ghost use mathlib.Core.List.{[], _∷_};
 ghost use Prim.Native.Nat.{_+_, _<_, _≤_};
 ghost use lib.ListN.{length, take};
 ghost use Rattle.rules.specs.Slot.{textsOk};
-ghost use Rattle.saved.specs.SetupBytes.{stopBytes, byCode, featureBytes, attributeBytes, textBytes, keyValue, labelValue, keysBytes, labelsBytes, setupBytes};
+ghost use Rattle.saved.specs.SetupBytes.{stopBytes, byCode, featureBytes, attributeBytes, textBytes, keyValue, labelValue, keysBytes};
+ghost use Rattle.saved.specs.SetupBytes.{labelsBytes, setupBytes};
 ghost use Rattle.saved.specs.Put.{Put};
 use rules::Setup;
 use rules::ShortText;
 
 // Bytes from the place `start` on; the place behind them.
-pub fn put(out: &mut [u8], start: usize, bytes: &[u8]) -> usize
+pub(crate) fn put(out: &mut [u8], start: usize, bytes: &[u8]) -> usize
     requires { ⌜ start + length (now bytes) ≤ length (now out) ⌝ }
     ensures { λ r. ⌜ Put start (now (bytes .entry)) (now (out .entry)) r (now (out .exit)) ⌝ }
 {
@@ -135,7 +136,7 @@ fn put_labels(out: &mut [u8], start: usize, labels: [ShortText; 16]) -> usize
 }
 
 // The bytes of a set-up at the front of a slice; how many there are.
-pub fn encode(u: Setup, out: &mut [u8]) -> usize
+pub(crate) fn encode(u: Setup, out: &mut [u8]) -> usize
     requires { ⌜ ((textsOk 0 (u .keys) ≡ true) × (textsOk 0x20 (u .labels) ≡ true)) × (1087 ≤ length (now out)) ⌝ }
     ensures { λ r. ⌜ Put 0 (setupBytes u) (now (out .entry)) r (now (out .exit)) × (r ≤ 1087) ⌝ }
 {

@@ -54,7 +54,7 @@ fn setup_after(m: Personality, bytes: &[u8]) -> Setup
 }
 
 // Whether bytes are those of a possible set-up.
-pub fn is_setup(bytes: &[u8]) -> bool
+pub(crate) fn is_setup(bytes: &[u8]) -> bool
     ensures { λ r. ⌜ r ≡ isSetup (now (bytes .entry)) ⌝ }
 {
     let u = setup_after(Personality::Wy50, bytes);
@@ -94,7 +94,7 @@ fn with_settings_of(v: Setup, u: Setup) -> Setup
 }
 
 // A set-up with the settings that the bytes give a terminal of a personality.
-pub fn with_settings(m: Personality, bytes: &[u8], u: Setup) -> Setup
+pub(crate) fn with_settings(m: Personality, bytes: &[u8], u: Setup) -> Setup
     ensures { λ r. ⌜ r ≡ withSettings (fed m (now (bytes .entry))) u ⌝ }
 {
     let v = setup_after(m, bytes);

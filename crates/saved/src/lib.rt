@@ -4,8 +4,7 @@ mod bytes; // a set-up as bytes
 mod feeding; // bytes fed to a terminal
 mod store; // the store and its places
 
-ghost use mathlib.Core.Path.{_≡_};
-ghost use Rattle.saved.specs.Calls.{saveRule, restoreRule, RestoreOutcome};
+ghost use Rattle.saved.specs.Calls.{saveRule, restoreRule, SaveGives, RestoreGives};
 use rules::State;
 use state::possible::possible;
 use store::is_restorable;
@@ -38,7 +37,7 @@ pub struct RestoreResult {
 // Saves the set-up of a state under the next number. Ruled out: one that writes to a store that it refuses, or leaves bytes of an older set-up
 // behind a shorter one.
 pub fn save(state: State, store: &mut [u8]) -> SaveAnswer
-    ensures { λ r. ⌜ (r ≡ saveRule state (now (store .entry)) .result) × (now (store .exit) ≡ saveRule state (now (store .entry)) .store) ⌝ }
+    ensures { λ r. ⌜ SaveGives (saveRule state (now (store .entry))) r (now (store .exit)) ⌝ }
 {
     if !possible(state) {
         return SaveAnswer::BadState;
@@ -57,7 +56,7 @@ pub fn save(state: State, store: &mut [u8]) -> SaveAnswer
 
 // Restores the settings saved under a number. Ruled out: one that takes number 0, or touches more than the settings.
 pub fn restore(state: State, store: &[u8], number: u16) -> RestoreResult
-    ensures { λ r. ⌜ (r .answer ≡ restoreRule state (now (store .entry)) number .result) × (r .state ≡ restoreRule state (now (store .entry)) number .state) ⌝ }
+    ensures { λ r. ⌜ RestoreGives (restoreRule state (now (store .entry)) number) r ⌝ }
 {
     if !possible(state) {
         return RestoreResult {

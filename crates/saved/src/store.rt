@@ -7,7 +7,8 @@ ghost use lib.ListN.{length, drop};
 ghost use Rattle.rules.specs.Cell.{pick};
 ghost use Rattle.rules.specs.Slot.{textsOk};
 ghost use Rattle.saved.specs.SetupBytes.{setupBytes};
-ghost use Rattle.saved.specs.Store.{twoBytes, twoAt, places, placeOf, place, lastNumber, setupIn, setupOf, afterSave, allZero, isPlace, isStore};
+ghost use Rattle.saved.specs.Store.{twoBytes, twoAt, places, placeOf, place, lastNumber, setupIn, setupOf, afterSave, allZero, isPlace};
+ghost use Rattle.saved.specs.Store.{isStore};
 ghost use Rattle.saved.specs.Settings.{fed, withSettings};
 ghost use Rattle.saved.specs.Calls.{restorable, restored};
 use crate::bytes::encode;
@@ -82,7 +83,7 @@ fn is_used(p: &[u8], used: bool) -> bool
 }
 
 // Whether saves could leave the store.
-pub fn is_store(store: &[u8]) -> bool
+pub(crate) fn is_store(store: &[u8]) -> bool
     ensures { λ r. ⌜ r ≡ isStore (now (store .entry)) ⌝ }
 {
     if store.len() != 8714 {
@@ -101,7 +102,7 @@ pub fn is_store(store: &[u8]) -> bool
     true
 }
 
-pub fn last_number(store: &[u8]) -> u16
+pub(crate) fn last_number(store: &[u8]) -> u16
     requires { ⌜ isStore (now store) ≡ true ⌝ }
     ensures { λ r. ⌜ r ≡ lastNumber (now (store .entry)) ⌝ }
 {
@@ -109,7 +110,7 @@ pub fn last_number(store: &[u8]) -> u16
 }
 
 // Whether a number is one of the last eight.
-pub fn is_restorable(last: u16, n: u16) -> bool
+pub(crate) fn is_restorable(last: u16, n: u16) -> bool
     ensures { λ r. ⌜ r ≡ restorable last n ⌝ }
 {
     if n < 1 {
@@ -131,7 +132,7 @@ fn write_place(p: &mut [u8], len: u16, bytes: &[u8])
 }
 
 // The set-up under the next number, n.
-pub fn save_as(u: Setup, store: &mut [u8], n: u16)
+pub(crate) fn save_as(u: Setup, store: &mut [u8], n: u16)
     requires { ⌜ ((textsOk 0 (u .keys) ≡ true) × (textsOk 0x20 (u .labels) ≡ true)) × ((length (now store) ≡ 8714) × (n ≡ lastNumber (now store) + 1)) ⌝ }
     ensures { λ r. ⌜ now (store .exit) ≡ afterSave (setupBytes u) (now (store .entry)) ⌝ }
 {
@@ -153,7 +154,7 @@ fn restore_place(p: &[u8], m: Personality, u: Setup) -> Setup
 }
 
 // The state with the settings saved under a number.
-pub fn restore_from(state: State, store: &[u8], n: u16) -> State
+pub(crate) fn restore_from(state: State, store: &[u8], n: u16) -> State
     requires { ⌜ (isStore (now store) ≡ true) × (restorable (lastNumber (now store)) n ≡ true) ⌝ }
     ensures { λ r. ⌜ r ≡ restored (setupOf (now (store .entry)) n) state ⌝ }
 {

@@ -29,8 +29,8 @@ session-made-is : {x : Kept} {c : SessionCall} {r : SessionCalled} → SessionMa
 unfolding sessionRule
 session-made-is {x} (terminal m) =
     ap (λ (r : RowCalled). record { told = Heard (r .called .given); kept = record { terminal = left r; store = x .store } }) (row-made-is m)
-session-made-is (saved e f) = cc (e, f)
-session-made-is (restored e f) = cc (e, f)
+session-made-is (saved g) = let e = g .answer in let f = g .number in let h = g .store in cc (e, f, h)
+session-made-is (restored g) = let e = g .answer in let f = g .state in cc (e, f)
 
 session-performed-is : {x : Kept} {cs : List SessionCall} {r : SessionPlayed} → SessionPerformed x cs r → sessionPlay cs x ≡ r
 unfolding sessionPlay

@@ -140,8 +140,8 @@ heard g = by (g .told)
   where
     by : Told → Given
     by (Heard r) = r
-    by (Saved a) = record { answer = 0; counts = []; reply = []; rest = []; state = g .state }
-    by (Restored a) = record { answer = 0; counts = []; reply = []; rest = []; state = g .state }
+    by (Saved n m) = record { answer = 0; counts = []; reply = []; rest = []; state = g .state }
+    by (Restored n) = record { answer = 0; counts = []; reply = []; rest = []; state = g .state }
 
 record AsRows (cs : List RowCall) (x : Session) (store : List ℕ) : Type 0 where
   given : map heard (sessionPlay (map Terminal cs) (record { terminal = x; store = store }) .given) ≡ rowPlay cs x .given

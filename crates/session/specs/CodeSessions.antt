@@ -10,23 +10,26 @@ use Rattle.rules.specs.Noninterference.{AlikePages, revealing}
 use Rattle.terminal.specs.RowNoninterference.{RowMade}
 use Rattle.saved.specs.declared.SaveAnswer.{SaveAnswer}
 use Rattle.saved.specs.declared.RestoreResult.{RestoreResult}
-use Rattle.saved.specs.Calls.{saveRule, restoreRule}
-use Rattle.session.specs.Sessions.{SessionCall, Terminal, Save, Restore, Kept, start, Heard, Saved, Restored, SessionCalled, SessionPlayed, sessionAfter, sessionCompleted, SessionIndistinguishable, Act, callOf, handedBack, leftOf, StreamPlayed, callsOf, StreamIndistinguishable}
+use Rattle.saved.specs.Calls.{saveNumber, savedAs, saveRule, SaveGives, restoreNumber, restoreRule, RestoreGives}
+use Rattle.session.specs.Sessions.{SessionCall, Terminal, Save, Restore, Kept, start, Heard, Saved, Restored, SessionCalled, SessionPlayed}
+use Rattle.session.specs.Sessions.{sessionAfter, sessionCompleted, SessionIndistinguishable, Act, callOf, handedBack, leftOf, StreamPlayed}
+use Rattle.session.specs.Sessions.{callsOf, StreamIndistinguishable}
 
 -- a call that was made on x: what it told and left is as it promises
 pub data SessionMade (x : Kept) : SessionCall → SessionCalled → Type 0 where
   terminal : {c : RowCall} {g : Given} {p′ l′ : List ℕ} → RowMade (x .terminal) c g p′ l′
       → SessionMade x (Terminal c) (record { told = Heard g; kept = start p′ l′ (g .state) (x .store) })
-  saved : {r : SaveAnswer} {store′ : List ℕ} → r ≡ saveRule (x .terminal .state) (x .store) .result → store′ ≡ saveRule (x .terminal .state) (x .store) .store
-      → SessionMade x Save (record { told = Saved r; kept = record { terminal = x .terminal; store = store′ } })
-  restored : {n : ℕ} {r : RestoreResult} → r .answer ≡ restoreRule (x .terminal .state) (x .store) n .result
-      → r .state ≡ restoreRule (x .terminal .state) (x .store) n .state
-      → SessionMade x (Restore n) (record { told = Restored (r .answer); kept = start (x .terminal .page) (x .terminal .rows) (r .state) (x .store) })
+  saved : {a : SaveAnswer} {store′ : List ℕ} → SaveGives (saveRule (x .terminal .state) (x .store)) a store′
+      → SessionMade x Save (record { told = Saved (saveNumber a) (savedAs a); kept = record { terminal = x .terminal; store = store′ } })
+  restored : {n : ℕ} {r : RestoreResult} → RestoreGives (restoreRule (x .terminal .state) (x .store) n) r
+      → SessionMade x (Restore n)
+      (record { told = Restored (restoreNumber (r .answer)); kept = start (x .terminal .page) (x .terminal .rows) (r .state) (x .store) })
 
 -- calls, each made on what the last one left
 pub data SessionPerformed : Kept → List SessionCall → SessionPlayed → Type 0 where
   none : {x : Kept} → SessionPerformed x [] (record { given = []; kept = x })
-  next : {x : Kept} {c : SessionCall} {cs : List SessionCall} {r : SessionCalled} {t : SessionPlayed} → SessionMade x c r → SessionPerformed (r .kept) cs t
+  next : {x : Kept} {c : SessionCall} {cs : List SessionCall} {r : SessionCalled} {t : SessionPlayed} → SessionMade x c r
+      → SessionPerformed (r .kept) cs t
       → SessionPerformed x (c ∷ cs) (sessionAfter r t)
 
 -- acts over a stream, what is left of it by what each call told
@@ -38,7 +41,8 @@ pub data StreamPerformed : Kept → List ℕ → List Act → StreamPlayed → T
 
 abbrev pub CodeSessionDemand3 : Type 0
 CodeSessionDemand3 =
-    (p q l store : List ℕ) (s : State) (calls : List SessionCall) (a b : SessionPlayed) → s .core .modes .protect ≡ true → revealing (s .sending) ≡ false
+    (p q l store : List ℕ) (s : State) (calls : List SessionCall) (a b : SessionPlayed) → s .core .modes .protect ≡ true
+    → revealing (s .sending) ≡ false
     → AlikePages p q → sessionCompleted calls (start p l s store) ≡ false
     → SessionPerformed (start p l s store) calls a → SessionPerformed (start q l s store) calls b → SessionIndistinguishable p q a b
 

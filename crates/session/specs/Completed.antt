@@ -60,7 +60,8 @@ pub record NoneCompleted : Type 0 where
   -- any calls from a page and a state that are not good, whatever list and store
   pub bad : (p l store : List ℕ) (s : State) (calls : List SessionCall) → good p s ≡ false → sessionCompleted calls (start p l s store) ≡ false
   -- calls put together
-  pub together : (calls more : List SessionCall) (x : Kept) → sessionCompleted calls x ≡ false → sessionCompleted more (sessionPlay calls x .kept) ≡ false
+  pub together : (calls more : List SessionCall) (x : Kept) → sessionCompleted calls x ≡ false
+      → sessionCompleted more (sessionPlay calls x .kept) ≡ false
       → sessionCompleted (calls ++ more) x ≡ false
 
 -- "Starts as in demand 3", impossible ones too: from a page and a state that are not good any calls agree, whatever list and store

@@ -8,9 +8,11 @@ use Rattle.rules.specs.declared.State.{State}
 use Rattle.rules.specs.Cell.{pick}
 use Rattle.rules.specs.Step.{stepRule}
 use Rattle.rules.specs.Calls.{Step, Run, Press, runRule}
-use Rattle.rules.specs.RowCalls.{stepRowsRule, runRowsRule, nextRowsRule, Session, RowCall, Bare, ListStep, ListRun, Next, Rebuild, handed, rowCallRule, RowDemand3}
+use Rattle.rules.specs.RowCalls.{stepRowsRule, runRowsRule, nextRowsRule, Session, RowCall, Bare, ListStep, ListRun, Next, Rebuild, handed}
+use Rattle.rules.specs.RowCalls.{rowCallRule, RowDemand3}
 use Rattle.saved.specs.Calls.{saveRule, restoreRule}
-use Rattle.session.specs.Sessions.{SessionCall, Terminal, Save, Restore, Kept, start, Heard, Saved, Restored, sessionRule, sessionPlay, handedBack, SessionDemand3}
+use Rattle.session.specs.Sessions.{SessionCall, Terminal, Save, Restore, Kept, start, Heard, Saved, Restored, sessionRule, sessionPlay}
+use Rattle.session.specs.Sessions.{handedBack, SessionDemand3}
 
 -- each call's answer is the one that its rules give, and with it stand the state, the list and the store after it
 pub record GivenBack (p l : List ℕ) (s : State) (store : List ℕ) : Type 0 where
@@ -22,13 +24,13 @@ pub record GivenBack (p l : List ℕ) (s : State) (store : List ℕ) : Type 0 wh
       }
   pub save : let r = saveRule s store in
       sessionPlay (Save ∷ []) (start p l s store) ≡ record {
-        given = record { told = Saved (r .result); state = s; rows = l; store = r .store } ∷ [];
+        given = record { told = Saved (r .answer) (r .number); state = s; rows = l; store = r .store } ∷ [];
         kept = start p l s (r .store);
       }
   pub restore : (n : ℕ)
       → let r = restoreRule s store n in
       sessionPlay (Restore n ∷ []) (start p l s store) ≡ record {
-        given = record { told = Restored (r .result); state = r .state; rows = l; store = store } ∷ [];
+        given = record { told = Restored (r .answer); state = r .state; rows = l; store = store } ∷ [];
         kept = start p l (r .state) store;
       }
 
@@ -50,7 +52,8 @@ pub record HandedBack (x : Session) (store : List ℕ) : Type 0 where
       handedBack c (sessionRule (record { terminal = x; store = store }) c .told) ≡ runRowsRule (x .page) (x .rows) (x .state) bytes room .rest
   pub next : (with : Bool) (bytes : List ℕ) (room : ℕ) → let c = Terminal (Next with bytes room) in
       handedBack c (sessionRule (record { terminal = x; store = store }) c .told) ≡ nextRowsRule (x .page) (handed with x) (x .state) bytes room .rest
-  pub press : (v room : ℕ) → let c = Terminal (Bare (Press v room)) in handedBack c (sessionRule (record { terminal = x; store = store }) c .told) ≡ []
+  pub press : (v room : ℕ)
+      → let c = Terminal (Bare (Press v room)) in handedBack c (sessionRule (record { terminal = x; store = store }) c .told) ≡ []
   pub rebuild : let c = Terminal Rebuild in handedBack c (sessionRule (record { terminal = x; store = store }) c .told) ≡ []
   pub save : handedBack Save (sessionRule (record { terminal = x; store = store }) Save .told) ≡ []
   pub restore : (n : ℕ) → handedBack (Restore n) (sessionRule (record { terminal = x; store = store }) (Restore n) .told) ≡ []

@@ -6,7 +6,8 @@ use mathlib.Core.List.{List, [], _∷_, _++_}
 use Prim.Native.Nat.{ℕ}
 use Rattle.rules.specs.declared.State.{State}
 use Rattle.rules.specs.Noninterference.{AlikePages, revealing}
-use Rattle.session.specs.Sessions.{SessionCall, Kept, start, sessionRule, sessionPlay, sessionCompleted, SessionIndistinguishable, SessionDemand3, Act, hostBytes, handedBack, streamPlay, callsOf, StreamDemand3}
+use Rattle.session.specs.Sessions.{SessionCall, Kept, start, sessionRule, sessionPlay, sessionCompleted, SessionIndistinguishable}
+use Rattle.session.specs.Sessions.{SessionDemand3, Act, hostBytes, handedBack, streamPlay, callsOf, StreamDemand3}
 
 -- owed is what calls handed back and no call was handed since. A call over host bytes is handed all of it and then new bytes, or a part of it, and
 -- then owed is what it hands back and behind that the part it was not handed; a call over none leaves it
@@ -34,7 +35,8 @@ pub record SayTheSame : Type 0 where
   -- what acts over a stream give back and leave is what their calls do
   pub played : (acts : List Act) (stream : List ℕ) (x : Kept) → streamPlay acts stream x .session ≡ sessionPlay (callsOf acts stream x) x
   -- these are the same calls in both terminals
-  pub same-calls : (p q l store stream : List ℕ) (s : State) (acts : List Act) → s .core .modes .protect ≡ true → revealing (s .sending) ≡ false → AlikePages p q
+  pub same-calls : (p q l store stream : List ℕ) (s : State) (acts : List Act) → s .core .modes .protect ≡ true → revealing (s .sending) ≡ false
+      → AlikePages p q
       → sessionCompleted (callsOf acts stream (start p l s store)) (start p l s store) ≡ false
       → callsOf acts stream (start p l s store) ≡ callsOf acts stream (start q l s store)
   -- which lists of calls they are: what is handed back comes first

@@ -10,8 +10,6 @@ use Rattle.rules.specs.Cell.{pick, either}
 use Rattle.rules.specs.Calls.{Step, Run, Press, Given}
 use Rattle.rules.specs.RowCalls.{Session, RowCall, Bare, ListStep, ListRun, Next, Rebuild, left, rowCallRule, bareCall}
 use Rattle.rules.specs.Noninterference.{AlikePages, KeptPages, revealing, anyCompleted}
-use Rattle.saved.specs.declared.SaveAnswer.{SaveAnswer}
-use Rattle.saved.specs.declared.RestoreAnswer.{RestoreAnswer}
 use Rattle.saved.specs.Calls.{saveRule, restoreRule}
 
 -- a call of the terminal, that is a step, a run, `next`, a key press, a form with the row list or the rebuild, with a room of any length ("narrow
@@ -33,8 +31,8 @@ start p l s store = record { terminal = record { page = p; rows = l; state = s }
 -- the number saved; of a restore the answer
 pub data Told : Type 0 where
   Heard : Given → Told
-  Saved : SaveAnswer → Told
-  Restored : RestoreAnswer → Told
+  Saved : ℕ → ℕ → Told
+  Restored : ℕ → Told
 
 pub record SessionCalled : Type 0 where
   pub told : Told
@@ -45,10 +43,11 @@ unfoldable pub sessionRule : Kept → SessionCall → SessionCalled
 sessionRule x (Terminal c) =
     let r = rowCallRule (x .terminal) c in record { told = Heard (r .called .given); kept = record { terminal = left r; store = x .store } }
 sessionRule x Save =
-    let r = saveRule (x .terminal .state) (x .store) in record { told = Saved (r .result); kept = record { terminal = x .terminal; store = r .store } }
+    let r = saveRule (x .terminal .state) (x .store) in
+    record { told = Saved (r .answer) (r .number); kept = record { terminal = x .terminal; store = r .store } }
 sessionRule x (Restore n) =
     let r = restoreRule (x .terminal .state) (x .store) n in
-    record { told = Restored (r .result); kept = start (x .terminal .page) (x .terminal .rows) (r .state) (x .store) }
+    record { told = Restored (r .answer); kept = start (x .terminal .page) (x .terminal .rows) (r .state) (x .store) }
 
 -- "everything given back": what a call tells, and the state, the list and the store after it
 pub record SessionGiven : Type 0 where
@@ -142,8 +141,8 @@ hostBytes (Restore n) = []
 
 abbrev pub takenBy : Told → ℕ
 takenBy (Heard g) = getD (g .counts) 0 0
-takenBy (Saved r) = 0
-takenBy (Restored r) = 0
+takenBy (Saved n m) = 0
+takenBy (Restored n) = 0
 
 abbrev pub handedBack : SessionCall → Told → List ℕ
 handedBack c t = drop (takenBy t) (hostBytes c)

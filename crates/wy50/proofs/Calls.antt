@@ -1,11 +1,13 @@
 -- The exported calls, from the promises of the terminal's: refused where the numbers name no state, else the terminal's, in numbers.
 --     named-bells     a bell count that is named is below 256
+--     packed-is     the numbers of a state that a call leaves
 --     powered-on, stepped, numbered, completed, sent     the terminal's, in numbers
+--     possible-unnamed, possible-named, cursor-none, cursor-is     the place of the cursor
 --     power-on-refused     a number that is no personality
 --     nothing-done, step-refused, run-refused, press-refused     a bad call
 --     step-seven, run-seven     a 7 of the terminal's gives the numbers back as they were
 -- Assumes nothing.
-use mathlib.Core.Path.{_≡_, refl, sym, ap, _∙_}
+use mathlib.Core.Path.{_≡_, refl, sym, ap, ap₂, _∙_}
 use mathlib.Core.Bool.{Bool, true, false}
 use mathlib.Core.List.{List, [], _∷_}
 use Prim.Native.Nat.{ℕ, _-_, _<_}
@@ -16,6 +18,7 @@ use lib.ListN.{length}
 use Rattle.rules.specs.declared.Core.{Core}
 use Rattle.rules.specs.declared.State.{State}
 use Rattle.rules.specs.declared.PowerOn.{PowerOn}
+use Rattle.rules.specs.declared.Position.{Position}
 use Rattle.rules.specs.declared.Personality.{Personality}
 use Rattle.rules.specs.declared.Personality.the-variants as Personality
 use Rattle.rules.specs.declared.StepResult.{StepResult}
@@ -23,9 +26,10 @@ use Rattle.rules.specs.declared.RunResult.{RunResult}
 use Rattle.rules.specs.declared.PressResult.{PressResult}
 use Rattle.rules.specs.Cell.{both}
 use Rattle.rules.specs.Room.{over}
-use Rattle.rules.specs.State.{number, sends}
+use Rattle.rules.specs.State.{number, sends, pageLength, cursorOf}
 use Rattle.rules.specs.Step.{Outcome, goesOn, stepInside, stepRule}
-use Rattle.rules.specs.Possible.{powerOn, good}
+use Rattle.rules.specs.Possible.{powerOn, possible, good}
+use Rattle.rules.specs.Fields.{positionRule}
 use Rattle.rules.specs.Carry.{Effect}
 use Rattle.rules.specs.Calls.{Ran, joined, repeated, behind, runInside, powerOnRule, runRule, pressRule}
 use Rattle.rules.proofs.Tests.{pick-if, among-parts}
@@ -33,9 +37,10 @@ use Rattle.rules.proofs.Kept.{possible-parts, good-parts}
 use Rattle.rules.proofs.Left.{Ended, ends, clears, keeps, inner-ends}
 use Rattle.state.proofs.Tests.{both-left, both-right}
 use Rattle.terminal.specs.Promise as terminal
+use Rattle.wy50.specs.declared.raw.RawSequence.{RawSequence}
 use Rattle.wy50.specs.declared.raw.RawState.{RawState}
-use Rattle.wy50.specs.Raw.{allBelow, flag, isPersonality, personalityAt, areFlags, isSequence, isSending, packed, unpacked, named}
-use Rattle.wy50.specs.Promise.{rawGood, rawPowerOn, rawStep, rawRan, badRun, rawRun, rawPress, PoweredOn, Stepped, Completed, Sent}
+use Rattle.wy50.specs.Raw.{allBelow, flag, isPersonality, personalityAt, areFlags, sequenceOf, gatheredIn, blanked, laidOver, isSequence, isSending, numbers, packed, unpacked, named}
+use Rattle.wy50.specs.Promise.{rawGood, rawPossible, rawCursor, freshNumbers, rawPowerOn, rawStep, rawRan, badRun, rawRun, rawPress, PoweredOn, Stepped, Completed, Sent}
 
 pub named-bells : (x : RawState) → named x ≡ true → x .bells < 256
 unfolding named
@@ -98,10 +103,34 @@ pub raw-good : (p : List ℕ) (x : RawState) {t : Bool} → named x ≡ true →
 unfolding rawGood
 raw-good p x on g = rw (on, g)
 
+-- the numbers of a state that a call leaves, from their parts
+pub packed-is : (x : RawState) (s : State) {q : RawSequence} {n m : ℕ} {g : List ℕ} {r : RawState} → q ≡ sequenceOf (s .core .pending) → n ≡ gatheredIn q
+    → m ≡ gatheredIn (x .sequence) → g ≡ laidOver n (s .gathered) (blanked m (x .gathered)) → r ≡ numbers g s → r ≡ packed x s
+packed-is x s a b c d e = e ∙ ap (λ (t : List ℕ). numbers t s) (d ∙ rw (b ∙ ap gatheredIn a, c))
+
+-- ---- the cursor
+
+pub possible-unnamed : (x : RawState) → named x ≡ false → false ≡ rawPossible x
+unfolding rawPossible
+possible-unnamed x off = rw off
+
+pub possible-named : (x : RawState) {s : State} {t : Bool} → named x ≡ true → s ≡ unpacked x → t ≡ possible s → t ≡ rawPossible x
+unfolding rawPossible
+possible-named x on e f = f ∙ rw (on, e)
+
+pub cursor-none : (x : RawState) → rawPossible x ≡ false → record { answer = 7; row = 0; column = 0 } ≡ rawCursor x
+unfolding rawCursor
+cursor-none x e = rw e
+
+pub cursor-is : (x : RawState) {n at : ℕ} {r : Position} → r ≡ positionRule n at → rawPossible x ≡ true → n ≡ pageLength (unpacked x .core .screen)
+    → at ≡ cursorOf (unpacked x .core .screen) → r ≡ rawCursor x
+unfolding rawCursor
+cursor-is x h e f g = h ∙ (ap₂ positionRule f g ∙ rw e)
+
 -- ---- the calls
 
 -- a number that is no personality
-pub power-on-refused : (m : ℕ) (p : List ℕ) {s : State} {y : RawState} → isPersonality m ≡ false → s ≡ powerOn Personality.Wy50 → y ≡ packed s
+pub power-on-refused : (m : ℕ) (p : List ℕ) {s : State} {y : RawState} → isPersonality m ≡ false → s ≡ powerOn Personality.Wy50 → y ≡ freshNumbers s
     → PoweredOn (rawPowerOn m p) (record { answer = 7; state = y }) p
 unfolding rawPowerOn
 power-on-refused m p off e s = rw off (record { answer = refl; state = rw (s, e); page = refl })
@@ -109,14 +138,14 @@ power-on-refused m p off e s = rw off (record { answer = refl; state = rw (s, e)
 -- n and y are the numbers of the answer and of the state
 module _ {n : ℕ} {y : RawState} where
   pub powered-on : (m : ℕ) (p : List ℕ) {k : Personality} {t : PowerOn} {p′ : List ℕ} → isPersonality m ≡ true → k ≡ personalityAt m
-      → terminal.PoweredOn (powerOnRule k p) t p′ → n ≡ number (t .answer) → y ≡ packed (t .state)
+      → terminal.PoweredOn (powerOnRule k p) t p′ → n ≡ number (t .answer) → y ≡ freshNumbers (t .state)
       → PoweredOn (rawPowerOn m p) (record { answer = n; state = y }) p′
   unfolding rawPowerOn
   powered-on m p on e h a s = rw (on, ← e) (record { answer = a ∙ h .answer; state = rw (s, h .state); page = h .page })
 
   pub stepped : (p : List ℕ) (x : RawState) (b : ℕ) (w : List ℕ) {k : ℕ} {s : State} {t : StepResult} {p′ w′ : List ℕ} → named x ≡ true
       → s ≡ unpacked x → terminal.Stepped (stepRule p s b (length w)) t p′ w w′ → n ≡ number (t .answer) → (n ≡ 7 → ⊥) → k ≡ flag (t .taken)
-      → y ≡ packed (t .state) → Stepped (rawStep p x b (length w)) (record { answer = n; taken = k; replied = t .replied; state = y }) p′ w w′
+      → y ≡ packed x (t .state) → Stepped (rawStep p x b (length w)) (record { answer = n; taken = k; replied = t .replied; state = y }) p′ w w′
   unfolding rawStep
   stepped p x b w {s = s} on e h a z f v =
       let g : good p s ≡ true = not-bad (good p s) (λ k. z (a ∙ h .answer ∙ bad-seven p s b (length w) k)) in
@@ -132,15 +161,15 @@ module _ {n : ℕ} {y : RawState} where
       })
 
   -- a run of the terminal's
-  pub numbered : {o : Ran} {t : RunResult} {l p′ w w′ : List ℕ} → terminal.Completed o t l p′ w w′ → n ≡ number (t .answer) → y ≡ packed (t .state)
-      → Completed (rawRan o) (record { answer = n; taken = t .taken; replied = t .replied; refused = t .refused; state = y }) l p′ w w′
-  numbered h a v = record {
+  pub numbered : (x : RawState) {o : Ran} {t : RunResult} {l p′ w w′ : List ℕ} → terminal.Completed o t l p′ w w′ → n ≡ number (t .answer)
+      → y ≡ packed x (t .state) → Completed (rawRan x o) (record { answer = n; taken = t .taken; replied = t .replied; refused = t .refused; state = y }) l p′ w w′
+  numbered x h a v = record {
     answer = a ∙ h .answer;
     taken = h .taken;
     replied = h .replied;
     refused = h .refused;
     rest = h .rest;
-    state = v ∙ ap packed (h .state);
+    state = v ∙ ap (packed x) (h .state);
     page = h .page;
     room = h .room;
     fits = h .fits;
@@ -148,12 +177,12 @@ module _ {n : ℕ} {y : RawState} where
   }
 
   pub completed : (p : List ℕ) (x : RawState) (l w : List ℕ) {s : State} {t : RunResult} {p′ w′ : List ℕ} → named x ≡ true → s ≡ unpacked x
-      → terminal.Completed (runRule p s l (length w)) t l p′ w w′ → n ≡ number (t .answer) → (n ≡ 7 → ⊥) → y ≡ packed (t .state)
+      → terminal.Completed (runRule p s l (length w)) t l p′ w w′ → n ≡ number (t .answer) → (n ≡ 7 → ⊥) → y ≡ packed x (t .state)
       → Completed (rawRun p x l (length w)) (record { answer = n; taken = t .taken; replied = t .replied; refused = t .refused; state = y }) l p′ w w′
   unfolding rawRun
   completed p x l w {s} on e h a z v =
       let g : good p s ≡ true = not-bad (good p s) (λ k. z (a ∙ h .answer ∙ bad-run-seven p s l (length w) k)) in
-      rw (raw-good p x on (ap (good p) (sym e) ∙ g), ← e) (numbered h a v)
+      rw (raw-good p x on (ap (good p) (sym e) ∙ g), ← e) (numbered x h a v)
 
 pub sent : (p : List ℕ) (x : RawState) (v : ℕ) (w : List ℕ) {n : ℕ} {s : State} {t : PressResult} {w′ : List ℕ} → named x ≡ true → s ≡ unpacked x
     → terminal.KeySent (pressRule p s v (length w)) t w w′ → n ≡ number (t .answer)

@@ -32,8 +32,8 @@ module _ (p : List ℕ) (x : RawState) (t : List ℕ) where
     unfolding rawConvert
     turns-refused f = rw (on, ← number-is, ne-eqb k 0 f) (record { answer = refl; target = target-is; state = refl })
 
-    pub turns-done : {y : RawState} → k ≡ 0 → y ≡ packed (r .state) → Turns (rawConvert p x t) (record { answer = 0; state = y }) q
+    pub turns-done : {y : RawState} → k ≡ 0 → y ≡ packed x (r .state) → Turns (rawConvert p x t) (record { answer = 0; state = y }) q
     unfolding rawConvert
     turns-done {y} f v =
         rw (on, ← number-is, f)
-        (record { answer = refl; target = target-is; state = v ∙ ap packed (h .state ∙ ap (λ (w : State). convertRule p w t .state) e) })
+        (record { answer = refl; target = target-is; state = v ∙ ap (packed x) (h .state ∙ ap (λ (w : State). convertRule p w t .state) e) })

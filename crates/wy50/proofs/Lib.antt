@@ -1,5 +1,5 @@
 mod Loops
-mod Zeros
+mod Gathered
 mod Calls
 mod RowCalls
 mod Next

@@ -28,7 +28,7 @@ use Rattle.terminal.specs.Promise as terminal
 use Rattle.terminal.proofs.RowCalls.{rows-unlisted}
 use Rattle.wy50.specs.declared.raw.RawState.{RawState}
 use Rattle.wy50.specs.declared.raw.RawRun.{RawRun}
-use Rattle.wy50.specs.Raw.{packed, unpacked, named}
+use Rattle.wy50.specs.Raw.{gatheredBack, packed, unpacked, named}
 use Rattle.wy50.specs.Promise.{rawGood, rawRan, Completed}
 use Rattle.wy50.specs.Rows.{rawListed, rawSuited, rawNext, rawRowsAfter, Heard}
 use Rattle.wy50.proofs.Calls.{good-step, not-bad, not-good, raw-good, unnamed-bad, numbered, nothing-done}
@@ -133,7 +133,7 @@ module _ (p l : List ℕ) (x : RawState) (i w : List ℕ) {n : ℕ} {s : State} 
   unfolding nextRowsRule
   suited f = rw f
 
-  suited-run : {r : RawRun} → rawGood p x ≡ true → suits l p s ≡ true → Completed (rawRan (nextRule p s i (length w))) r i p′ w w′
+  suited-run : {r : RawRun} → rawGood p x ≡ true → suits l p s ≡ true → Completed (rawRan x (nextRule p s i (length w))) r i p′ w w′
       → Completed (rawNext p l x i (length w)) r i p′ w w′
   unfolding rawNext rawSuited
   suited-run g f c = rw (g, ap (suits l p) (sym e) ∙ f, ← e) c
@@ -170,7 +170,7 @@ module _ (p l : List ℕ) (x : RawState) (i w : List ℕ) {n : ℕ} {s : State} 
       let same : l′ ≡ l = k ∙ rw (r .0, r .1 .0) (sym (rows-unlisted p l s)) in
       rw (r .0, r .1 .1, same) (refused p l x i w bad)
 
-  pub heard : {c : ℕ} {y : RawState} → (n ≡ 7 → ⊥) → c ≡ replyCommand (s .sending) i (t .taken) (t .replied) → y ≡ packed (t .state)
+  pub heard : {c : ℕ} {y : RawState} → (n ≡ 7 → ⊥) → c ≡ replyCommand (s .sending) i (t .taken) (t .replied) → y ≡ packed x (t .state)
       → Heard p l x i (record { answer = n; command = c; taken = t .taken; replied = t .replied; refused = t .refused; state = y }) p′ l′ w w′
   heard {c} {y} z d v =
       let f : suits l p s ≡ true = not-bad (suits l p s) (λ f. z (a ∙ h .answer ∙ ap (λ (r : Ran). r .answer) (unsuited f))) in
@@ -182,7 +182,7 @@ module _ (p l : List ℕ) (x : RawState) (i w : List ℕ) {n : ℕ} {s : State} 
       let after : good p′ (t .state) ≡ true = rw (page, state) (next-good p s i (length w) g) in
       let there = raw-good p x on (ap (good p) (sym e) ∙ g) in
       record {
-        run = suited-run there f (rw o at (numbered h a v));
+        run = suited-run there f (rw o at (numbered x h a v));
         command = d ∙ ap (λ (q : State). replyCommand (q .sending) i (t .taken) (t .replied)) e;
-        rows = k ∙ listed-rows y there (rw v (sym (numbers-rows p′ (t .state) after)));
+        rows = k ∙ listed-rows y there (rw v (sym (numbers-rows (gatheredBack x (t .state)) p′ (t .state) after)));
       }

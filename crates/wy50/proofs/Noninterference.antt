@@ -30,7 +30,7 @@ use Rattle.state.proofs.Tests.{both-left}
 use Rattle.terminal.proofs.Noninterference.{front}
 use Rattle.wy50.specs.declared.raw.RawSending.{RawSending}
 use Rattle.wy50.specs.declared.raw.RawState.{RawState}
-use Rattle.wy50.specs.Raw.{flag, find, textSending, rawSending, sendingOf, packed, unpacked, named}
+use Rattle.wy50.specs.Raw.{flag, find, textSending, rawSending, sendingOf, numbers, packed, unpacked, named}
 use Rattle.wy50.specs.Promise.{rawGood, rawStep, rawRun, rawPress}
 use Rattle.wy50.proofs.Kept.{bad-step, bad-run, bad-press}
 use Rattle.wy50.specs.Noninterference.{RawGiven, RawCalled, rawCall, RawCompleted, first, later, Made, stepped, ran, sent, Performed, none, next, Concealing, RawIndistinguishable, RawDemand3, RawCharacterised}
@@ -42,23 +42,23 @@ unfolding rawGood
 good-named p x e = both-left (named x) (good p (unpacked x)) e
 
 -- a call of the rules with its state in numbers
-abbrev numbered : Called → RawCalled
-numbered r = record {
+abbrev numbered : RawState → Called → RawCalled
+numbered x r = record {
   given = record {
     answer = r .given .answer;
     counts = r .given .counts;
     reply = r .given .reply;
     rest = r .given .rest;
-    state = packed (r .given .state);
+    state = packed x (r .given .state);
   };
   page = r .page;
 }
 
-good-step : (p : List ℕ) (x : RawState) (b room : ℕ) → rawGood p x ≡ true → rawCall p x (Step b room) ≡ numbered (callRule p (unpacked x) (Step b room))
+good-step : (p : List ℕ) (x : RawState) (b room : ℕ) → rawGood p x ≡ true → rawCall p x (Step b room) ≡ numbered x (callRule p (unpacked x) (Step b room))
 unfolding rawCall rawStep callRule ofStep
 good-step p x b room e = rw e
 
-good-run : (p : List ℕ) (x : RawState) (l : List ℕ) (room : ℕ) → rawGood p x ≡ true → rawCall p x (Run l room) ≡ numbered (callRule p (unpacked x) (Run l room))
+good-run : (p : List ℕ) (x : RawState) (l : List ℕ) (room : ℕ) → rawGood p x ≡ true → rawCall p x (Run l room) ≡ numbered x (callRule p (unpacked x) (Run l room))
 unfolding rawCall rawRun callRule ofRun
 good-run p x l room e = rw e
 
@@ -101,9 +101,9 @@ send-conceals (Sending.Text true segment k) h = absurd (false≢true (sym h))
 send-conceals (Sending.Text false false k) h = text-conceals 0x34 k (λ e. omega (arith, e)) (λ e. omega (arith, e))
 send-conceals (Sending.Text false true k) h = text-conceals 0x35 k (λ e. omega (arith, e)) (λ e. omega (arith, e))
 
-pub numbered-closed : (s : State) → Closed s → RawClosed (packed s)
-unfolding packed
-numbered-closed s c = record { on = flag-on (s .core .modes .protect) (c .on); conceals = send-conceals (s .sending) (c .conceals) }
+pub numbered-closed : (g : List ℕ) (s : State) → Closed s → RawClosed (numbers g s)
+unfolding numbers
+numbered-closed g s c = record { on = flag-on (s .core .modes .protect) (c .on); conceals = send-conceals (s .sending) (c .conceals) }
 
 pub unpacked-on : (x : RawState) → x .modes .protect ≡ 1 → unpacked x .core .modes .protect ≡ true
 unfolding unpacked
@@ -147,10 +147,10 @@ module _ {p q a b : List ℕ} (h : Related p q a b) (x : RawState) (closed : Raw
       by : (c : Call) → AgreeCall p q (callRule a (unpacked x) c) (callRule b (unpacked x) c) → AgreeRaw p q (rawCall a x c) (rawCall b x c)
       by (Step v room) k =
           rw (good-step a x v room e, good-step b x v room f)
-          (record { given = rw (k .given); related = k .related; closed = numbered-closed (callRule a (unpacked x) (Step v room) .given .state) (k .closed) })
+          (record { given = rw (k .given); related = k .related; closed = numbered-closed _ (callRule a (unpacked x) (Step v room) .given .state) (k .closed) })
       by (Run l room) k =
           rw (good-run a x l room e, good-run b x l room f)
-          (record { given = rw (k .given); related = k .related; closed = numbered-closed (callRule a (unpacked x) (Run l room) .given .state) (k .closed) })
+          (record { given = rw (k .given); related = k .related; closed = numbered-closed _ (callRule a (unpacked x) (Run l room) .given .state) (k .closed) })
       by (Press v room) k = rw (good-press a x v room e, good-press b x v room f) (record { given = ap (held x) (k .given); related = h; closed = closed })
 
   -- a bad call is refused in both

@@ -22,15 +22,14 @@ use Rattle.rules.specs.Fields.{isPage}
 use Rattle.rules.proofs.Tests.{pick-if, either-way, both-parts}
 use Rattle.repaint.specs.declared.ProposeResult.{ProposeResult}
 use Rattle.repaint.specs.declared.Span.{Span}
-use Rattle.repaint.specs.declared.Verdict.{Verdict}
-use Rattle.repaint.specs.Spans.{number, spansOf}
+use Rattle.repaint.specs.Spans.{spansOf}
 use Rattle.repaint.specs.Bytes.{BytesVerdict}
 use Rattle.repaint.specs.Proposal.{Stretch, spanOf, stretches, rowsOf, columnsOf, lengthsOf, paintBytes, served, refusedWith, fitting, Proposed, proposeRule, Proposes}
 use Rattle.repaint.specs.Theorems.{spansFor}
 use Rattle.repaint.proofs.Leading.{copy-step, copy-done}
 use Rattle.repaint.proofs.Proposing.{proposing}
 use Rattle.wy50.specs.Raw.{isPersonality, personalityAt}
-use Rattle.wy50.specs.Repainting.{BytesNumber, spanNumbers, RawProposed, unproposed, proposed, numbersRule, rawPropose, RawProposes, spanRoom}
+use Rattle.wy50.specs.Repainting.{RawBytesVerdict, spanNumbers, RawProposed, unproposed, proposed, numbersRule, rawPropose, RawProposes, spanRoom}
 
 -- ---- the numbers of spans
 
@@ -116,10 +115,10 @@ module _ (n : ℕ) (x y z w : List ℕ) (long : (n ≤ length x) × ((n ≤ leng
 -- ---- the judge of bytes
 
 module _ (v : ℕ) (a b bytes : List ℕ) where
-  pub bytes-named : {m : Personality} {d : Verdict} {r : ℕ} → isPersonality v ≡ true → m ≡ personalityAt v → BytesVerdict m a b bytes d → r ≡ number d
-      → BytesNumber v a b bytes r
-  bytes-named {m} {d} {r} on e h f =
-      subst (λ (k : ℕ). BytesNumber v a b bytes k) (sym f) (BytesNumber.named d on (subst (λ (n : Personality). BytesVerdict n a b bytes d) e h))
+  pub bytes-named : {m : Personality} {k r : ℕ} → isPersonality v ≡ true → m ≡ personalityAt v → BytesVerdict m a b bytes k → r ≡ k
+      → RawBytesVerdict v a b bytes r
+  bytes-named {k = k} on e h f =
+      subst (λ (n : ℕ). RawBytesVerdict v a b bytes n) (sym f) (RawBytesVerdict.named on (subst (λ (n : Personality). BytesVerdict n a b bytes k) e h))
 
 -- ---- the proposer
 

@@ -16,27 +16,22 @@ use Rattle.rules.specs.Room.{over}
 use Rattle.rules.specs.Fields.{pageWidth, isPage}
 use Rattle.rules.proofs.Tests.{pick-if, both-true}
 use Rattle.repaint.specs.declared.Span.{Span}
-use Rattle.repaint.specs.declared.Verdict.{Verdict}
-use Rattle.repaint.specs.declared.Verdict.the-variants as Verdict
-use Rattle.repaint.specs.Spans.{number, Pages, SpansVerdict}
+use Rattle.repaint.specs.Spans.{Pages, SpansVerdict}
 use Rattle.repaint.specs.Proposal.{stretches, paintBytes, served}
 use Rattle.repaint.specs.Theorems.{spansFor}
 use Rattle.repaint.proofs.Proposing.{served-lengths, proposing}
 use Rattle.repaint.proofs.Judges.{judging}
 use Rattle.wy50.specs.Raw.{isPersonality, personalityAt}
-use Rattle.wy50.specs.Repainting.{SpansNumber, BytesNumber, spanNumbers, spansIn, RawProposed, unproposed, proposed, numbersRule, rawPropose, withRest, Repainting}
+use Rattle.wy50.specs.Repainting.{RawBytesVerdict, spanNumbers, spansIn, RawProposed, unproposed, proposed, numbersRule, rawPropose, withRest, Repainting}
 use Rattle.wy50.proofs.RepaintCalls.{numbers-long, spans-count}
 
 -- ---- one answer
 
-spans-one : (a b : List ℕ) (l : List Span) (r s : ℕ) → SpansNumber a b l r → SpansNumber a b l s → r ≡ s
-spans-one a b l r s x y = x .1 .1 ∙ (ap number (judging .spans-one a b l (x .0) (y .0) (x .1 .0) (y .1 .0)) ∙ sym (y .1 .1))
-
-bytes-one : (v : ℕ) (a b l : List ℕ) {r s : ℕ} → BytesNumber v a b l r → BytesNumber v a b l s → r ≡ s
-bytes-one v a b l (BytesNumber.named d on x) (BytesNumber.named e on′ y) = ap number (judging .bytes-one (personalityAt v) a b l d e x y)
-bytes-one v a b l (BytesNumber.named d on x) (BytesNumber.unnamed off) = absurd (false≢true (sym off ∙ on))
-bytes-one v a b l (BytesNumber.unnamed off) (BytesNumber.named d on x) = absurd (false≢true (sym off ∙ on))
-bytes-one v a b l (BytesNumber.unnamed off) (BytesNumber.unnamed off′) = refl
+bytes-one : (v : ℕ) (a b l : List ℕ) {r s : ℕ} → RawBytesVerdict v a b l r → RawBytesVerdict v a b l s → r ≡ s
+bytes-one v a b l (RawBytesVerdict.named on x) (RawBytesVerdict.named on′ y) = judging .bytes-one (personalityAt v) a b l _ _ x y
+bytes-one v a b l (RawBytesVerdict.named on x) (RawBytesVerdict.unnamed off) = absurd (false≢true (sym off ∙ on))
+bytes-one v a b l (RawBytesVerdict.unnamed off) (RawBytesVerdict.named on x) = absurd (false≢true (sym off ∙ on))
+bytes-one v a b l (RawBytesVerdict.unnamed off) (RawBytesVerdict.unnamed off′) = refl
 
 -- ---- what is proposed
 
@@ -101,21 +96,21 @@ module _ (v : ℕ) (a b w o : List ℕ) where
       pick-if Zero is-served (λ g. pick-if Zero room (λ t e. record { on = p; text = g; gives = rule ∙ rw (p, f, g, t) }) (λ t e. absurd (omega (arith, e))))
       (λ g e. absurd (omega (arith, e)))) (λ f e. absurd (omega (arith, e)))) (λ p e. absurd (omega (arith, e))))
 
-  spans-accepted : rawPropose v a b w o .answer ≡ 0 → SpansNumber a b (take (rawPropose v a b w o .spans) (spansIn (rawPropose v a b w o .numbers))) 0
+  spans-accepted : rawPropose v a b w o .answer ≡ 0 → SpansVerdict a b (take (rawPropose v a b w o .spans) (spansIn (rawPropose v a b w o .numbers))) 0
   unfolding over
   spans-accepted e =
       let d = is-done e in
       let n = served-lengths (personalityAt v) a b (d .text) in
       let p : Pages 80 a b = record { alike = n .0 ∙ sym (n .1); width = inl (refl, n .0) } in
-      let q : SpansVerdict a b (spansFor a b) Verdict.Accepted = SpansVerdict.accepted 80 p (proposing .spans-accepted (personalityAt v) a b (d .text)) in
-      subst (λ (r : RawProposed). SpansNumber a b (take (r .spans) (spansIn (r .numbers))) 0) (sym (d .gives))
-      (Verdict.Accepted, (subst (λ (l : List Span). SpansVerdict a b l Verdict.Accepted) (sym (spans-back (spansFor a b) (drop (length (spanNumbers (spansFor a b))) w))) q, refl))
+      let q : SpansVerdict a b (spansFor a b) 0 = SpansVerdict.accepted 80 p (proposing .spans-accepted (personalityAt v) a b (d .text)) in
+      subst (λ (r : RawProposed). SpansVerdict a b (take (r .spans) (spansIn (r .numbers))) 0) (sym (d .gives))
+      (subst (λ (l : List Span). SpansVerdict a b l 0) (sym (spans-back (spansFor a b) (drop (length (spanNumbers (spansFor a b))) w))) q)
 
-  bytes-accepted : rawPropose v a b w o .answer ≡ 0 → BytesNumber v a b (take (rawPropose v a b w o .bytes) (rawPropose v a b w o .out)) 0
+  bytes-accepted : rawPropose v a b w o .answer ≡ 0 → RawBytesVerdict v a b (take (rawPropose v a b w o .bytes) (rawPropose v a b w o .out)) 0
   bytes-accepted e =
       let d = is-done e in
-      subst (λ (r : RawProposed). BytesNumber v a b (take (r .bytes) (r .out)) 0) (sym (d .gives))
-      (subst (λ (l : List ℕ). BytesNumber v a b l 0) (sym (over-back (paintBytes a b) o)) (BytesNumber.named Verdict.Accepted (d .on) (judging .bytes-accepted (personalityAt v) a b (d .text))))
+      subst (λ (r : RawProposed). RawBytesVerdict v a b (take (r .bytes) (r .out)) 0) (sym (d .gives))
+      (subst (λ (l : List ℕ). RawBytesVerdict v a b l 0) (sym (over-back (paintBytes a b) o)) (RawBytesVerdict.named (d .on) (judging .bytes-accepted (personalityAt v) a b (d .text))))
 
   page-served : is-served ≡ true → page ≡ true
   unfolding pageWidth
@@ -160,7 +155,7 @@ module _ (v : ℕ) (a b w t o : List ℕ) (h : 2880 ≤ length w) where
 
 pub repainting : Repainting
 repainting = record {
-  spans-one = spans-one;
+  spans-one = judging .spans-one;
   bytes-one = λ v a b l r s x y. bytes-one v a b l x y;
   spans-accepted = spans-accepted;
   bytes-accepted = bytes-accepted;

@@ -1,8 +1,8 @@
 -- There and back: a state's numbers name that state, and the state that numbers name has those numbers.
---     packed-named, unpacked-packed     a state's numbers name a state, and it is that state, but for what means nothing; both where a byte
+--     numbers-named, unpacked-numbers     a state's numbers name a state, and it is that state, but for the bytes gathered; both where a byte
 --         counts what of a short reply went
 --     possible-fits     as it does in a possible state
---     packed-unpacked     numbers that name a state are that state's, but for what means nothing
+--     packed-unpacked     numbers that name a state are what goes back to C, if the state is left
 -- Assumes nothing.
 use mathlib.Core.Path.{_≡_, refl, sym, ap, ap₂, _∙_}
 use mathlib.Core.Bool.{Bool, true, false, not, false≢true}
@@ -39,7 +39,8 @@ use Rattle.wy50.specs.declared.raw.RawSending.{RawSending}
 use Rattle.wy50.specs.declared.raw.RawState.{RawState}
 use Rattle.wy50.specs.Raw.{allBelow, flag, isOn, personalityNumber, isPersonality, personalityAt, sequenceOf, find, pendingOf, sameSequence, isSequence, rawModes, modesOf, areFlags}
 use Rattle.wy50.specs.Raw.{small, rawSending, sendingOf, sameSending, isSending}
-use Rattle.wy50.specs.Raw.{rawKey, keyOf, gatheredIn, zeroed, packed, unpacked, tidied, named}
+use Rattle.wy50.proofs.Gathered.{laid-back}
+use Rattle.wy50.specs.Raw.{rawKey, keyOf, gatheredIn, blanked, laidOver, numbers, packed, unpacked, named}
 
 -- a flag
 isOn-flag : (b : Bool) → isOn (flag b) ≡ b
@@ -248,23 +249,18 @@ raw-modes-back m h =
     }
 
 -- a state's numbers name a state; the bell count of a state is below 256
-pub packed-named : (s : State) → s .core .bells < 256 → sendingFits (s .sending) ≡ true → named (packed s) ≡ true
-unfolding packed named
-packed-named s h f =
+pub numbers-named : (g : List ℕ) (s : State) → s .core .bells < 256 → sendingFits (s .sending) ≡ true → named (numbers g s) ≡ true
+unfolding numbers named
+numbers-named g s h f =
     rw (modes-named (s .core .modes), lt-ltb (s .core .bells) 256 h, sequence-named (s .core .pending), sending-named (s .sending) f, tabs-below (s .setup .tabs), flag-below (s .setup .shifted), flag-below (s .setup .wish), flag-below (s .core .screen .wide), personality-named (s .core .personality))
 
--- and it is that state, with zeros where nothing is gathered
-abbrev pub regathered : State → State
-regathered s = record {
-  core = s .core;
-  sending = s .sending;
-  gathered = zeroed (gatheredIn (sequenceOf (s .core .pending))) (s .gathered);
-  setup = s .setup;
-}
+-- and it is that state, with these bytes gathered
+abbrev pub regathered : List ℕ → State → State
+regathered g s = record { core = s .core; sending = s .sending; gathered = g; setup = s .setup }
 
-pub unpacked-packed : (s : State) → sendingFits (s .sending) ≡ true → unpacked (packed s) ≡ regathered s
-unfolding packed unpacked
-unpacked-packed s f = λ i. record {
+pub unpacked-numbers : (g : List ℕ) (s : State) → sendingFits (s .sending) ≡ true → unpacked (numbers g s) ≡ regathered g s
+unfolding numbers unpacked
+unpacked-numbers g s f = λ i. record {
   core = record {
     screen = record {
       wide = isOn-flag (s .core .screen .wide) i;
@@ -280,7 +276,7 @@ unpacked-packed s f = λ i. record {
     attribute = s .core .attribute;
   };
   sending = sending-back (s .sending) f i;
-  gathered = zeroed (gatheredIn (sequenceOf (s .core .pending))) (s .gathered);
+  gathered = g;
   setup = record {
     tabs = map-back flag isOn isOn-flag (s .setup .tabs) i;
     attributes = s .setup .attributes;
@@ -293,9 +289,9 @@ unpacked-packed s f = λ i. record {
   };
 }
 
--- numbers that name a state are that state's, but for what means nothing
-pub packed-unpacked : (x : RawState) → named x ≡ true → packed (unpacked x) ≡ tidied x
-unfolding packed unpacked named
+-- numbers that name a state are what goes back to C, if the state is left
+pub packed-unpacked : (x : RawState) → named x ≡ true → packed x (unpacked x) ≡ x
+unfolding numbers unpacked named
 packed-unpacked x h =
     let a = areFlags (x .modes) in
     let b = ltb (x .bells) 256 in
@@ -325,6 +321,9 @@ packed-unpacked x h =
     let personality = number-back (x .personality) (both-right f m (both-right t y bits)) in
     let keys = map-back keyOf rawKey (λ k. refl) (x .keys) in
     let labels = map-back keyOf rawKey (λ k. refl) (x .labels) in
+    let gathered : laidOver (gatheredIn (sequenceOf (pendingOf (x .sequence)))) (x .gathered) (blanked (gatheredIn (x .sequence)) (x .gathered)) ≡ x .gathered =
+    ap (λ (p : RawSequence). laidOver (gatheredIn p) (x .gathered) (blanked (gatheredIn (x .sequence)) (x .gathered))) sequence
+    ∙ laid-back (gatheredIn (x .sequence)) (x .gathered) in
     λ i. record {
       screen = record {
         wide = wide i;
@@ -339,7 +338,7 @@ packed-unpacked x h =
       remembered = x .remembered;
       sequence = sequence i;
       sending = sending i;
-      gathered = zeroed (gatheredIn (sequence i)) (x .gathered);
+      gathered = gathered i;
       tabs = tabs i;
       attributes = x .attributes;
       features = x .features;

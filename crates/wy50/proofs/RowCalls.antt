@@ -27,17 +27,17 @@ use Rattle.state.proofs.Tests.{both-right}
 use Rattle.terminal.specs.Promise as terminal
 use Rattle.terminal.proofs.RowCalls.{rows-unlisted}
 use Rattle.wy50.specs.declared.raw.RawState.{RawState}
-use Rattle.wy50.specs.Raw.{flag, packed, unpacked, named}
+use Rattle.wy50.specs.Raw.{flag, numbers, gatheredBack, packed, unpacked, named}
 use Rattle.wy50.specs.Promise.{rawGood, Stepped, Completed}
 use Rattle.wy50.specs.Rows.{rawListed, rawStepRows, rawRunRows, rawRowsAfter, rawCanRebuild, rawRebuildAnswer, rawRebuilt}
-use Rattle.wy50.proofs.RoundTrip.{possible-fits, unpacked-packed}
+use Rattle.wy50.proofs.RoundTrip.{possible-fits, unpacked-numbers}
 use Rattle.wy50.proofs.Calls.{good-step, bad-seven, good-run, bad-run-seven, not-bad, not-good, raw-good, numbered, nothing-done, step-left, run-left}
 
 -- the row list of a good state, by its numbers
-pub numbers-rows : (p : List ℕ) (s : State) → good p s ≡ true → rowsOf p (unpacked (packed s)) ≡ rowsOf p s
-numbers-rows p s g =
+pub numbers-rows : (b p : List ℕ) (s : State) → good p s ≡ true → rowsOf p (unpacked (numbers b s)) ≡ rowsOf p s
+numbers-rows b p s g =
     let w = possible-parts s (good-parts p s g .1) in
-    ap (rowsOf p) (unpacked-packed s (possible-fits (s .core .screen) (s .core .pending) (s .sending) (w .sending)))
+    ap (rowsOf p) (unpacked-numbers b s (possible-fits (s .core .screen) (s .core .pending) (s .sending) (w .sending)))
 
 listed-true : (p l : List ℕ) (x : RawState) → rawGood p x ≡ true → agrees l p (unpacked x) ≡ true → rawListed p l x ≡ true
 unfolding rawListed
@@ -131,7 +131,7 @@ run-nothing p l s i w seven = by (agrees l p s) refl
 module _ (p l : List ℕ) (x : RawState) (w : List ℕ) {n : ℕ} {s : State} {p′ w′ l′ : List ℕ} (on : named x ≡ true) (e : s ≡ unpacked x) where
   module _ (b : ℕ) {t : StepResult} (h : terminal.Stepped (stepRowsRule p l s b (length w)) t p′ w w′) (k : l′ ≡ rowsAfter p l s p′ (t .state))
       (a : n ≡ number (t .answer)) where
-    pub rows-stepped : {m : ℕ} {y : RawState} → (n ≡ 7 → ⊥) → m ≡ flag (t .taken) → y ≡ packed (t .state)
+    pub rows-stepped : {m : ℕ} {y : RawState} → (n ≡ 7 → ⊥) → m ≡ flag (t .taken) → y ≡ packed x (t .state)
         → Stepped (rawStepRows p l x b (length w)) (record { answer = n; taken = m; replied = t .replied; state = y }) p′ w w′ × (l′ ≡ rawRowsAfter p l x p′ y)
     unfolding rawStepRows rawRowsAfter rowsAfter
     rows-stepped {y = y} z f v =
@@ -148,13 +148,13 @@ module _ (p l : List ℕ) (x : RawState) (w : List ℕ) {n : ℕ} {s : State} {p
           record {
             answer = a ∙ h .answer ∙ ap (λ o. o .answer) o;
             taken = f ∙ ap flag (h .taken ∙ ap (λ o. o .taken) o);
-            state = v ∙ ap packed state;
+            state = v ∙ ap (packed x) state;
             replied = h .replied ∙ ap (λ o. length (o .reply)) o;
             page = page;
             room = h .room ∙ ap (λ o. over (o .reply) w) o;
             fits = h .fits;
           },
-          k ∙ rw (agreed, v) (sym (numbers-rows p′ (t .state) after)),
+          k ∙ rw (agreed, v) (sym (numbers-rows (gatheredBack x (t .state)) p′ (t .state) after)),
         )
 
     pub rows-step-seven : n ≡ 7
@@ -174,7 +174,7 @@ module _ (p l : List ℕ) (x : RawState) (w : List ℕ) {n : ℕ} {s : State} {p
 
   module _ (i : List ℕ) {t : RunResult} (h : terminal.Completed (runRowsRule p l s i (length w)) t i p′ w w′) (k : l′ ≡ rowsAfter p l s p′ (t .state))
       (a : n ≡ number (t .answer)) where
-    pub rows-completed : {y : RawState} → (n ≡ 7 → ⊥) → y ≡ packed (t .state)
+    pub rows-completed : {y : RawState} → (n ≡ 7 → ⊥) → y ≡ packed x (t .state)
         → Completed (rawRunRows p l x i (length w)) (record { answer = n; taken = t .taken; replied = t .replied; refused = t .refused; state = y }) i p′ w w′
         × (l′ ≡ rawRowsAfter p l x p′ y)
     unfolding rawRunRows rawRowsAfter rowsAfter
@@ -189,8 +189,8 @@ module _ (p l : List ℕ) (x : RawState) (w : List ℕ) {n : ℕ} {s : State} {p
         let state : t .state ≡ runRule p s i (length w) .state = h .state ∙ ap (λ o. o .state) o in
         let after : good p′ (t .state) ≡ true = rw (page, state) (run-good p s i (length w) g) in
         rw (there, ← e) (
-          rw o at (numbered h a v),
-          k ∙ rw (agreed, v) (sym (numbers-rows p′ (t .state) after)),
+          rw o at (numbered x h a v),
+          k ∙ rw (agreed, v) (sym (numbers-rows (gatheredBack x (t .state)) p′ (t .state) after)),
         )
 
     pub rows-run-seven : n ≡ 7

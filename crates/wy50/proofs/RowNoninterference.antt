@@ -58,7 +58,7 @@ run-unlisted p l x i room e = rw e
 
 -- `next` with a list that suits, or refused for it
 next-suited : (p k : List ℕ) (x : RawState) (i : List ℕ) (room : ℕ) → rawSuited p k x ≡ true
-    → (rawNext p k x i room ≡ rawRan (nextRule p (unpacked x) i room)) × (rawGood p x ≡ true)
+    → (rawNext p k x i room ≡ rawRan x (nextRule p (unpacked x) i room)) × (rawGood p x ≡ true)
 unfolding rawNext rawSuited
 next-suited p k x i room e = (rw e, both-left (rawGood p x) (suits k p (unpacked x)) e)
 
@@ -74,7 +74,7 @@ unfolding rawCall rawRun
 next-left p k x i room e =
     let o = next-suited p k x i room e in
     let r = next-run p (unpacked x) i room in
-    rw (o .0, o .1) (r .0, ap packed (r .1))
+    rw (o .0, o .1) (r .0, ap (packed x) (r .1))
 
 module _ {p q a b : List ℕ} (h : Related p q a b) (l : List ℕ) (x : RawState) (closed : RawClosed x) where
   rows-agree : rowsOf a (unpacked x) ≡ rowsOf b (unpacked x)
@@ -120,7 +120,7 @@ module _ {p q a b : List ℕ} (h : Related p q a b) (l : List ℕ) (x : RawState
       (record {
         given = cc (ap (λ (z : Given). z .answer) g, ap (λ (z : Given). getD (z .counts) 0 0) g, ap (λ (z : Given). getD (z .counts) 2 0) g, ap (λ (z : Given). z .reply) g, ap (λ (z : Given). z .rest) g, ap (λ (z : Given). z .state) g);
         related = r .related;
-        closed = numbered-closed (nextRule a s i room .state) (r .closed);
+        closed = numbered-closed _ (nextRule a s i room .state) (r .closed);
       })
   next-agrees k i room false e free =
       rw (next-unsuited a k x i room e, next-unsuited b k x i room (sym (both-suited k) ∙ e)) (record { given = refl; related = h; closed = closed })

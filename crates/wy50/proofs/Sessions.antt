@@ -15,7 +15,8 @@ use lib.ListN.{length, drop}
 use Rattle.rules.specs.declared.Core.{Core}
 use Rattle.rules.specs.declared.State.{State}
 use Rattle.rules.specs.Cell.{pick}
-use Rattle.rules.specs.Calls.{Ran}
+use Rattle.rules.specs.Calls.{Ran, runRule}
+use Rattle.rules.specs.Next.{nextRule}
 use Rattle.rules.specs.RowCalls.{RowCall}
 use Rattle.rules.specs.Noninterference.{revealing}
 use Rattle.rules.proofs.Related.{Related}
@@ -27,7 +28,7 @@ use Rattle.session.specs.Sessions.{SessionCall, Terminal, Save, Restore, Act, c
 use Rattle.session.proofs.Given.{Rests, run-rests, next-rests}
 use Rattle.wy50.specs.declared.raw.RawState.{RawState}
 use Rattle.wy50.specs.Raw.{unpacked, named}
-use Rattle.wy50.specs.Saved.{restoreNumber, rawRestore, stateAfter}
+use Rattle.wy50.specs.Saved.{rawRestore, stateAfter}
 use Rattle.wy50.specs.Promise.{rawGood, rawRan, rawRun, badRun}
 use Rattle.wy50.specs.Rows.{rawListed, rawRunRows, rawSuited, rawNext}
 use Rattle.wy50.specs.Noninterference.{rawCall, RawCompleted}
@@ -54,7 +55,7 @@ restored-closed s store n closed =
 restore-closed : (x : RawState) (store : List ℕ) (n : ℕ) → RawClosed x → RawClosed (stateAfter x (rawRestore x store n))
 unfolding rawRestore
 restore-closed x store n closed =
-    pick-closed (eqb (restoreNumber (rawRestore x store n .result)) 0) (numbered-closed (rawRestore x store n .state) (by (named x))) closed
+    pick-closed (eqb (rawRestore x store n .answer) 0) (numbered-closed _ (rawRestore x store n .state) (by (named x))) closed
   where
     by : (t : Bool) → Closed (pick t (restoreRule (unpacked x) store n) (restoring RestoreAnswer.BadState (unpacked x)) .state)
     by true = restored-closed (unpacked x) store n (unpacked-closed x closed)
@@ -123,7 +124,7 @@ raw-given-back p l x store = record { terminal = λ c. (refl, refl); save = (ref
 
 -- a run with its state in numbers, or refused: nothing taken, all handed back
 pick-rests : (t : Bool) (p : List ℕ) (x : RawState) (bytes : List ℕ) (r : Ran) → Rests bytes r
-    → drop (pick t (rawRan r) (badRun p x bytes) .taken) bytes ≡ pick t (rawRan r) (badRun p x bytes) .rest
+    → drop (pick t (rawRan x r) (badRun p x bytes) .taken) bytes ≡ pick t (rawRan x r) (badRun p x bytes) .rest
 pick-rests true p x bytes r e = e
 pick-rests false p x bytes r e = refl
 
@@ -131,12 +132,12 @@ pub raw-handed-back : (x : RawSession) (store : List ℕ) → RawHandedBack x st
 unfolding rawSessionRule rawRowCall rawCall rawRun rawRunRows rawNext hostBytes
 raw-handed-back x store = record {
   step = λ b room. refl;
-  run = λ bytes room. pick-rests (rawGood (x .page) (x .state)) (x .page) (x .state) bytes _ (run-rests (x .page) (unpacked (x .state)) bytes room);
+  run = λ bytes room. pick-rests (rawGood (x .page) (x .state)) (x .page) (x .state) bytes (runRule (x .page) (unpacked (x .state)) bytes room) (run-rests (x .page) (unpacked (x .state)) bytes room);
   list-step = λ b room. refl;
   list-run = λ bytes room.
-      pick-rests (rawListed (x .page) (x .rows) (x .state)) (x .page) (x .state) bytes _ (run-rests (x .page) (unpacked (x .state)) bytes room);
+      pick-rests (rawListed (x .page) (x .rows) (x .state)) (x .page) (x .state) bytes (runRule (x .page) (unpacked (x .state)) bytes room) (run-rests (x .page) (unpacked (x .state)) bytes room);
   next = λ with bytes room.
-      pick-rests (rawSuited (x .page) (handed with x) (x .state)) (x .page) (x .state) bytes _ (next-rests (x .page) (unpacked (x .state)) bytes room);
+      pick-rests (rawSuited (x .page) (handed with x) (x .state)) (x .page) (x .state) bytes (nextRule (x .page) (unpacked (x .state)) bytes room) (next-rests (x .page) (unpacked (x .state)) bytes room);
 }
 
 -- a call alone completes nothing, if it does not before others

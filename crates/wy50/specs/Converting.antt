@@ -20,7 +20,7 @@ unturnedBy n t x = record { answer = n; target = t; state = x }
 
 -- what is refused gives the numbers back as they came
 abbrev pub turnedBy : RawState → Turned → RawTurned
-turnedBy x o = record { answer = o .answer; target = o .target; state = pick (eqb (o .answer) 0) (packed (o .state)) x }
+turnedBy x o = record { answer = o .answer; target = o .target; state = pick (eqb (o .answer) 0) (packed x (o .state)) x }
 
 unfoldable pub rawConvert : List ℕ → RawState → List ℕ → RawTurned
 rawConvert p x t = pick (named x) (turnedBy x (convertRule p (unpacked x) t)) (unturnedBy 7 t x)

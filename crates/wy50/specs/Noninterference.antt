@@ -30,7 +30,10 @@ pub record RawCalled : Type 0 where
   pub page : List ℕ
 
 abbrev pub ofRawStep : RawOutcome → RawCalled
-ofRawStep o = record { given = record { answer = o .answer; counts = o .taken ∷ length (o .reply) ∷ []; reply = o .reply; rest = []; state = o .state }; page = o .page }
+ofRawStep o = record {
+  given = record { answer = o .answer; counts = o .taken ∷ length (o .reply) ∷ []; reply = o .reply; rest = []; state = o .state };
+  page = o .page;
+}
 
 abbrev pub ofRawRun : RawRan → RawCalled
 ofRawRun o = record {
@@ -100,7 +103,8 @@ pub record Concealing (y : RawSending) : Type 0 where
 -- demand 3, of two terminals that C runs; protect mode is on where its number is 1
 abbrev pub RawDemand3 : Type 0
 RawDemand3 =
-    (p q : List ℕ) (x : RawState) (calls : List Call) (gs hs : List RawGiven) (y z : RawState) (a b : List ℕ) → x .modes .protect ≡ 1 → Concealing (x .sending)
+    (p q : List ℕ) (x : RawState) (calls : List Call) (gs hs : List RawGiven) (y z : RawState) (a b : List ℕ) → x .modes .protect ≡ 1
+    → Concealing (x .sending)
     → AlikePages p q → (RawCompleted calls p x → ⊥) → Performed p x calls gs y a → Performed q x calls hs z b → RawIndistinguishable p q gs hs y z a b
 
 -- when one of the six is completed: never in no calls, and in calls by the first or by a later one

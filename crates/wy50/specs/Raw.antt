@@ -97,11 +97,18 @@ sequenceOf (Pending.Spoilt x) = spoiltSequence x
 abbrev pub gatheredIn : RawSequence → ℕ
 gatheredIn q = pick (either (eqb (q .kind) 19) (either (eqb (q .kind) 21) (eqb (q .kind) 23))) (q .second) 0
 
--- zeros behind the first n bytes
-unfoldable pub zeroed : ℕ → List ℕ → List ℕ
-zeroed n [] = []
-zeroed zero (b ∷ g) = 0 ∷ zeroed zero g
-zeroed (suc n) (b ∷ g) = b ∷ zeroed n g
+-- zeros in place of the first m bytes
+unfoldable pub blanked : ℕ → List ℕ → List ℕ
+blanked zero g = g
+blanked (suc m) [] = []
+blanked (suc m) (b ∷ g) = 0 ∷ blanked m g
+
+-- the first n bytes of g, and behind them those of h
+unfoldable pub laidOver : ℕ → List ℕ → List ℕ → List ℕ
+laidOver zero g h = h
+laidOver (suc n) [] h = []
+laidOver (suc n) (b ∷ g) [] = b ∷ laidOver n g []
+laidOver (suc n) (b ∷ g) (c ∷ h) = b ∷ laidOver n g h
 
 -- the sequence of each kind but 0, with these numbers
 abbrev pub kinds : ℕ → ℕ → ℕ → List (ℕ × Pending)
@@ -237,10 +244,9 @@ rawMessage m = record { len = m .len; bytes = m .bytes }
 abbrev pub messageOf : RawMessage → LongText
 messageOf m = record { len = m .len; bytes = m .bytes }
 
--- the numbers of a state. Where nothing is gathered C gets zeros, so that two states that mean the same are the same
--- numbers
-unfoldable pub packed : State → RawState
-packed s = record {
+-- the numbers of a state, with these bytes for those gathered
+unfoldable pub numbers : List ℕ → State → RawState
+numbers g s = record {
   screen = record {
     wide = flag (s .core .screen .wide);
     active = s .core .screen .active;
@@ -254,7 +260,7 @@ packed s = record {
   remembered = s .core .attribute;
   sequence = sequenceOf (s .core .pending);
   sending = rawSending (s .sending);
-  gathered = zeroed (gatheredIn (sequenceOf (s .core .pending))) (s .gathered);
+  gathered = g;
   tabs = map flag (s .setup .tabs);
   attributes = s .setup .attributes;
   features = s .setup .features;
@@ -269,7 +275,13 @@ packed s = record {
 unfoldable pub unpacked : RawState → State
 unpacked x = record {
   core = record {
-    screen = record { wide = isOn (x .screen .wide); active = x .screen .active; split = x .screen .split; cursor0 = x .screen .cursor0; cursor1 = x .screen .cursor1 };
+    screen = record {
+      wide = isOn (x .screen .wide);
+      active = x .screen .active;
+      split = x .screen .split;
+      cursor0 = x .screen .cursor0;
+      cursor1 = x .screen .cursor1;
+    };
     modes = modesOf (x .modes);
     bells = x .bells;
     pending = pendingOf (x .sequence);
@@ -290,30 +302,19 @@ unpacked x = record {
   };
 }
 
--- the numbers with zeros where nothing is gathered
-abbrev pub tidied : RawState → RawState
-tidied x = record {
-  screen = x .screen;
-  modes = x .modes;
-  bells = x .bells;
-  personality = x .personality;
-  remembered = x .remembered;
-  sequence = x .sequence;
-  sending = x .sending;
-  gathered = zeroed (gatheredIn (x .sequence)) (x .gathered);
-  tabs = x .tabs;
-  attributes = x .attributes;
-  features = x .features;
-  keys = x .keys;
-  labels = x .labels;
-  message = x .message;
-  shifted = x .shifted;
-  wish = x .wish;
-}
+-- the bytes gathered, as they go back to C, which handed in the numbers x: those that the sequence counts, a 0 for each that it counts no longer, and
+-- behind them what C has there. So what is left alone comes back as it came, and from power-on on two states that mean the same are the same numbers
+abbrev pub gatheredBack : RawState → State → List ℕ
+gatheredBack x s = laidOver (gatheredIn (sequenceOf (s .core .pending))) (s .gathered) (blanked (gatheredIn (x .sequence)) (x .gathered))
 
--- whether numbers name a state: modes, tab stops, the shifted line, the wish and the width 0 or 1, bells below 256, a sequence's own numbers, a send's own numbers, a
--- personality's number
+-- the numbers of a state that a call leaves, which was handed x
+abbrev pub packed : RawState → State → RawState
+packed x s = numbers (gatheredBack x s) s
+
+-- whether numbers name a state: modes, tab stops, the shifted line, the wish and the width 0 or 1, bells below 256, a sequence's own numbers, a
+-- send's own numbers, a personality's number
 unfoldable pub named : RawState → Bool
 named x =
     both (areFlags (x .modes)) (both (ltb (x .bells) 256) (both (isSequence (x .sequence)) (both (isSending (x .sending))
-    (both (allBelow 2 (x .tabs)) (both (both (ltb (x .shifted) 2) (both (ltb (x .wish) 2) (ltb (x .screen .wide) 2))) (isPersonality (x .personality)))))))
+    (both (allBelow 2 (x .tabs)) (both (both (ltb (x .shifted) 2) (both (ltb (x .wish) 2) (ltb (x .screen .wide) 2)))
+    (isPersonality (x .personality)))))))

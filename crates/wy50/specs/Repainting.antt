@@ -12,8 +12,7 @@ use Rattle.rules.specs.Room.{over}
 use Rattle.rules.specs.Fields.{isPage}
 use Rattle.repaint.specs.declared.ProposeResult.{ProposeResult}
 use Rattle.repaint.specs.declared.Span.{Span}
-use Rattle.repaint.specs.declared.Verdict.{Verdict}
-use Rattle.repaint.specs.Spans.{number, SpansVerdict}
+use Rattle.repaint.specs.Spans.{SpansVerdict}
 use Rattle.repaint.specs.Bytes.{BytesVerdict}
 use Rattle.repaint.specs.Proposal.{paintBytes, served}
 use Rattle.repaint.specs.Theorems.{spansFor}
@@ -21,14 +20,10 @@ use Rattle.wy50.specs.Raw.{isPersonality, personalityAt}
 
 -- ---- the judges
 
--- r is the number of the verdict on a list of spans
-abbrev pub SpansNumber : List ℕ → List ℕ → List Span → ℕ → Type 0
-SpansNumber a b spans r = (d : Verdict) × (SpansVerdict a b spans d × (r ≡ number d))
-
--- and of that on bytes, for the personality that v names
-pub data BytesNumber (v : ℕ) (a b bytes : List ℕ) : ℕ → Type 0 where
-  named : (d : Verdict) → isPersonality v ≡ true → BytesVerdict (personalityAt v) a b bytes d → BytesNumber v a b bytes (number d)
-  unnamed : isPersonality v ≡ false → BytesNumber v a b bytes 7
+-- the verdict on spans is that of the crate `repaint`; so is that on bytes, for the personality that v names
+pub data RawBytesVerdict (v : ℕ) (a b bytes : List ℕ) : ℕ → Type 0 where
+  named : {r : ℕ} → isPersonality v ≡ true → BytesVerdict (personalityAt v) a b bytes r → RawBytesVerdict v a b bytes r
+  unnamed : isPersonality v ≡ false → RawBytesVerdict v a b bytes 7
 
 -- ---- the proposer
 
@@ -70,7 +65,8 @@ numbersRule m a b numbers out =
     let bytes = paintBytes a b in
     pick (both (eqb (length a) (length b)) (isPage (length a)))
     (pick (served m a b)
-    (pick (both (leb (length (spanNumbers spans)) (length numbers)) (leb (length bytes) (length out))) (proposed spans bytes numbers out) (unproposed 6 numbers out))
+    (pick (both (leb (length (spanNumbers spans)) (length numbers)) (leb (length bytes) (length out)))
+    (proposed spans bytes numbers out) (unproposed 6 numbers out))
     (unproposed 3 numbers out)) (unproposed 7 numbers out)
 
 unfoldable pub rawPropose : ℕ → List ℕ → List ℕ → List ℕ → List ℕ → RawProposed
@@ -95,14 +91,15 @@ withRest rest o = record { answer = o .answer; spans = o .spans; bytes = o .byte
 
 pub record Repainting : Type 0 where
   -- each judge has one answer, and to what a caller reads out of the rooms, whatever stands behind it, both answer 0
-  pub spans-one : (a b : List ℕ) (spans : List Span) (r s : ℕ) → SpansNumber a b spans r → SpansNumber a b spans s → r ≡ s
-  pub bytes-one : (v : ℕ) (a b bytes : List ℕ) (r s : ℕ) → BytesNumber v a b bytes r → BytesNumber v a b bytes s → r ≡ s
+  pub spans-one : (a b : List ℕ) (spans : List Span) (r s : ℕ) → SpansVerdict a b spans r → SpansVerdict a b spans s → r ≡ s
+  pub bytes-one : (v : ℕ) (a b bytes : List ℕ) (r s : ℕ) → RawBytesVerdict v a b bytes r → RawBytesVerdict v a b bytes s → r ≡ s
   pub spans-accepted : (v : ℕ) (a b numbers out : List ℕ) → let o = rawPropose v a b numbers out in o .answer ≡ 0
-      → SpansNumber a b (take (o .spans) (spansIn (o .numbers))) 0
+      → SpansVerdict a b (take (o .spans) (spansIn (o .numbers))) 0
   pub bytes-accepted : (v : ℕ) (a b numbers out : List ℕ) → let o = rawPropose v a b numbers out in o .answer ≡ 0
-      → BytesNumber v a b (take (o .bytes) (o .out)) 0
+      → RawBytesVerdict v a b (take (o .bytes) (o .out)) 0
   -- with room for 960 spans and 7,772 bytes nothing that is served is refused
-  pub roomy : (v : ℕ) (a b numbers out : List ℕ) → isPersonality v ≡ true → served (personalityAt v) a b ≡ true → 2880 ≤ length numbers → 7772 ≤ length out
+  pub roomy : (v : ℕ) (a b numbers out : List ℕ) → isPersonality v ≡ true → served (personalityAt v) a b ≡ true → 2880 ≤ length numbers
+      → 7772 ≤ length out
       → rawPropose v a b numbers out .answer ≡ 0
   -- and room beyond that for spans changes nothing
   pub beyond : (v : ℕ) (a b numbers rest out : List ℕ) → 2880 ≤ length numbers

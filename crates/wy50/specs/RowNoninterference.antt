@@ -104,14 +104,16 @@ pub data RowMade (x : RawSession) : RowCall → RawGiven → List ℕ → List �
   nextHeard : {with : Bool} {i w w′ p′ l′ : List ℕ} {r : RawNext}
       → Completed (rawNext (x .page) (handed with x) (x .state) i (length w)) (nextRun r) i p′ w w′
       → r .command ≡ replyCommand (unpacked (x .state) .sending) i (r .taken) (r .replied)
-      → l′ ≡ pick with (rawRowsAfter (x .page) (x .rows) (x .state) p′ (r .state)) (x .rows) → RowMade x (Next with i (length w)) (nextSeen r i w′) p′ l′
+      → l′ ≡ pick with (rawRowsAfter (x .page) (x .rows) (x .state) p′ (r .state)) (x .rows)
+      → RowMade x (Next with i (length w)) (nextSeen r i w′) p′ l′
   rebuiltRows : {n : ℕ} {l′ : List ℕ} → n ≡ rawRebuildAnswer (x .page) (x .rows) (x .state) → l′ ≡ rawRebuilt (x .page) (x .rows) (x .state)
       → RowMade x Rebuild (record { answer = n; counts = []; reply = []; rest = []; state = x .state }) (x .page) l′
 
 -- a list of calls, each made on what the last one left: what they gave, the lists after each, and what is kept at the end
 pub data RowPerformed : RawSession → List RowCall → List RawGiven → List (List ℕ) → RawSession → Type 0 where
   none : {x : RawSession} → RowPerformed x [] [] [] x
-  next : {x y : RawSession} {p′ l′ : List ℕ} {c : RowCall} {cs : List RowCall} {g : RawGiven} {gs : List RawGiven} {ls : List (List ℕ)} → RowMade x c g p′ l′
+  next : {x y : RawSession} {p′ l′ : List ℕ} {c : RowCall} {cs : List RowCall} {g : RawGiven} {gs : List RawGiven} {ls : List (List ℕ)}
+      → RowMade x c g p′ l′
       → RowPerformed (record { page = p′; rows = l′; state = g .state }) cs gs ls y → RowPerformed x (c ∷ cs) (g ∷ gs) (l′ ∷ ls) y
 
 pub record RawRowIndistinguishable (p q : List ℕ) (gs hs : List RawGiven) (ls ms : List (List ℕ)) (y z : RawSession) : Type 0 where

@@ -10,7 +10,7 @@ use Rattle.rules.specs.RowList.{rowsOf, agrees}
 use Rattle.rules.specs.Next.{nextRule, replyCommand}
 use Rattle.rules.specs.RowCalls.{suits, canRebuild}
 use Rattle.wy50.specs.declared.raw.RawState.{RawState}
-use Rattle.wy50.specs.Raw.{unpacked, named}
+use Rattle.wy50.specs.Raw.{packed, unpacked, named}
 use Rattle.wy50.specs.declared.raw.RawRun.{RawRun}
 use Rattle.wy50.specs.declared.raw.RawNext.{RawNext}
 use Rattle.wy50.specs.Promise.{rawGood, RawOutcome, raw, badStep, RawRan, rawRan, badRun, Completed}
@@ -20,17 +20,17 @@ unfoldable pub rawListed : List ℕ → List ℕ → RawState → Bool
 rawListed p l x = both (rawGood p x) (agrees l p (unpacked x))
 
 unfoldable pub rawStepRows : List ℕ → List ℕ → RawState → ℕ → ℕ → RawOutcome
-rawStepRows p l x b room = pick (rawListed p l x) (raw (stepRule p (unpacked x) b room)) (badStep p x)
+rawStepRows p l x b room = let o = stepRule p (unpacked x) b room in pick (rawListed p l x) (raw (packed x (o .state)) o) (badStep p x)
 
 unfoldable pub rawRunRows : List ℕ → List ℕ → RawState → List ℕ → ℕ → RawRan
-rawRunRows p l x bytes room = pick (rawListed p l x) (rawRan (runRule p (unpacked x) bytes room)) (badRun p x bytes)
+rawRunRows p l x bytes room = pick (rawListed p l x) (rawRan x (runRule p (unpacked x) bytes room)) (badRun p x bytes)
 
 -- `next` takes a list that agrees, or an empty one
 unfoldable pub rawSuited : List ℕ → List ℕ → RawState → Bool
 rawSuited p l x = both (rawGood p x) (suits l p (unpacked x))
 
 unfoldable pub rawNext : List ℕ → List ℕ → RawState → List ℕ → ℕ → RawRan
-rawNext p l x bytes room = pick (rawSuited p l x) (rawRan (nextRule p (unpacked x) bytes room)) (badRun p x bytes)
+rawNext p l x bytes room = pick (rawSuited p l x) (rawRan x (nextRule p (unpacked x) bytes room)) (badRun p x bytes)
 
 -- the list after a call that left the page p′ and gave the numbers y
 unfoldable pub rawRowsAfter : List ℕ → List ℕ → RawState → List ℕ → RawState → List ℕ

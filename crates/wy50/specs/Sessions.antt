@@ -17,7 +17,7 @@ use Rattle.wy50.specs.Promise.{rawStep, rawRun}
 use Rattle.wy50.specs.Rows.{rawStepRows, rawRunRows, rawNext}
 use Rattle.wy50.specs.Noninterference.{RawGiven, RawCompleted, Concealing}
 use Rattle.wy50.specs.RowNoninterference.{RawSession, left, handed, rawRowCall, bareCall, RowMade}
-use Rattle.wy50.specs.Saved.{saveNumbers, restoreNumber, rawSave, rawRestore, stateAfter}
+use Rattle.wy50.specs.Saved.{rawSave, saveGiven, rawRestore, stateAfter}
 
 -- what a C caller keeps from call to call
 pub record RawKept : Type 0 where
@@ -42,11 +42,11 @@ rawSessionRule x (Terminal c) =
     let r = rawRowCall (x .terminal) c in record { told = Heard (r .called .given); kept = record { terminal = left r; store = x .store } }
 rawSessionRule x Save =
     let r = rawSave (x .terminal .state) (x .store) in
-    record { told = Saved (saveNumbers (r .result)); kept = record { terminal = x .terminal; store = r .store } }
+    record { told = Saved (saveGiven r); kept = record { terminal = x .terminal; store = r .store } }
 rawSessionRule x (Restore n) =
     let r = rawRestore (x .terminal .state) (x .store) n in
     record {
-      told = Restored (restoreNumber (r .result));
+      told = Restored (r .answer);
       kept = rawStart (x .terminal .page) (x .terminal .rows) (stateAfter (x .terminal .state) r) (x .store);
     }
 
@@ -60,10 +60,10 @@ pub data RawSessionCompleted : List SessionCall → RawKept → Type 0 where
 pub data RawSessionMade (x : RawKept) : SessionCall → RawSessionCalled → Type 0 where
   terminal : {c : RowCall} {g : RawGiven} {p′ l′ : List ℕ} → RowMade (x .terminal) c g p′ l′
       → RawSessionMade x (Terminal c) (record { told = Heard g; kept = rawStart p′ l′ (g .state) (x .store) })
-  saved : {r : RawSave} {store′ : List ℕ} → r ≡ saveNumbers (rawSave (x .terminal .state) (x .store) .result)
+  saved : {r : RawSave} {store′ : List ℕ} → r ≡ saveGiven (rawSave (x .terminal .state) (x .store))
       → store′ ≡ rawSave (x .terminal .state) (x .store) .store
       → RawSessionMade x Save (record { told = Saved r; kept = record { terminal = x .terminal; store = store′ } })
-  restored : {n : ℕ} {r : RawRestore} → r .answer ≡ restoreNumber (rawRestore (x .terminal .state) (x .store) n .result)
+  restored : {n : ℕ} {r : RawRestore} → r .answer ≡ rawRestore (x .terminal .state) (x .store) n .answer
       → r .state ≡ stateAfter (x .terminal .state) (rawRestore (x .terminal .state) (x .store) n)
       → RawSessionMade x (Restore n)
       (record { told = Restored (r .answer); kept = rawStart (x .terminal .page) (x .terminal .rows) (r .state) (x .store) })
@@ -95,7 +95,8 @@ abbrev pub RawSessionDemand3 : Type 0
 RawSessionDemand3 =
     (p q l store : List ℕ) (x : RawState) (calls : List SessionCall) (gs hs : List RawSessionGiven) (y z : RawKept) → x .modes .protect ≡ 1
     → Concealing (x .sending) → AlikePages p q → (RawSessionCompleted calls (rawStart p l x store) → ⊥)
-    → RawSessionPerformed (rawStart p l x store) calls gs y → RawSessionPerformed (rawStart q l x store) calls hs z → RawSessionIndistinguishable p q gs hs y z
+    → RawSessionPerformed (rawStart p l x store) calls gs y → RawSessionPerformed (rawStart q l x store) calls hs z
+    → RawSessionIndistinguishable p q gs hs y z
 
 -- ---- over one host stream
 
@@ -122,7 +123,8 @@ pub data RawStreamPerformed : RawKept → List ℕ → List Act → List RawSess
 
 abbrev pub RawStreamDemand3 : Type 0
 RawStreamDemand3 =
-    (p q l store stream : List ℕ) (x : RawState) (acts : List Act) (gs hs : List RawSessionGiven) (y z : RawKept) (u v : List ℕ) → x .modes .protect ≡ 1
+    (p q l store stream : List ℕ) (x : RawState) (acts : List Act) (gs hs : List RawSessionGiven) (y z : RawKept) (u v : List ℕ)
+    → x .modes .protect ≡ 1
     → Concealing (x .sending) → AlikePages p q → (RawSessionCompleted (rawCallsOf acts stream (rawStart p l x store)) (rawStart p l x store) → ⊥)
     → RawStreamPerformed (rawStart p l x store) stream acts gs y u → RawStreamPerformed (rawStart q l x store) stream acts hs z v
     → RawSessionIndistinguishable p q gs hs y z × (u ≡ v)
@@ -131,7 +133,8 @@ RawStreamDemand3 =
 pub record RawSessionCharacterised : Type 0 where
   pub none : (x : RawKept) → RawSessionCompleted [] x → ⊥
   pub terminal : (c : RowCall) (cs : List SessionCall) (x : RawKept) → RawSessionCompleted (Terminal c ∷ cs) x
-      → RawCompleted (bareCall (x .terminal) c) (x .terminal .page) (x .terminal .state) ⊎ RawSessionCompleted cs (rawSessionRule x (Terminal c) .kept)
+      → RawCompleted (bareCall (x .terminal) c) (x .terminal .page) (x .terminal .state)
+      ⊎ RawSessionCompleted cs (rawSessionRule x (Terminal c) .kept)
   pub save : (cs : List SessionCall) (x : RawKept) → RawSessionCompleted (Save ∷ cs) x → RawSessionCompleted cs (rawSessionRule x Save .kept)
   pub restore : (n : ℕ) (cs : List SessionCall) (x : RawKept) → RawSessionCompleted (Restore n ∷ cs) x
       → RawSessionCompleted cs (rawSessionRule x (Restore n) .kept)
@@ -145,11 +148,11 @@ pub record RawGivenBack (p l : List ℕ) (x : RawState) (store : List ℕ) : Typ
       × (k .kept ≡ rawStart (r .called .page) (r .rows) (r .called .given .state) store)
   pub save : let r = rawSave x store in
       let k = rawSessionRule (rawStart p l x store) Save in
-      (rawGivenBy k ≡ record { told = Saved (saveNumbers (r .result)); state = x; rows = l; store = r .store }) × (k .kept ≡ rawStart p l x (r .store))
+      (rawGivenBy k ≡ record { told = Saved (saveGiven r); state = x; rows = l; store = r .store }) × (k .kept ≡ rawStart p l x (r .store))
   pub restore : (n : ℕ)
       → let r = rawRestore x store n in
       let k = rawSessionRule (rawStart p l x store) (Restore n) in
-      (rawGivenBy k ≡ record { told = Restored (restoreNumber (r .result)); state = stateAfter x r; rows = l; store = store })
+      (rawGivenBy k ≡ record { told = Restored (r .answer); state = stateAfter x r; rows = l; store = store })
       × (k .kept ≡ rawStart p l (stateAfter x r) store)
 
 -- what is handed back: of a step its byte, if `taken` is 0; of a run and of `next` the rest
@@ -159,8 +162,10 @@ pub record RawHandedBack (x : RawSession) (store : List ℕ) : Type 0 where
   pub run : (bytes : List ℕ) (room : ℕ) → let c = Terminal (Bare (Run bytes room)) in
       rawHandedBack c (rawSessionRule (record { terminal = x; store = store }) c .told) ≡ rawRun (x .page) (x .state) bytes room .rest
   pub list-step : (b room : ℕ) → let c = Terminal (ListStep b room) in
-      rawHandedBack c (rawSessionRule (record { terminal = x; store = store }) c .told) ≡ drop (rawStepRows (x .page) (x .rows) (x .state) b room .taken) (b ∷ [])
+      rawHandedBack c (rawSessionRule (record { terminal = x; store = store }) c .told)
+      ≡ drop (rawStepRows (x .page) (x .rows) (x .state) b room .taken) (b ∷ [])
   pub list-run : (bytes : List ℕ) (room : ℕ) → let c = Terminal (ListRun bytes room) in
       rawHandedBack c (rawSessionRule (record { terminal = x; store = store }) c .told) ≡ rawRunRows (x .page) (x .rows) (x .state) bytes room .rest
   pub next : (with : Bool) (bytes : List ℕ) (room : ℕ) → let c = Terminal (Next with bytes room) in
-      rawHandedBack c (rawSessionRule (record { terminal = x; store = store }) c .told) ≡ rawNext (x .page) (handed with x) (x .state) bytes room .rest
+      rawHandedBack c (rawSessionRule (record { terminal = x; store = store }) c .told)
+      ≡ rawNext (x .page) (handed with x) (x .state) bytes room .rest

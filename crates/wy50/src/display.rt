@@ -3,22 +3,20 @@ ghost use mathlib.Core.Path.{_≡_};
 ghost use Prim.Native.Nat.{_*_, _≤_};
 ghost use lib.ListN.{length, take};
 ghost use Rattle.rules.specs.Room.{over};
-ghost use Rattle.repaint.specs.Spans.{number, spansOf};
-ghost use Rattle.repaint.specs.Pass.{finished};
-ghost use Rattle.wy50.specs.Repainting.{SpansNumber, BytesNumber, spanNumbers, numbersRule, rawPropose, RawProposes, spanRoom};
+ghost use Rattle.repaint.specs.Spans.{verdictNumber, SpansVerdict, spansOf};
+ghost use Rattle.wy50.specs.Repainting.{RawBytesVerdict, spanNumbers, numbersRule, rawPropose, RawProposes, spanRoom};
 use crate::unpack::is_personality;
 use crate::unpack::personality_at;
 use repaint::ProposeResult;
 use repaint::Span;
 use repaint::Verdict;
-use repaint::finish;
 use repaint::judge_bytes;
+use repaint::judge_spans;
 use repaint::propose;
-use repaint::turn;
 use rules::Personality;
 
 fn verdict_number(v: Verdict) -> u8
-    ensures { λ r. ⌜ r ≡ number v ⌝ }
+    ensures { λ r. ⌜ r ≡ verdictNumber v ⌝ }
 {
     match v {
         Verdict::Accepted => 0,
@@ -27,25 +25,13 @@ fn verdict_number(v: Verdict) -> u8
     }
 }
 
-fn finish_number(before: &[u16], after: &[u16], next: usize) -> u8
-    ensures { λ r. ⌜ r ≡ number (finished (now (before .entry)) (now (after .entry)) next) ⌝ }
-{
-    let v = finish(before, after, next);
-    verdict_number(v)
-}
-
-// Judges a list of spans, each taken out of it and handed to `turn`. Ruled out: one that compares a page with itself.
+// Judges a list of spans. Ruled out: one that compares a page with itself.
 #[no_mangle]
 pub extern "C" fn wy50_judge_spans(before: &[u16], after: &[u16], spans: &[Span]) -> u8
-    ensures { λ r. ⌜ SpansNumber (now (before .entry)) (now (after .entry)) (now (spans .entry)) r ⌝ }
+    ensures { λ r. ⌜ SpansVerdict (now (before .entry)) (now (after .entry)) (now (spans .entry)) r ⌝ }
 {
-    let mut next = 0;
-    let mut i = 0;
-    while i < spans.len() {
-        next = turn(before, after, next, spans[i]);
-        i += 1;
-    }
-    finish_number(before, after, next)
+    let v = judge_spans(before, after, spans);
+    verdict_number(v)
 }
 
 // Judges bytes by the terminal of a personality. Ruled out: one that takes a number that is no personality, or feeds the other one's terminal.
@@ -56,7 +42,7 @@ pub extern "C" fn wy50_judge_bytes(
     personality: u8,
     bytes: &[u8],
 ) -> u8
-    ensures { λ r. ⌜ BytesNumber personality (now (before .entry)) (now (after .entry)) (now (bytes .entry)) r ⌝ }
+    ensures { λ r. ⌜ RawBytesVerdict personality (now (before .entry)) (now (after .entry)) (now (bytes .entry)) r ⌝ }
 {
     if !is_personality(personality) {
         return 7;
@@ -107,7 +93,8 @@ fn propose_beside(
     t
 }
 
-// Proposes spans, as numbers, and bytes. Ruled out: one that writes the columns first, takes a span more than fits, or writes numbers and then refuses.
+// Proposes spans, as numbers, and bytes. Ruled out: one that writes the columns first, takes a span more than fits, or writes numbers and then
+// refuses.
 #[no_mangle]
 pub extern "C" fn wy50_propose_numbers(
     before: &[u16],

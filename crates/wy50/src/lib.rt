@@ -16,11 +16,12 @@ ghost use Rattle.wy50.specs.Rows.{rawStepRows, rawRunRows, Heard, rawRow
 ghost use Rattle.wy50.specs.Converting.{rawConvert, Turns};
 ghost use Rattle.mend.specs.Mend.{Gives};
 ghost use Rattle.wy50.specs.Mending.{rawMend};
-ghost use Rattle.wy50.specs.Saved.{saveNumbers, restoreNumber, rawSave, rawRestore, stateAfter};
+ghost use Rattle.wy50.specs.Saved.{rawSave, saveGiven, rawRestore, stateAfter};
 ghost use Rattle.wy50.specs.Promise.{rawPowerOn, rawStep, rawRun, rawPress, PoweredOn, Stepped, Completed, Sent};
 use mend::MendResult;
 use mend::mend;
 use pack::flag;
+use pack::fresh;
 use pack::pack;
 use raw::RawConvert;
 use raw::RawNext;
@@ -79,7 +80,7 @@ pub extern "C" fn wy50_power_on(page: &mut [u16], personality: u8) -> RawPowerOn
         let none = power_on_state(Personality::Wy50);
         return RawPowerOn {
             answer: 7,
-            state: pack(none),
+            state: fresh(none),
         };
     }
     let t = power_on(page, personality_at(personality));
@@ -87,7 +88,7 @@ pub extern "C" fn wy50_power_on(page: &mut [u16], personality: u8) -> RawPowerOn
     let a = t.answer;
     RawPowerOn {
         answer: answer_number(a),
-        state: pack(s),
+        state: fresh(s),
     }
 }
 
@@ -125,7 +126,7 @@ pub extern "C" fn wy50_step(
         answer: n,
         taken: flag(t.taken),
         replied: t.replied,
-        state: pack(s),
+        state: pack(state, s),
     }
 }
 
@@ -167,7 +168,7 @@ pub extern "C" fn wy50_run(
         taken: t.taken,
         replied: t.replied,
         refused: t.refused,
-        state: pack(s),
+        state: pack(state, s),
     }
 }
 
@@ -225,7 +226,7 @@ pub extern "C" fn wy50_step_rows(
         answer: n,
         taken: flag(r.taken),
         replied: r.replied,
-        state: pack(s),
+        state: pack(state, s),
     }
 }
 
@@ -267,7 +268,7 @@ pub extern "C" fn wy50_run_rows(
         taken: r.taken,
         replied: r.replied,
         refused: r.refused,
-        state: pack(s),
+        state: pack(state, s),
     }
 }
 
@@ -314,7 +315,7 @@ pub extern "C" fn wy50_next(
         taken: heard.taken,
         replied: heard.replied,
         refused: heard.refused,
-        state: pack(s),
+        state: pack(state, s),
     }
 }
 
@@ -334,7 +335,7 @@ pub extern "C" fn wy50_rebuild_rows(page: &[u16], rows: &mut [u16], state: RawSt
 // refuses.
 #[no_mangle]
 pub extern "C" fn wy50_save(state: RawState, store: &mut [u8]) -> RawSave
-    ensures { λ r. ⌜ (r ≡ saveNumbers (rawSave state (now (store .entry)) .result)) × (now (store .exit) ≡ rawSave state (now (store .entry)) .store) ⌝ }
+    ensures { λ r. ⌜ (r ≡ saveGiven (rawSave state (now (store .entry)))) × (now (store .exit) ≡ rawSave state (now (store .entry)) .store) ⌝ }
 {
     if !is_named(state) {
         return RawSave {
@@ -349,7 +350,7 @@ pub extern "C" fn wy50_save(state: RawState, store: &mut [u8]) -> RawSave
 // Restores the settings saved under a number. Ruled out: one that gives other numbers back than it was handed where it refuses.
 #[no_mangle]
 pub extern "C" fn wy50_restore(state: RawState, store: &[u8], number: u16) -> RawRestore
-    ensures { λ r. ⌜ (r .answer ≡ restoreNumber (rawRestore state (now (store .entry)) number .result)) × (r .state ≡ stateAfter state (rawRestore state (now (store .entry)) number)) ⌝ }
+    ensures { λ r. ⌜ (r .answer ≡ rawRestore state (now (store .entry)) number .answer) × (r .state ≡ stateAfter state (rawRestore state (now (store .entry)) number)) ⌝ }
 {
     if !is_named(state) {
         return RawRestore {
@@ -369,7 +370,7 @@ pub extern "C" fn wy50_restore(state: RawState, store: &[u8], number: u16) -> Ra
     }
     RawRestore {
         answer: 0,
-        state: pack(s),
+        state: pack(state, s),
     }
 }
 
@@ -396,7 +397,7 @@ pub extern "C" fn wy50_convert(page: &[u16], state: RawState, target: &mut [u16]
     }
     RawConvert {
         answer: 0,
-        state: pack(s),
+        state: pack(state, s),
     }
 }
 

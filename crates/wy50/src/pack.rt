@@ -2,7 +2,9 @@
 ghost use mathlib.Core.Path.{_≡_};
 ghost use mathlib.Core.List.{map};
 ghost use Rattle.rules.specs.Cell.{pick};
-ghost use Rattle.wy50.specs.Raw.{flag, personalityNumber, gatheredIn, zeroed, kindOf, textSequence, spoiltSequence, sequenceOf, textSending, rawSending, rawModes, rawKey, rawMessage, packed};
+ghost use Rattle.wy50.specs.Raw.{flag, personalityNumber, gatheredIn, blanked, laidOver, kindOf, textSequence, spoiltSequence, sequenceOf};
+ghost use Rattle.wy50.specs.Raw.{textSending, rawSending, rawModes, rawKey, rawMessage, numbers, packed};
+ghost use Rattle.wy50.specs.Promise.{freshNumbers};
 use crate::raw::RawKey;
 use crate::raw::RawMessage;
 use crate::raw::RawModes;
@@ -73,7 +75,7 @@ fn spoilt_sequence(x: Slot) -> RawSequence
     }
 }
 
-pub fn sequence_of(p: Pending) -> RawSequence
+pub(crate) fn sequence_of(p: Pending) -> RawSequence
     ensures { λ r. ⌜ r ≡ sequenceOf p ⌝ }
 {
     match p {
@@ -111,7 +113,7 @@ fn text_sending(command: u8, at: Place) -> RawSending
     }
 }
 
-pub fn raw_sending(x: Sending) -> RawSending
+pub(crate) fn raw_sending(x: Sending) -> RawSending
     ensures { λ r. ⌜ r ≡ rawSending x ⌝ }
 {
     match x {
@@ -121,7 +123,7 @@ pub fn raw_sending(x: Sending) -> RawSending
     }
 }
 
-pub fn flag(b: bool) -> u8
+pub(crate) fn flag(b: bool) -> u8
     ensures { λ r. ⌜ r ≡ flag b ⌝ }
 {
     if b { 1 } else { 0 }
@@ -258,30 +260,58 @@ fn gathered_in(q: RawSequence) -> u8
     }
 }
 
-fn kept(b: u8, keep: bool) -> u8
-    ensures { λ r. ⌜ r ≡ pick keep b 0 ⌝ }
+// One byte gathered, as it goes back: counted now, no longer counted, or as it came.
+fn byte_back(new: u8, counted: bool, old: u8, was: bool) -> u8
+    ensures { λ r. ⌜ r ≡ pick counted new (pick was 0 old) ⌝ }
 {
-    if keep { b } else { 0 }
+    if counted {
+        return new;
+    }
+    if was { 0 } else { old }
 }
 
-// Zeros behind the first n bytes.
-fn raw_gathered(gathered: [u8; 46], n: u8) -> [u8; 46]
-    ensures { λ r. ⌜ r ≡ zeroed n gathered ⌝ }
+// The first n bytes, which are counted now, before those that came, of which m were counted. Mostly no text is under way, before or after.
+fn bytes_back(n: u8, new: [u8; 46], m: u8, old: [u8; 46]) -> [u8; 46]
+    ensures { λ r. ⌜ r ≡ laidOver n new (blanked m old) ⌝ }
 {
     if n == 0 {
-        return [0u8; 46];
+        if m == 0 {
+            return old;
+        }
     }
     let mut t = [0u8; 46];
     let mut i = 0;
     while i < 46 {
-        t[i] = kept(gathered[i], i < n as usize);
+        t[i] = byte_back(new[i], i < n as usize, old[i], i < m as usize);
         i += 1;
     }
     t
 }
 
-pub fn pack(s: State) -> RawState
-    ensures { λ r. ⌜ r ≡ packed s ⌝ }
+// The numbers of a state that a call leaves, which was handed x.
+pub(crate) fn pack(x: RawState, s: State) -> RawState
+    ensures { λ r. ⌜ r ≡ packed x s ⌝ }
+{
+    let old = x.gathered;
+    let begun = x.sequence;
+    let core = s.core;
+    let pending = core.pending;
+    let new = s.gathered;
+    let n = gathered_in(sequence_of(pending));
+    pack_with(bytes_back(n, new, gathered_in(begun), old), s)
+}
+
+// The numbers of a power-on state.
+pub(crate) fn fresh(s: State) -> RawState
+    ensures { λ r. ⌜ r ≡ freshNumbers s ⌝ }
+{
+    let gathered = s.gathered;
+    pack_with(gathered, s)
+}
+
+// The numbers of a state, with these bytes for those gathered.
+fn pack_with(gathered: [u8; 46], s: State) -> RawState
+    ensures { λ r. ⌜ r ≡ numbers gathered s ⌝ }
 {
     let core = s.core;
     let setup = s.setup;
@@ -290,7 +320,6 @@ pub fn pack(s: State) -> RawState
     let pending = core.pending;
     let personality = core.personality;
     let sending = s.sending;
-    let gathered = s.gathered;
     let tabs = setup.tabs;
     let attributes = setup.attributes;
     let features = setup.features;
@@ -298,7 +327,6 @@ pub fn pack(s: State) -> RawState
     let labels = setup.labels;
     let message = setup.message;
     let q = sequence_of(pending);
-    let bytes = raw_gathered(gathered, gathered_in(q));
     RawState {
         screen: RawScreen {
             wide: raw_flag(screen.wide),
@@ -313,7 +341,7 @@ pub fn pack(s: State) -> RawState
         remembered: core.attribute,
         sequence: q,
         sending: raw_sending(sending),
-        gathered: bytes,
+        gathered: gathered,
         tabs: raw_tabs(tabs),
         attributes: attributes,
         features: features,

@@ -52,8 +52,8 @@ pub struct RawSending {
     pub place: u16,
 }
 
-// A tab stop is 0 or 1, and so are `shifted` and `wish`. The personality is 50 or 60, and `remembered` the attribute that ESC G sets in the 60. `gathered` are
-// the bytes of a text under way; the sequence says how many.
+// A tab stop is 0 or 1, and so are `shifted` and `wish`. The personality is 50 or 60, and `remembered` the attribute that ESC G sets in the 60.
+// `gathered` are the bytes of a text under way; the sequence says how many.
 #[repr(C)]
 pub struct RawState {
     pub screen: RawScreen,

@@ -3,10 +3,11 @@ ghost use mathlib.Core.Path.{_≡_};
 ghost use mathlib.Core.Bool.{not};
 ghost use lib.Dec.{eqb};
 ghost use lib.ListN.{length};
-ghost use Rattle.rules.specs.State.{pageLength, cursorOf};
 ghost use Rattle.rules.specs.Fields.{nextFieldRule, fieldTextRule, rowTextRule, Read, positionRule, cellRule};
-ghost use Rattle.wy50.specs.Raw.{unpacked};
+ghost use Rattle.wy50.specs.Promise.{rawPossible, rawCursor};
 use crate::raw::RawState;
+use crate::unpack::is_named;
+use crate::unpack::unpack;
 use fields::cell_at;
 use fields::field_text;
 use fields::next_field;
@@ -15,6 +16,7 @@ use fields::row_text;
 use rules::Field;
 use rules::Position;
 use rules::TextResult;
+use state::possible::possible;
 use state::width::cells;
 
 // The first field that starts at or behind a cell.
@@ -67,11 +69,28 @@ pub extern "C" fn wy50_cell_at(cells: usize, row: usize, column: usize) -> usize
     cell_at(cells, row, column)
 }
 
-// The row and column of the active cursor. Ruled out: one that gives the other segment's.
+// Whether the numbers name a possible state.
+fn is_possible(state: RawState) -> bool
+    ensures { λ r. ⌜ r ≡ rawPossible state ⌝ }
+{
+    if !is_named(state) {
+        return false;
+    }
+    possible(unpack(state))
+}
+
+// The row and column of the active cursor. Ruled out: one that gives the other segment's, or a place for an impossible state.
 #[no_mangle]
 pub extern "C" fn wy50_cursor(state: RawState) -> Position
-    ensures { λ r. ⌜ r ≡ positionRule (pageLength (unpacked state .core .screen)) (cursorOf (unpacked state .core .screen)) ⌝ }
+    ensures { λ r. ⌜ r ≡ rawCursor state ⌝ }
 {
+    if !is_possible(state) {
+        return Position {
+            answer: 7,
+            row: 0,
+            column: 0,
+        };
+    }
     let screen = state.screen;
     let page = cells(screen.wide == 1, 24) as usize;
     if screen.active == 0 {

@@ -1,12 +1,12 @@
 // The numbers of what a save and a restore answer.
 ghost use mathlib.Core.Path.{_≡_};
-ghost use Rattle.wy50.specs.Saved.{saveNumbers, restoreNumber};
+ghost use Rattle.saved.specs.Calls.{saveNumber, savedAs, restoreNumber};
 use crate::raw::RawSave;
 use saved::RestoreAnswer;
 use saved::SaveAnswer;
 
-pub fn save_numbers(a: SaveAnswer) -> RawSave
-    ensures { λ r. ⌜ r ≡ saveNumbers a ⌝ }
+pub(crate) fn save_numbers(a: SaveAnswer) -> RawSave
+    ensures { λ r. ⌜ r ≡ record { answer = saveNumber a; number = savedAs a } ⌝ }
 {
     match a {
         SaveAnswer::Saved(n) => RawSave {
@@ -28,7 +28,7 @@ pub fn save_numbers(a: SaveAnswer) -> RawSave
     }
 }
 
-pub fn restore_number(a: RestoreAnswer) -> u8
+pub(crate) fn restore_number(a: RestoreAnswer) -> u8
     ensures { λ r. ⌜ r ≡ restoreNumber a ⌝ }
 {
     match a {

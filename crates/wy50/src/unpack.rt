@@ -2,7 +2,8 @@
 ghost use mathlib.Core.Path.{_≡_};
 ghost use mathlib.Core.Bool.{true};
 ghost use mathlib.Core.List.{map};
-ghost use Rattle.wy50.specs.Raw.{allBelow, isOn, isPersonality, personalityAt, pendingOf, sameSequence, isSequence, small, placeAt, sendingOf, sameSending, isSending, areFlags, modesOf, keyOf, messageOf, named, unpacked};
+ghost use Rattle.wy50.specs.Raw.{allBelow, isOn, isPersonality, personalityAt, pendingOf, sameSequence, isSequence, small, placeAt, sendingOf};
+ghost use Rattle.wy50.specs.Raw.{sameSending, isSending, areFlags, modesOf, keyOf, messageOf, named, unpacked};
 use crate::pack::raw_sending;
 use crate::pack::sequence_of;
 use crate::raw::RawKey;
@@ -186,7 +187,7 @@ fn are_tabs(tabs: [u8; 132]) -> bool
 }
 
 // Whether the numbers name a state. The tab stops come behind the sequence and the send, so that the machine need not put them aside.
-pub fn is_named(x: RawState) -> bool
+pub(crate) fn is_named(x: RawState) -> bool
     ensures { λ r. ⌜ r ≡ named x ⌝ }
 {
     let modes = x.modes;
@@ -202,13 +203,13 @@ pub fn is_named(x: RawState) -> bool
     and(are_flags(modes), and(x.bells < 256, rest))
 }
 
-pub fn is_personality(v: u8) -> bool
+pub(crate) fn is_personality(v: u8) -> bool
     ensures { λ r. ⌜ r ≡ isPersonality v ⌝ }
 {
     or(v == 50, v == 60)
 }
 
-pub fn personality_at(v: u8) -> Personality
+pub(crate) fn personality_at(v: u8) -> Personality
     ensures { λ r. ⌜ r ≡ personalityAt v ⌝ }
 {
     if v == 60 {
@@ -307,7 +308,7 @@ fn message_of(m: RawMessage) -> LongText
     }
 }
 
-pub fn unpack(x: RawState) -> State
+pub(crate) fn unpack(x: RawState) -> State
     requires { ⌜ named x ≡ true ⌝ }
     ensures { λ r. ⌜ r ≡ unpacked x ⌝ }
 {

@@ -358,7 +358,7 @@ impl Terminal {
         usize::from(if screen.active == 0 { screen.cursor0 } else { screen.cursor1 })
     }
 
-    /// The active cursor's row and column, in the page. A state that is filled in may have it outside the page.
+    /// The active cursor's row and column, in the page; none for a state that is filled in and not possible.
     pub fn cursor_position(&self) -> Option<Position> {
         Position::at(sys::cursor(self.state))
     }

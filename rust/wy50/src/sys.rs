@@ -62,7 +62,8 @@ pub struct RawSending {
     pub place: u16,
 }
 
-/// All that a terminal remembers but its page. It may be filled in: a state that is not possible answers [`Answer::BadCall`].
+/// All that a terminal remembers but its page. It may be filled in: a state that is not possible answers [`Answer::BadCall`]. What stands behind the
+/// length of a text, and behind the bytes gathered, is not looked at and comes back as it came; what a call writes has zeros behind it.
 ///
 /// [`Answer::BadCall`]: crate::Answer::BadCall
 #[repr(C)]
@@ -77,7 +78,7 @@ pub struct State {
     pub remembered: u8,
     pub sequence: Sequence,
     pub sending: RawSending,
-    /// The bytes of a text under way, zeros behind them.
+    /// The bytes of a text under way, as many as the sequence counts.
     pub gathered: [u8; MESSAGE_BYTES],
     /// By column, 1 a tab stop, 0 none; none beyond the width.
     pub tabs: [u8; WIDE_COLUMNS],

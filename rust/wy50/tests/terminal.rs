@@ -353,3 +353,77 @@ fn an_impossible_state_has_no_row_list() {
     assert_eq!(bad.row_list(), None);
     assert_eq!((bad.feed(b"A", &mut []).answer, bad.step(b'A', &mut []).answer), (Answer::BadCall, Answer::BadCall));
 }
+
+/// A row list that is kept goes through `next` as through `feed`: with protect mode on, each cell that write-protect guards changes it.
+#[test]
+fn next_hands_the_row_list_on() {
+    let mut listed = Terminal::new().with_row_list();
+    let mut plain = Terminal::new();
+    for bytes in [&b"\x1b)\x1b&AB"[..], b"C\x1bi\x1e", b"\x1b(D", b"\x1b'E\x1b&"] {
+        for terminal in [&mut listed, &mut plain] {
+            let next = terminal.next(bytes, &mut []);
+            assert_eq!((next.event, next.rest), (None, &b""[..]));
+        }
+        assert_eq!(listed.row_list(), plain.clone().with_row_list().row_list());
+        let (a, b) = (listed.feed(b"!", &mut []), plain.feed(b"!", &mut []));
+        assert_eq!((a.answer, a.refused), (Answer::Done, b.refused));
+        assert!(listed == plain);
+    }
+}
+
+/// Two terminals are equal if page and state are, and not if one of these differs.
+#[test]
+fn equal_terminals() {
+    let t = Terminal::new();
+    let mut state = *t.state();
+    state.bells = 1;
+    let mut page = t.page().to_vec();
+    page[CELLS - 1] = 0x41;
+    let other_state = Terminal::from_parts(t.page(), state).unwrap();
+    let other_page = Terminal::from_parts(&page, *t.state()).unwrap();
+    assert!(t == t.clone() && t == t.clone().with_row_list());
+    assert!(t != other_state && t != other_page && other_state != other_page);
+    assert!(other_page == Terminal::from_parts(&page, *t.state()).unwrap());
+}
+
+/// What is remembered is the attribute, and the personality is another number.
+#[test]
+fn remembered_attribute() {
+    let mut t = Terminal::with_personality(Personality::Wy60);
+    assert_eq!((t.remembered(), t.personality()), (Attributes(0), Some(Personality::Wy60)));
+    fed(&mut t, b"\x1bGt");
+    assert_eq!((t.remembered(), t.personality()), (Attributes(20), Some(Personality::Wy60)));
+}
+
+/// Bytes that mean nothing come back as they came: behind each text, and behind the bytes gathered. What is written has zeros behind it.
+#[test]
+fn nothing_changed() {
+    let mut state = *Terminal::new().state();
+    state.gathered = [0xfe; 46];
+    state.keys.iter_mut().for_each(|key| (key.len, key.bytes) = (2, *b"ok\xfc\xfc\xfc\xfc\xfc\xfc"));
+    state.labels.iter_mut().for_each(|label| (label.len, label.bytes) = (2, *b"go\xfb\xfb\xfb\xfb\xfb\xfb"));
+    (state.message.len, state.message.bytes) = (1, [0x20; 46]);
+    let before = Terminal::from_parts(Terminal::new().page(), state).unwrap();
+    for listed in [false, true] {
+        let mut t = if listed { before.clone().with_row_list() } else { before.clone() };
+        assert_eq!((t.step(0xe9, &mut []).answer, t == before), (Answer::HighByte, true));
+        assert_eq!((t.feed(b"\xe9\xff", &mut []).refused, t == before), (2, true));
+        assert_eq!((t.next(b"\xe9", &mut []).rest, t == before), (&b""[..], true));
+        assert_eq!((t.step(5, &mut []).answer, t == before), (Answer::NoRoom, true));
+        assert_eq!((t.feed(b"\x05", &mut []).answer, t == before), (Answer::NoRoom, true));
+        assert_eq!((t.next(b"\x05", &mut []).rest, t == before), (&b"\x05"[..], true));
+        assert_eq!((t.press(0x40, &mut [0; 2]).replied, t == before), (2, true));
+        fed(&mut t, b"\x1bF");
+        fed(&mut t, b"xyz");
+        assert_eq!((&t.state().gathered[..4], t.state().keys == state.keys), (&b"xyz\xfe"[..], true));
+        fed(&mut t, b"\r");
+        state.message = t.state().message;
+        state.gathered[..3].fill(0);
+        assert_eq!((state.message.len, &state.message.bytes[..4], state.message.bytes[45]), (3, &b"xyz\0"[..], 0));
+        assert_eq!(*t.state(), state);
+        (state.message.len, state.message.bytes, state.gathered) = (1, [0x20; 46], [0xfe; 46]);
+    }
+    state.modes.protect = 2;
+    let mut t = Terminal::from_parts(Terminal::new().page(), state).unwrap();
+    assert_eq!((t.step(b'A', &mut []).answer, *t.state(), t.cursor_position()), (Answer::BadCall, state, None));
+}

@@ -49,7 +49,7 @@ use denote.Exit.{yes}
 use denote.Triple.Clauses.{ensured, lasts}
 use Rattle.repaint.specs.declared.Span.{Span}
 use Rattle.repaint.specs.declared.Verdict.{Verdict}
-use Rattle.repaint.specs.Spans.{none, spanAt, SpansVerdict}
+use Rattle.repaint.specs.Spans.{none, spanAt, verdictNumber, SpansVerdict}
 use Rattle.repaint.specs.Pass.{turned, passed, finished}
 use Rattle.repaint.proofs.Verdicts.{pass-on, pass-verdict}
 use Rattle.repaint.proofs.Span as T
@@ -163,7 +163,7 @@ module _ {M : Type 1} (𝓤 : URA M) (H : Heap 𝓤) (A : Atoms 𝓤) (W : Given
   abbrev AtEnd : Verdict → Val → List (Item 𝓤)
   AtEnd r u = ‵ (E.the-row .own r (u ∷ [])) ∷ Tokens ∷ ‵ Y ∷ ‵ X ∷ ‵ (flft κ₂ q₂) ∷ ‵ Z ∷ []
 
-  exits : (r : Verdict) (u : Val) → SpansVerdict a b spans r → ent 𝓤 (⋆ 𝓤 H A (AtEnd r u)) (Post u)
+  exits : (r : Verdict) (u : Val) → SpansVerdict a b spans (verdictNumber r) → ent 𝓤 (⋆ 𝓤 H A (AtEnd r u)) (Post u)
   exits r u e =
       qed W (AtEnd r u) ∵
       suffices ! _ (ends-at 𝓤 H A judge.ended stayed (judge.clauses 𝓤 H A mem run) W (((κ₀, (κ₁, (κ₂, tt))), (q₀, (q₁, (q₂, tt))), tt, (x, (y, (z, tt))), at), tt) u r (tt, (tt, (tt, tt))) (tt, (tt, (tt, tt)))) $ says ! e $

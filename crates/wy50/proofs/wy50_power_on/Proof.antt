@@ -14,19 +14,19 @@ wy50-power-on-spec =
     (λ c κs. search needs)
     -- power-on-state-requires
     (λ c κs. search needs)
-    -- pack-requires
+    -- fresh-requires
     (λ c κs. search needs)
     -- returns
     (λ c.
     let if = c .before .before in
-    power-on-refused _ _ (sym (if .before .is-personality .ensures) ∙ not-true _ (if .if1 .taken)) (c .before .power-on-state .ensures) (c .pack .ensures))
+    power-on-refused _ _ (sym (if .before .is-personality .ensures) ∙ not-true _ (if .if1 .taken)) (c .before .power-on-state .ensures) (c .fresh .ensures))
     -- personality-at-requires
     (λ c κs. search needs)
     -- power-on-requires
     (λ c κs. search needs)
     -- answer-number-requires
     (λ c κs. search needs)
-    -- pack-requires-2
+    -- fresh-requires-2
     (λ c κs. search needs)
     -- same-length
     (λ c. search needs)
@@ -35,4 +35,4 @@ wy50-power-on-spec =
     let on = c .before .before .before .before .before in
     let if = on .before .before .before in
     powered-on _ _ (sym (if .before .is-personality .ensures) ∙ not-false _ (if .if1 .left)) (on .before .personality-at .ensures) (on .power-on .ensures)
-    (c .before .answer-number .ensures) (c .pack2 .ensures)))
+    (c .before .answer-number .ensures) (c .fresh2 .ensures)))

@@ -3,7 +3,7 @@ use mathlib.Core.Path.{sym, _∙_}
 use borrow.Author.Needs.{needs}
 use borrow.Author.Tests.{not-true, not-false}
 use denote.Ref.{now}
-use Rattle.wy50.specs.Repainting.{BytesNumber}
+use Rattle.wy50.specs.Repainting.{RawBytesVerdict}
 use Rattle.wy50.proofs.RepaintCalls.{bytes-named}
 use Rattle.wy50.proofs.display.wy50_judge_bytes.Statement.{statement}
 use Rattle.wy50.proofs.display.wy50_judge_bytes.Tie as tie
@@ -15,7 +15,7 @@ wy50-judge-bytes-spec =
     -- is-personality-requires
     (λ c κs. search needs)
     -- returns
-    (λ c. BytesNumber.unnamed (sym (c .before .is-personality .ensures) ∙ not-true _ (c .if1 .taken)))
+    (λ c. RawBytesVerdict.unnamed (sym (c .before .is-personality .ensures) ∙ not-true _ (c .if1 .taken)))
     -- personality-at-requires
     (λ c κs. search needs)
     -- judge-bytes-requires

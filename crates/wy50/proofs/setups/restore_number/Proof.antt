@@ -1,12 +1,11 @@
 -- `wy50::setups::restore_number` meets its contract.
 use mathlib.Core.Path.{sym, ap}
-use Rattle.wy50.specs.Saved.{restoreNumber}
+use Rattle.saved.specs.Calls.{restoreNumber}
 use borrow.Author.Needs.{needs}
 use Rattle.wy50.proofs.setups.restore_number.Statement.{statement}
 use Rattle.wy50.proofs.setups.restore_number.Tie as tie
 
 pub restore-number-spec : {M : Type 1} → statement M
-unfolding restoreNumber
 restore-number-spec =
     tie.close
     (tie.spec

@@ -1,12 +1,16 @@
 -- `wy50::setups::save_numbers` meets its contract.
 use mathlib.Core.Path.{sym, ap}
-use Rattle.wy50.specs.Saved.{saveNumbers}
+use Rattle.saved.specs.declared.SaveAnswer.{SaveAnswer}
+use Rattle.saved.specs.Calls.{saveNumber, savedAs}
+use Rattle.wy50.specs.declared.raw.RawSave.{RawSave}
 use borrow.Author.Needs.{needs}
 use Rattle.wy50.proofs.setups.save_numbers.Statement.{statement}
 use Rattle.wy50.proofs.setups.save_numbers.Tie as tie
 
+abbrev saveNumbers : SaveAnswer → RawSave
+saveNumbers a = record { answer = saveNumber a; number = savedAs a }
+
 pub save-numbers-spec : {M : Type 1} → statement M
-unfolding saveNumbers
 save-numbers-spec =
     tie.close
     (tie.spec
