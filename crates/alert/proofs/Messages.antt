@@ -20,6 +20,7 @@ use Rattle.counter.specs.Words.{words}
 use Rattle.counter.specs.Pieces.{pieces, pieceOf}
 use Rattle.counter.specs.declared.Asked.{Asked}
 use Rattle.counter.specs.Ask.{asking, askRule, Asks, Unrevealed}
+use Rattle.counter.proofs.Questions.{one-told}
 use Rattle.counter.proofs.Alike.{labels-uncounted}
 use Rattle.alert.specs.Room.{decimalOf, Puts}
 use Rattle.alert.specs.Message.{modeNote, isShown, pieceLine, pieceLines, sent, replyRoom, replyOf, lastOf, message, Private}
@@ -112,7 +113,7 @@ message-is p s first all last {a} {b} {p′} {p″} {w} {w′} {w″} {e = e} x 
     let g : e ≡ lastOf all last (replyOf p s) = f ∙ ap (lastOf all last) r in
     let r′ : take (b .replied) w″ ≡ replyOf p s =
     rw (x .page, k) at (front ((asking p′ s (length w′)) .reply) w′ w″ (b .replied) (y .replied) (y .room)) in
-    let t : b .told ≡ askRule p s first (lastOf all last (replyOf p s)) replyRoom = rw (x .page, k, g) at (y .told) in
+    let t : b .told ≡ askRule p s first (lastOf all last (replyOf p s)) replyRoom = one-told _ _ (rw (x .page, k, g) at (y .told)) in
     (y .page ∙ x .page, rw (r′, t, g) at q)
 
 -- ---- privacy

@@ -1,11 +1,12 @@
 -- Laws of the answers of a count.
 --     no-return, some-byte, in-range     what the first tests say
---     no-return-is, bad-first-is, bad-last-is, counted-is     each answer
+--     no-return-is, bad-first-is, bad-last-is, counted-is     each answer, in numbers
+--     one-count     the statement of specs/Count
 --     pieces-none, pieces-some     how many pieces
 --     piece-zero, piece-beyond, piece-is     one of them
 --     part-to, part-ordered, part-within, part-pieces, part-piece     the part of a reply that pieces are
 -- Assumes nothing.
-use mathlib.Core.Path.{_≡_, refl, sym, ap, _∙_}
+use mathlib.Core.Path.{_≡_, refl, sym, ap, ap₂, _∙_}
 use mathlib.Core.Bool.{Bool, true, false, false≢true}
 use mathlib.Core.List.{List, []}
 use Prim.Native.Nat.{ℕ, suc, _+_, _-_, _≤_, _<_}
@@ -18,7 +19,7 @@ use Rattle.rules.proofs.Tests.{both-parts}
 use Rattle.counter.specs.declared.Counted.{Counted}
 use Rattle.counter.specs.declared.Counted.the-variants as Counted
 use Rattle.counter.specs.Pieces.{returns, before, pieces, pieceOf, joined, whole}
-use Rattle.counter.specs.Count.{textCount, inOrder, countRule}
+use Rattle.counter.specs.Count.{Numbers, numbers, textCount, inOrder, countRule, OneCount}
 use Rattle.counter.specs.Walk.{remaining, marksIn, past}
 use Rattle.counter.proofs.Marks.{pieces-length, past-less, past-some, past-most, some-pieces, one-piece}
 
@@ -112,22 +113,51 @@ some-pieces-return r h = by-test (returns r) refl
 -- ---- the answers
 
 module _ (r : List ℕ) (first last : ℕ) where
-  pub no-return-is : returns r ≡ false → Counted.NoReturn ≡ countRule r first last
+  pub no-return-is : returns r ≡ false → numbers Counted.NoReturn ≡ numbers (countRule r first last)
   unfolding countRule
   no-return-is e = rw e
 
-  pub bad-first-is : returns r ≡ true → inOrder first last ≡ false → Counted.BadFirst ≡ countRule r first last
+  pub bad-first-is : returns r ≡ true → inOrder first last ≡ false → numbers Counted.BadFirst ≡ numbers (countRule r first last)
   unfolding countRule
   bad-first-is e f = rw (e, f)
 
-  pub bad-last-is : returns r ≡ true → inOrder first last ≡ true → length (pieces r) < last → Counted.BadLast ≡ countRule r first last
+  pub bad-last-is : returns r ≡ true → inOrder first last ≡ true → length (pieces r) < last → numbers Counted.BadLast ≡ numbers (countRule r first last)
   unfolding countRule
   bad-last-is e f h = rw (e, f, lt-leb last (length (pieces r)) h)
 
   pub counted-is : returns r ≡ true → inOrder first last ≡ true → last ≤ length (pieces r) → (l : List ℕ)
       → joined (take (last - (first - 1)) (drop (first - 1) (pieces r))) ≡ remaining true l → {c : Counted}
-      → c ≡ textCount (remaining true l) → c ≡ countRule r first last
+      → c ≡ textCount (remaining true l) → numbers c ≡ numbers (countRule r first last)
   unfolding countRule whole
   counted-is e f h l g k =
       let z : last + 1 - first ≡ last - (first - 1) = omega (arith, in-range first last f) in
-      k ∙ rw (e, f, le-leb last (length (pieces r)) h, z) (ap textCount (sym g))
+      ap numbers k ∙ rw (e, f, le-leb last (length (pieces r)) h, z) (ap (λ (t : List ℕ). numbers (textCount t)) (sym g))
+
+-- ---- the numbers
+
+pub one-count : OneCount
+one-count (Counted.Text u n) (Counted.Text v m) e = ap₂ Counted.Text (ap (λ (k : Numbers). k .units) e) (ap (λ (k : Numbers). k .parts) e)
+one-count (Counted.Text u n) Counted.NoReturn e = absurd (omega (arith, ap (λ (k : Numbers). k .refusal) e))
+one-count (Counted.Text u n) Counted.BadFirst e = absurd (omega (arith, ap (λ (k : Numbers). k .refusal) e))
+one-count (Counted.Text u n) Counted.BadLast e = absurd (omega (arith, ap (λ (k : Numbers). k .refusal) e))
+one-count (Counted.Text u n) (Counted.BadByte m) e = absurd (omega (arith, ap (λ (k : Numbers). k .refusal) e))
+one-count Counted.NoReturn (Counted.Text v m) e = absurd (omega (arith, ap (λ (k : Numbers). k .refusal) e))
+one-count Counted.NoReturn Counted.NoReturn e = refl
+one-count Counted.NoReturn Counted.BadFirst e = absurd (omega (arith, ap (λ (k : Numbers). k .refusal) e))
+one-count Counted.NoReturn Counted.BadLast e = absurd (omega (arith, ap (λ (k : Numbers). k .refusal) e))
+one-count Counted.NoReturn (Counted.BadByte m) e = absurd (omega (arith, ap (λ (k : Numbers). k .refusal) e))
+one-count Counted.BadFirst (Counted.Text v m) e = absurd (omega (arith, ap (λ (k : Numbers). k .refusal) e))
+one-count Counted.BadFirst Counted.NoReturn e = absurd (omega (arith, ap (λ (k : Numbers). k .refusal) e))
+one-count Counted.BadFirst Counted.BadFirst e = refl
+one-count Counted.BadFirst Counted.BadLast e = absurd (omega (arith, ap (λ (k : Numbers). k .refusal) e))
+one-count Counted.BadFirst (Counted.BadByte m) e = absurd (omega (arith, ap (λ (k : Numbers). k .refusal) e))
+one-count Counted.BadLast (Counted.Text v m) e = absurd (omega (arith, ap (λ (k : Numbers). k .refusal) e))
+one-count Counted.BadLast Counted.NoReturn e = absurd (omega (arith, ap (λ (k : Numbers). k .refusal) e))
+one-count Counted.BadLast Counted.BadFirst e = absurd (omega (arith, ap (λ (k : Numbers). k .refusal) e))
+one-count Counted.BadLast Counted.BadLast e = refl
+one-count Counted.BadLast (Counted.BadByte m) e = absurd (omega (arith, ap (λ (k : Numbers). k .refusal) e))
+one-count (Counted.BadByte n) (Counted.Text v m) e = absurd (omega (arith, ap (λ (k : Numbers). k .refusal) e))
+one-count (Counted.BadByte n) Counted.NoReturn e = absurd (omega (arith, ap (λ (k : Numbers). k .refusal) e))
+one-count (Counted.BadByte n) Counted.BadFirst e = absurd (omega (arith, ap (λ (k : Numbers). k .refusal) e))
+one-count (Counted.BadByte n) Counted.BadLast e = absurd (omega (arith, ap (λ (k : Numbers). k .refusal) e))
+one-count (Counted.BadByte n) (Counted.BadByte m) e = ap Counted.BadByte (ap (λ (k : Numbers). k .place) e)

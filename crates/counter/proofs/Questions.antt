@@ -1,9 +1,9 @@
 -- Asking the terminal: the call's promise, and what it comes to on each path.
 --     tell-page, tell-state, tell-under-way, tell-no-room, tell-counted     what the caller is told
---     ready-is                                  whether nothing is under way
+--     ready-is, unready-is                      whether nothing is under way
 --     few-bytes, room-most, lends, replied-within     what is lent
 --     asks                                      the call's promise, from the run's
---     ask-cases                                 the statement of specs/Ask
+--     ask-cases, one-told                       the statements of specs/Ask
 -- Assumes nothing.
 use mathlib.Core.Path.{_≡_, refl, sym, ap, _∙_}
 use mathlib.Core.Bool.{Bool, true, false, not}
@@ -25,8 +25,9 @@ use Rattle.terminal.specs.Promise.{Completed}
 use Rattle.counter.specs.declared.Counted.{Counted}
 use Rattle.counter.specs.declared.Told.{Told}
 use Rattle.counter.specs.declared.Told.the-variants as Told
-use Rattle.counter.specs.Count.{countRule}
-use Rattle.counter.specs.Ask.{isReady, question, lent, asking, isCut, toldRule, askRule, Asks, Silent, AskingCases}
+use Rattle.counter.specs.Count.{Numbers, numbers, countRule}
+use Rattle.counter.proofs.Counting.{one-count}
+use Rattle.counter.specs.Ask.{isReady, question, lent, asking, isCut, toldRule, ToldNumbers, toldNumbers, OneTold, askRule, Asks, Silent, AskingCases}
 use Rattle.counter.proofs.Replies.{asked-begun, asked-stopped, by-room, asked-nothing, asked-refused, asking-page, cut-fills, whole-state, never-cut}
 
 -- ---- what the caller is told
@@ -52,9 +53,21 @@ module _ (n : ℕ) (full ready cut : Bool) (c : Counted) where
   unfolding toldRule
   tell-counted e f g = rw (ne-eqb n 7 e, f, g)
 
-pub ready-is : (s : State) {a b r : Bool} → a ≡ isIdle (s .core .pending) → b ≡ sends (s .sending) → r ≡ both a (not b) → r ≡ isReady s
+both-off : (a b : Bool) → b ≡ false → a ≡ both a (not b)
+both-off true b e = rw e
+both-off false b e = refl
+
+none-on : (a b : Bool) → b ≡ true → false ≡ both a (not b)
+none-on true b e = rw e
+none-on false b e = refl
+
+pub ready-is : (s : State) {b r : Bool} → b ≡ sends (s .sending) → b ≡ false → r ≡ isIdle (s .core .pending) → r ≡ isReady s
 unfolding isReady
-ready-is s ea eb er = er ∙ rw (ea, eb)
+ready-is s eb f er = er ∙ both-off (isIdle (s .core .pending)) (sends (s .sending)) (sym eb ∙ f)
+
+pub unready-is : (s : State) {b : Bool} → b ≡ sends (s .sending) → b ≡ true → false ≡ isReady s
+unfolding isReady
+unready-is s eb t = none-on (isIdle (s .core .pending)) (sends (s .sending)) (sym eb ∙ t)
 
 -- ---- the promise
 
@@ -130,19 +143,19 @@ module _ (p : List ℕ) (s : State) (first last : ℕ) (p′ w w′ : List ℕ) 
       → Asks p s first last (record { told = x; replied = r .replied }) p′ w w′
   unfolding askRule isCut
   asked {r} h o = record {
-    told = o ∙ rw (h .answer, h .state, front _ w w′ (r .replied) (h .replied) (h .room));
+    told = ap toldNumbers {y = askRule p s first last (length w)} (o ∙ rw (h .answer, h .state, front _ w w′ (r .replied) (h .replied) (h .room)));
     replied = h .replied;
     fits = h .fits;
     page = h .page ∙ asking-page p s (length w);
     room = h .room;
   }
 
-  pub asks : {r : RunResult} {full ready cut : Bool} {c : Counted} {a : ℕ} {x : Told} → full ≡ eqb (length p) (pageLength (s .core .screen))
+  pub asks : (c : Counted) {r : RunResult} {full ready cut : Bool} {a : ℕ} {x : Told} → full ≡ eqb (length p) (pageLength (s .core .screen))
       → ready ≡ isReady s → Completed (runRule p s (question ready) (lent ready (length w))) r (question ready) p′ w w′
-      → c ≡ countRule (take (r .replied) w′) first last → a ≡ number (r .answer) → cut ≡ either (eqb a 6) (sends (r .state .sending))
+      → numbers c ≡ numbers (countRule (take (r .replied) w′) first last) → a ≡ number (r .answer) → cut ≡ either (eqb a 6) (sends (r .state .sending))
       → x ≡ toldRule a full ready cut c → Asks p s first last (record { told = x; replied = r .replied }) p′ w w′
   unfolding asking
-  asks d e h k m n o = asked (rw e at h) (o ∙ rw (n, d, e, m, k))
+  asks c {r = r} d e h k m n o = asked (rw e at h) (o ∙ rw (n, d, e, m, one-count c (countRule (take (r .replied) w′) first last) k))
 
 -- ---- path by path
 
@@ -198,3 +211,32 @@ ask-cases p s first last room = record {
   counted = counted p s first last room;
   enough = never-cut p s room;
 }
+
+-- ---- the numbers
+
+pub one-told : OneTold
+one-told (Told.Counted c) (Told.Counted d) e = ap Told.Counted (one-count c d (ap (λ (k : ToldNumbers). k .count) e))
+one-told (Told.Counted c) Told.BadPage e = absurd (omega (arith, ap (λ (k : ToldNumbers). k .answer) e))
+one-told (Told.Counted c) Told.BadState e = absurd (omega (arith, ap (λ (k : ToldNumbers). k .answer) e))
+one-told (Told.Counted c) Told.UnderWay e = absurd (omega (arith, ap (λ (k : ToldNumbers). k .answer) e))
+one-told (Told.Counted c) Told.NoRoom e = absurd (omega (arith, ap (λ (k : ToldNumbers). k .answer) e))
+one-told Told.BadPage (Told.Counted d) e = absurd (omega (arith, ap (λ (k : ToldNumbers). k .answer) e))
+one-told Told.BadPage Told.BadPage e = refl
+one-told Told.BadPage Told.BadState e = absurd (omega (arith, ap (λ (k : ToldNumbers). k .answer) e))
+one-told Told.BadPage Told.UnderWay e = absurd (omega (arith, ap (λ (k : ToldNumbers). k .answer) e))
+one-told Told.BadPage Told.NoRoom e = absurd (omega (arith, ap (λ (k : ToldNumbers). k .answer) e))
+one-told Told.BadState (Told.Counted d) e = absurd (omega (arith, ap (λ (k : ToldNumbers). k .answer) e))
+one-told Told.BadState Told.BadPage e = absurd (omega (arith, ap (λ (k : ToldNumbers). k .answer) e))
+one-told Told.BadState Told.BadState e = refl
+one-told Told.BadState Told.UnderWay e = absurd (omega (arith, ap (λ (k : ToldNumbers). k .answer) e))
+one-told Told.BadState Told.NoRoom e = absurd (omega (arith, ap (λ (k : ToldNumbers). k .answer) e))
+one-told Told.UnderWay (Told.Counted d) e = absurd (omega (arith, ap (λ (k : ToldNumbers). k .answer) e))
+one-told Told.UnderWay Told.BadPage e = absurd (omega (arith, ap (λ (k : ToldNumbers). k .answer) e))
+one-told Told.UnderWay Told.BadState e = absurd (omega (arith, ap (λ (k : ToldNumbers). k .answer) e))
+one-told Told.UnderWay Told.UnderWay e = refl
+one-told Told.UnderWay Told.NoRoom e = absurd (omega (arith, ap (λ (k : ToldNumbers). k .answer) e))
+one-told Told.NoRoom (Told.Counted d) e = absurd (omega (arith, ap (λ (k : ToldNumbers). k .answer) e))
+one-told Told.NoRoom Told.BadPage e = absurd (omega (arith, ap (λ (k : ToldNumbers). k .answer) e))
+one-told Told.NoRoom Told.BadState e = absurd (omega (arith, ap (λ (k : ToldNumbers). k .answer) e))
+one-told Told.NoRoom Told.UnderWay e = absurd (omega (arith, ap (λ (k : ToldNumbers). k .answer) e))
+one-told Told.NoRoom Told.NoRoom e = refl

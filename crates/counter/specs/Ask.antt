@@ -19,7 +19,7 @@ use Rattle.counter.specs.declared.Told.the-variants as Told
 use Rattle.counter.specs.declared.Asked.{Asked}
 use Rattle.counter.specs.Alphabet.{backquote}
 use Rattle.counter.specs.Pieces.{isMark, whole}
-use Rattle.counter.specs.Count.{countRule}
+use Rattle.counter.specs.Count.{Numbers, numbers, countRule}
 
 -- neither a sequence nor a send is under way
 unfoldable pub isReady : State → Bool
@@ -51,10 +51,29 @@ askRule p s first last room =
     toldRule ((asking p s room) .answer) (eqb (length p) (pageLength (s .core .screen))) (isReady s) (isCut (asking p s room))
     (countRule ((asking p s room) .reply) first last)
 
+-- what is told in numbers: 0 and the count, or what refuses it, in the order of the tests, and a count of zeros
+pub record ToldNumbers : Type 0 where
+  pub answer : ℕ
+  pub count : Numbers
+
+abbrev pub untold : ℕ → ToldNumbers
+untold n = record { answer = n; count = record { refusal = 0; units = 0; parts = 0; place = 0 } }
+
+abbrev pub toldNumbers : Told → ToldNumbers
+toldNumbers (Told.Counted c) = record { answer = 0; count = numbers c }
+toldNumbers Told.BadPage = untold 1
+toldNumbers Told.BadState = untold 2
+toldNumbers Told.UnderWay = untold 3
+toldNumbers Told.NoRoom = untold 4
+
+-- the numbers say what was told
+abbrev pub OneTold : Type 0
+OneTold = (t u : Told) → toldNumbers t ≡ toldNumbers u → t ≡ u
+
 -- p and w are the page and the room before the call, p′ and w′ after it: the page is as it was, and the reply, as far as
 -- it fits, stands at the front of the room
 pub record Asks (p : List ℕ) (s : State) (first last : ℕ) (r : Asked) (p′ w w′ : List ℕ) : Type 0 where
-  pub told : r .told ≡ askRule p s first last (length w)
+  pub told : toldNumbers (r .told) ≡ toldNumbers (askRule p s first last (length w))
   pub replied : r .replied ≡ length ((asking p s (length w)) .reply)
   pub fits : r .replied ≤ length w
   pub page : p′ ≡ p

@@ -13,6 +13,21 @@ use Rattle.counter.specs.Alphabet.{units, firstOutside}
 use Rattle.counter.specs.Pieces.{returns, pieces, whole}
 use Rattle.counter.specs.Parts.{parts}
 
+-- a count in numbers: what refuses it, in request A3's order, and 0 where nothing does; its units and parts; the place of a refused byte. What does
+-- not apply is 0
+pub record Numbers : Type 0 where
+  pub refusal : ℕ
+  pub units : ℕ
+  pub parts : ℕ
+  pub place : ℕ
+
+abbrev pub numbers : Counted → Numbers
+numbers (Counted.Text u n) = record { refusal = 0; units = u; parts = n; place = 0 }
+numbers Counted.NoReturn = record { refusal = 1; units = 0; parts = 0; place = 0 }
+numbers Counted.BadFirst = record { refusal = 2; units = 0; parts = 0; place = 0 }
+numbers Counted.BadLast = record { refusal = 3; units = 0; parts = 0; place = 0 }
+numbers (Counted.BadByte n) = record { refusal = 4; units = 0; parts = 0; place = n }
+
 -- units are told up to the largest 64-bit number
 abbrev pub largest : ℕ
 largest = 18446744073709551615
@@ -48,3 +63,7 @@ Exact = (l : List ℕ) → length l ≤ 9223372036854775807 → capped (units (t
 -- a text that fits in memory never has the largest number of parts
 abbrev pub FewParts : Type 0
 FewParts = (l : List ℕ) → length l ≤ largest → parts (trimmed l) < largest
+
+-- the numbers say which count it is
+abbrev pub OneCount : Type 0
+OneCount = (c d : Counted) → numbers c ≡ numbers d → c ≡ d

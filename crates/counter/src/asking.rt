@@ -14,24 +14,25 @@ use crate::Told;
 use rules::RunResult;
 use rules::Sending;
 use rules::State;
-use state::core::is_idle;
-use state::logic::and;
-use state::logic::or;
-use state::sending::is_sending;
+use terminal::is_idle;
+use terminal::is_sending;
 use terminal::run;
 
 // Neither a sequence nor a send is under way.
-pub fn is_ready(state: State) -> bool
+pub(crate) fn is_ready(state: State) -> bool
     ensures { λ r. ⌜ r ≡ isReady state ⌝ }
 {
     let core = state.core;
     let pending = core.pending;
     let sending = state.sending;
-    and(is_idle(pending), !is_sending(sending))
+    if is_sending(sending) {
+        return false;
+    }
+    is_idle(pending)
 }
 
 // Whether a page has the length of its width.
-pub fn has_length(page: &[u16], wide: bool) -> bool
+pub(crate) fn has_length(page: &[u16], wide: bool) -> bool
     ensures { λ r. ⌜ r ≡ eqb (length (now (page .entry))) (height * columns wide) ⌝ }
 {
     if wide {
@@ -53,7 +54,7 @@ fn room_length(ready: bool, room: usize) -> usize
 }
 
 // Asks a terminal that is ready; of another it asks nothing and lends it no room.
-pub fn ask(page: &mut [u16], state: State, ready: bool, room: &mut [u8]) -> RunResult
+pub(crate) fn ask(page: &mut [u16], state: State, ready: bool, room: &mut [u8]) -> RunResult
     ensures { λ r. ⌜ Completed (runRule (now (page .entry)) state (question ready) (lent ready (length (now (room .entry))))) r (question ready) (now (page .exit)) (now (room .entry)) (now (room .exit)) ⌝ }
 {
     let question = [0x1b, 0x35];
@@ -63,13 +64,16 @@ pub fn ask(page: &mut [u16], state: State, ready: bool, room: &mut [u8]) -> RunR
 }
 
 // The reply did not begin, or did not end.
-pub fn is_cut(answer: u8, sending: Sending) -> bool
+pub(crate) fn is_cut(answer: u8, sending: Sending) -> bool
     ensures { λ r. ⌜ r ≡ either (eqb answer 6) (sends sending) ⌝ }
 {
-    or(answer == 6, is_sending(sending))
+    if answer == 6 {
+        return true;
+    }
+    is_sending(sending)
 }
 
-pub fn tell(answer: u8, full: bool, ready: bool, cut: bool, c: Counted) -> Told
+pub(crate) fn tell(answer: u8, full: bool, ready: bool, cut: bool, c: Counted) -> Told
     ensures { λ r. ⌜ r ≡ toldRule answer full ready cut c ⌝ }
 {
     if answer == 7 {

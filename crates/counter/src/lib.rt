@@ -6,7 +6,7 @@ mod text; // the count of a text
 ghost use mathlib.Core.Path.{_≡_};
 ghost use lib.ListN.{length};
 ghost use Rattle.counter.specs.Pieces.{pieces, pieceOf};
-ghost use Rattle.counter.specs.Count.{textCount, countRule};
+ghost use Rattle.counter.specs.Count.{numbers, textCount, countRule};
 ghost use Rattle.counter.specs.Ask.{Asks};
 use asking::ask;
 use asking::has_length;
@@ -75,7 +75,7 @@ pub fn piece(reply: &[u8], number: usize) -> &[u8]
 
 // Counts the pieces from number `first` to number `last` of a reply.
 pub fn count(reply: &[u8], first: usize, last: usize) -> Counted
-    ensures { λ r. ⌜ r ≡ countRule (now (reply .entry)) first last ⌝ }
+    ensures { λ r. ⌜ numbers r ≡ numbers (countRule (now (reply .entry)) first last) ⌝ }
 {
     if !has_return(reply) {
         return Counted::NoReturn;
@@ -94,7 +94,7 @@ pub fn count(reply: &[u8], first: usize, last: usize) -> Counted
 
 // Counts a text by itself: it has no CR and is not cut.
 pub fn count_text(text: &[u8]) -> Counted
-    ensures { λ r. ⌜ r ≡ textCount (now (text .entry)) ⌝ }
+    ensures { λ r. ⌜ numbers r ≡ numbers (textCount (now (text .entry))) ⌝ }
 {
     count_remaining(text, false)
 }

@@ -7,7 +7,7 @@ ghost use Rattle.counter.specs.Pieces.{returns, isMark};
 ghost use Rattle.counter.specs.Count.{inOrder};
 ghost use Rattle.counter.specs.Walk.{marksIn, past as pastOf};
 
-pub fn has_return(reply: &[u8]) -> bool
+pub(crate) fn has_return(reply: &[u8]) -> bool
     ensures { λ r. ⌜ r ≡ returns (now (reply .entry)) ⌝ }
 {
     let n = reply.len();
@@ -17,7 +17,7 @@ pub fn has_return(reply: &[u8]) -> bool
     reply[n - 1] == 0x0d
 }
 
-pub fn in_order(first: usize, last: usize) -> bool
+pub(crate) fn in_order(first: usize, last: usize) -> bool
     ensures { λ r. ⌜ r ≡ inOrder first last ⌝ }
 {
     if first < 1 {
@@ -26,7 +26,7 @@ pub fn in_order(first: usize, last: usize) -> bool
     first <= last
 }
 
-pub fn is_mark(b: u8) -> bool
+pub(crate) fn is_mark(b: u8) -> bool
     ensures { λ r. ⌜ r ≡ isMark b ⌝ }
 {
     if b == 0x1c {
@@ -43,7 +43,7 @@ fn mark(b: u8) -> usize
 }
 
 // How many marks a text has.
-pub fn marks_in(text: &[u8]) -> usize
+pub(crate) fn marks_in(text: &[u8]) -> usize
     ensures { λ r. ⌜ (r ≡ marksIn (now (text .entry))) × (r ≤ length (now (text .entry))) ⌝ }
 {
     let mut n = 0;
@@ -56,7 +56,7 @@ pub fn marks_in(text: &[u8]) -> usize
 }
 
 // The place behind mark number n; one behind the end where there are fewer marks.
-pub fn past(text: &[u8], n: usize) -> usize
+pub(crate) fn past(text: &[u8], n: usize) -> usize
     requires { ⌜ length (now text) < 18446744073709551615 ⌝ }
     ensures { λ r. ⌜ r ≡ pastOf n (now (text .entry)) ⌝ }
 {

@@ -4,7 +4,8 @@ ghost use Prim.Native.Nat.{_+_, _<_, _≤_};
 ghost use lib.ListN.{length, take};
 ghost use Rattle.counter.specs.Alphabet.{inAlphabet, cost};
 ghost use Rattle.counter.specs.Count.{capped, textCount};
-ghost use Rattle.counter.specs.Walk.{noTally, tallied, tallyParts, Within, cuts, remaining, refuses, advanced, walked, drops, stripped as strippedOf};
+ghost use Rattle.counter.specs.Walk.{noTally, tallied, tallyParts, Within, cuts, remaining, refuses, advanced, walked, drops};
+ghost use Rattle.counter.specs.Walk.{stripped as strippedOf};
 use crate::Counted;
 use crate::pieces::is_mark;
 
@@ -169,7 +170,7 @@ fn stripped(text: &[u8], cut: bool) -> usize
     0
 }
 
-pub fn count_remaining(text: &[u8], cut: bool) -> Counted
+pub(crate) fn count_remaining(text: &[u8], cut: bool) -> Counted
     ensures { λ r. ⌜ r ≡ textCount (remaining cut (now (text .entry))) ⌝ }
 {
     let n = stripped(text, cut);

@@ -198,7 +198,7 @@ fn follow_text(rows: &mut [u16], page: &[u16], wide: bool, protect: bool, mark: 
 // The run over many bytes on a good page and state, beside a row list or none: a send under way goes on first; if the run is to stop at an event,
 // that is one. Then the single step repeated, each with the room that is left; it stops before the first byte that answers 6, behind one whose
 // reply has used the room up and is not over, and, if it is to, behind the first event.
-pub fn run_beside(
+pub(crate) fn run_beside(
     page: &mut [u16],
     rows: &mut [u16],
     state: State,

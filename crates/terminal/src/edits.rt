@@ -118,7 +118,7 @@ fn line_end(wide: bool, at: usize) -> usize
 }
 
 // The byte b after ESC.
-pub fn edit(page: &[u16], run: Run, at: usize, b: u8) -> Act
+pub(crate) fn edit(page: &[u16], run: Run, at: usize, b: u8) -> Act
     requires { ⌜ Fits run (now page) × (at < run .end) ⌝ }
     ensures { λ r. ⌜ (r .at < run .end → Edits run (now (page .entry)) at b (r .write) (r .at)) ⌝ }
 {

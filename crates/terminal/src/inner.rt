@@ -58,7 +58,7 @@ fn obey(
 }
 
 // A byte b that comes to d, if it is below 80h.
-pub fn inner(
+pub(crate) fn inner(
     page: &mut [u16],
     rows: &mut [u16],
     tabs: [bool; 132],

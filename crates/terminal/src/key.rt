@@ -43,7 +43,7 @@ fn send(text: &[u8], room: &mut [u8]) -> PressResult
 }
 
 // The key's bytes; an unprogrammed key sends 01h value 0Dh.
-pub fn press_key(key: ShortText, v: u8, room: &mut [u8]) -> PressResult
+pub(crate) fn press_key(key: ShortText, v: u8, room: &mut [u8]) -> PressResult
     requires { ⌜ key .len ≤ 8 ⌝ }
     ensures { λ r. ⌜ KeySent (sending (keySends key v) (length (now (room .entry)))) r (now (room .entry)) (now (room .exit)) ⌝ }
 {

@@ -25,7 +25,7 @@ fn cell_at(run: Run, row: u8, column: u8) -> usize
 }
 
 // The cell of an ESC = whose ESC is byte i, if it is an open one of the segment; else `end`.
-pub fn address(page: &[u16], run: Run, input: &[u8], i: usize) -> usize
+pub(crate) fn address(page: &[u16], run: Run, input: &[u8], i: usize) -> usize
     requires { ⌜ Fits run (now page) × ((i < length (now input)) × (getD (now input) i 0 ≡ 0x1b)) ⌝ }
     ensures { λ r. ⌜ (r < run .end → (i + 4 ≤ length (now (input .entry))) × (Addressed run (now (input .entry)) i r × openAt run (now (page .entry)) r)) ⌝ }
 {
@@ -68,7 +68,7 @@ fn is_addressed(run: Run, row: u8, column: u8) -> bool
 }
 
 // Whether the ESC at byte i begins an ESC = out of the segment, and that is not to stop the run.
-pub fn is_outside(run: Run, input: &[u8], i: usize, stop: bool) -> bool
+pub(crate) fn is_outside(run: Run, input: &[u8], i: usize, stop: bool) -> bool
     requires { ⌜ (run .top ≤ run .bottom) × ((run .bottom ≤ height) × ((i < length (now input)) × (getD (now input) i 0 ≡ 0x1b))) ⌝ }
     ensures { λ r. ⌜ (r ≡ true → (stop ≡ false) × ((i + 4 ≤ length (now (input .entry))) × Outside run (now (input .entry)) i)) ⌝ }
 {
@@ -93,7 +93,7 @@ pub fn is_outside(run: Run, input: &[u8], i: usize, stop: bool) -> bool
 }
 
 // The first cell of a cell's row.
-pub fn line_start(wide: bool, at: usize) -> usize
+pub(crate) fn line_start(wide: bool, at: usize) -> usize
     requires { ⌜ at < wideCells ⌝ }
     ensures { λ r. ⌜ r ≡ rowStart (columnsOf wide) at ⌝ }
 {
@@ -169,7 +169,7 @@ fn goal_on(page: &[u16], run: Run, at: usize, b: u8) -> usize
 }
 
 // That cell, if it is an open one of the segment; else `end`.
-pub fn open_goal(page: &[u16], run: Run, at: usize, b: u8) -> usize
+pub(crate) fn open_goal(page: &[u16], run: Run, at: usize, b: u8) -> usize
     requires { ⌜ Fits run (now page) × (at < run .end) ⌝ }
     ensures { λ r. ⌜ (r < run .end → Goes run (now (page .entry)) at b r × openAt run (now (page .entry)) r) ⌝ }
 {
@@ -195,7 +195,7 @@ fn in_last_row(run: Run, k: usize) -> usize
 }
 
 // The cell where 0Ah or 1Fh leaves the cursor if it scrolls the segment; else `end`.
-pub fn roll(run: Run, at: usize, b: u8) -> usize
+pub(crate) fn roll(run: Run, at: usize, b: u8) -> usize
     requires { ⌜ at < wideCells ⌝ }
     ensures { λ r. ⌜ (r < run .end → Rolled run at b r) ⌝ }
 {

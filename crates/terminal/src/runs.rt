@@ -214,7 +214,7 @@ fn run_of(core: Core) -> Run
 }
 
 // A run from the byte `from` on; if it is to stop at a refusal, it leaves it.
-pub fn text(page: &mut [u16], core: Core, input: &[u8], from: usize, stop: bool) -> Stretch
+pub(crate) fn text(page: &mut [u16], core: Core, input: &[u8], from: usize, stop: bool) -> Stretch
     requires { ⌜ (length (now page) ≡ pageLength (core .screen)) × ((screenOk (core .screen) ≡ true) × ((from < length (now input)) × (core .attribute < 32))) ⌝ }
     ensures { λ r. ⌜ TextRun core (now (input .entry)) from (now (page .entry)) (r .at) (r .taken) (now (page .exit)) (r .refused) × (stop ≡ true → r .refused ≡ 0) ⌝ }
 {
@@ -233,7 +233,7 @@ pub fn text(page: &mut [u16], core: Core, input: &[u8], from: usize, stop: bool)
 }
 
 // The core after a run that ended at a cursor; the same one where it took nothing.
-pub fn moved(core: Core, at: usize, same: bool) -> Core
+pub(crate) fn moved(core: Core, at: usize, same: bool) -> Core
     requires { ⌜ at < wideCells ⌝ }
     ensures { λ r. ⌜ r ≡ pick same core (textCore core at) ⌝ }
 {

@@ -19,7 +19,7 @@ pub struct Waited {
 }
 
 // The awaited bytes from the byte `from` on.
-pub fn awaited(pending: Pending, input: &[u8], from: usize) -> Waited
+pub(crate) fn awaited(pending: Pending, input: &[u8], from: usize) -> Waited
     requires { ⌜ ((g : List ℕ) × (pendingOk pending g ≡ true)) × (from ≤ length (now input)) ⌝ }
     ensures { λ r. ⌜ Waits (now (input .entry)) pending from (r .pending) (r .taken) × Reads (now (input .entry)) (r .pending) (r .taken) (r .decoded) ⌝ }
 {

@@ -93,7 +93,7 @@ fn insert(page: &mut [u16], run: Run, first: usize, input: &[u8], from: usize) -
     Reached { at: at, taken: i }
 }
 
-pub fn put(page: &mut [u16], run: Run, first: usize, input: &[u8], from: usize) -> Reached
+pub(crate) fn put(page: &mut [u16], run: Run, first: usize, input: &[u8], from: usize) -> Reached
     requires { ⌜ Fits run (now page) × ((first < run .end) × (from ≤ length (now input))) ⌝ }
     ensures { λ r. ⌜ Typed run (now (input .entry)) first from (now (page .entry)) (r .at) (r .taken) (now (page .exit)) 0 ⌝ }
 {

@@ -48,7 +48,7 @@ fn home(page: &[u16], protect: bool, wide: bool) -> Screen
 }
 
 // The state at the other width, on its page there.
-pub fn state_on(page: &[u16], state: State) -> State
+pub(crate) fn state_on(page: &[u16], state: State) -> State
     requires { ⌜ length (now page) ≡ 24 * otherWidth (state .core .screen .wide) ⌝ }
     ensures { λ r. ⌜ r ≡ stateOn (now (page .entry)) state ⌝ }
 {

@@ -1,7 +1,7 @@
 // The alert counter for C and Rust. A slice crosses as a pointer and a count, and a count comes back as numbers.
 ghost use mathlib.Core.Path.{_≡_};
 ghost use Prim.Native.Nat.{_+_, _*_};
-ghost use Rattle.counter.specs.Count.{textCount, countRule};
+ghost use Rattle.counter.specs.Count.{numbers, textCount, countRule};
 ghost use Rattle.wy50_counter.specs.Raw.{raw as rawOf, billed as billedOf};
 use counter::Counted;
 use counter::count;
@@ -29,7 +29,7 @@ pub struct RawCount {
 }
 
 fn raw(c: Counted) -> RawCount
-    ensures { λ r. ⌜ r ≡ rawOf c ⌝ }
+    ensures { λ r. ⌜ r ≡ rawOf (numbers c) ⌝ }
 {
     match c {
         Counted::Text(units, parts) => RawCount {
@@ -66,7 +66,7 @@ fn raw(c: Counted) -> RawCount
 }
 
 fn billed(c: Counted) -> u64
-    ensures { λ r. ⌜ r ≡ billedOf c ⌝ }
+    ensures { λ r. ⌜ r ≡ billedOf (numbers c) ⌝ }
 {
     match c {
         Counted::Text(_, parts) => parts,
@@ -80,7 +80,7 @@ fn billed(c: Counted) -> u64
 // The billing job's count of its own bytes: their parts, or the largest number for a byte outside the alphabet.
 #[no_mangle]
 pub extern "C" fn wy50_count_parts(text: &[u8]) -> u64
-    ensures { λ r. ⌜ r ≡ billedOf (textCount (now (text .entry))) ⌝ }
+    ensures { λ r. ⌜ r ≡ billedOf (numbers (textCount (now (text .entry)))) ⌝ }
 {
     let c = count_text(text);
     billed(c)
@@ -89,7 +89,7 @@ pub extern "C" fn wy50_count_parts(text: &[u8]) -> u64
 // The same count, with its units and the place of a refused byte.
 #[no_mangle]
 pub extern "C" fn wy50_count_text(text: &[u8]) -> RawCount
-    ensures { λ r. ⌜ r ≡ rawOf (textCount (now (text .entry))) ⌝ }
+    ensures { λ r. ⌜ r ≡ rawOf (numbers (textCount (now (text .entry)))) ⌝ }
 {
     let c = count_text(text);
     raw(c)
@@ -98,7 +98,7 @@ pub extern "C" fn wy50_count_text(text: &[u8]) -> RawCount
 // The pieces of a reply to ESC 5, from number `first` to number `last`.
 #[no_mangle]
 pub extern "C" fn wy50_count_reply(reply: &[u8], first: usize, last: usize) -> RawCount
-    ensures { λ r. ⌜ r ≡ rawOf (countRule (now (reply .entry)) first last) ⌝ }
+    ensures { λ r. ⌜ r ≡ rawOf (numbers (countRule (now (reply .entry)) first last)) ⌝ }
 {
     let c = count(reply, first, last);
     raw(c)

@@ -1,7 +1,7 @@
 -- `counter::count_text` meets its contract.
 use mathlib.Core.Path.{ap, _∙_}
 use denote.Ref.{now}
-use Rattle.counter.specs.Count.{textCount}
+use Rattle.counter.specs.Count.{numbers, textCount}
 use Rattle.counter.proofs.Texts.{remaining-all}
 use borrow.Author.Needs.{needs}
 use Rattle.counter.proofs.count_text.Statement.{statement}
@@ -14,4 +14,4 @@ count-text-spec =
     -- count-remaining-requires
     (λ c κs. search needs)
     -- returns
-    (λ c. c .count-remaining .ensures ∙ ap textCount (remaining-all (now (c .before .before .args .text)))))
+    (λ c. ap numbers (c .count-remaining .ensures ∙ ap textCount (remaining-all (now (c .before .before .args .text))))))
