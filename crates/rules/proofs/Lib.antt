@@ -48,3 +48,4 @@ pub mod WritableCases
 pub mod Personalities
 pub mod Fields
 pub mod FieldCases
+pub mod Uses

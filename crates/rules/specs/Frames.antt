@@ -1,4 +1,5 @@
--- What each command may change of the state, and that it changes nothing else. A row here is read beside the command's row in Plan.
+-- What each command may change of the terminal, and that it changes nothing else. A row here is read beside the command's row in Plan; that each
+-- part of a row does change is shown by trials (FrameCases).
 use mathlib.Core.Path.{_≡_}
 use mathlib.Core.Bool.{Bool, true, false}
 use mathlib.Core.List.{List, [], _∷_}

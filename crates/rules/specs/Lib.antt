@@ -59,3 +59,4 @@ pub mod Writable
 pub mod CellReach
 pub mod WritableCases
 pub mod Personalities
+pub mod Uses

@@ -14,6 +14,7 @@ use Rattle.rules.specs.Areas.{Area}
 use Rattle.rules.specs.Areas as Area
 
 pub data Part : Type 0 where
+  -- the modes; Mark is write-protect
   Protect : Part
   Mark : Part
   Insert : Part
@@ -21,13 +22,16 @@ pub data Part : Type 0 where
   Lock : Part
   Local : Part
   Bells : Part
+  -- the WY-60's attribute; the personality
   Remembered : Part
   Model : Part
+  -- the screen: the active segment, the split row, the active cursor and the other one
   Width : Part
   Active : Part
   Split : Part
   Cursor : Part
   Other : Part
+  -- the set-up: tab stops, field attributes, features, keys, labels, the host message, the shifted line, the wish for a wide page
   Tabs : Part
   Fields : Part
   Features : Part
@@ -36,6 +40,7 @@ pub data Part : Type 0 where
   Message : Part
   Line : Part
   Wish : Part
+  -- the page, where
   Cells : Area → Part
 
 -- what a part can hold
