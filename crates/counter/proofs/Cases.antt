@@ -18,6 +18,7 @@ texts = record {
   most-of-two = refl;
   three = refl;
   two-units = refl;
+  alphabet = refl;
   eighty = refl;
   eighty-one = refl;
   on-the-seam = refl;

@@ -10,3 +10,4 @@ pub mod Alike
 pub mod Countable
 pub mod Sizes
 pub mod Cases
+pub mod Uses

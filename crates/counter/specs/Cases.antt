@@ -1,12 +1,11 @@
 -- Worked texts and replies, by the sentences of request A3 of document 02.
 use mathlib.Core.Path.{_≡_}
 use mathlib.Core.List.{List, [], _∷_, _++_}
-use Prim.Native.Nat.{ℕ}
+use Prim.Native.Nat.{ℕ, zero, suc}
 use lib.ListN.{replicate}
 use Rattle.counter.specs.declared.Counted.{Counted}
 use Rattle.counter.specs.declared.Counted.the-variants as Counted
 use Rattle.counter.specs.Words.{words}
-use Rattle.counter.specs.Alphabet.{twoUnitCharacters}
 use Rattle.counter.specs.Pieces.{pieces, pieceOf}
 use Rattle.counter.specs.Count.{textCount, countRule}
 
@@ -15,6 +14,11 @@ letters n = replicate n 0x61
 
 abbrev pub tildes : ℕ → List ℕ
 tildes n = replicate n 0x7e
+
+-- n bytes, each one more than the last
+abbrev pub bytesFrom : ℕ → ℕ → List ℕ
+bytesFrom b zero = []
+bytesFrom b (suc n) = b ∷ bytesFrom (suc b) n
 
 abbrev pub fs : List ℕ
 fs = 0x1c ∷ []
@@ -33,7 +37,10 @@ pub record Texts : Type 0 where
   pub two : textCount (letters 161) ≡ Counted.Text 161 2
   pub most-of-two : textCount (letters 306) ≡ Counted.Text 306 2
   pub three : textCount (letters 307) ≡ Counted.Text 307 3
-  pub two-units : textCount twoUnitCharacters ≡ Counted.Text 16 1
+  -- ^ { } \ [ ~ ] |
+  pub two-units : textCount (0x5e ∷ 0x7b ∷ 0x7d ∷ 0x5c ∷ 0x5b ∷ 0x7e ∷ 0x5d ∷ 0x7c ∷ []) ≡ Counted.Text 16 1
+  -- the whole alphabet once: 94 characters, 8 of them of two units
+  pub alphabet : textCount (bytesFrom 0x20 64 ++ bytesFrom 0x61 30) ≡ Counted.Text 102 1
   pub eighty : textCount (tildes 80) ≡ Counted.Text 160 1
   pub eighty-one : textCount (tildes 81) ≡ Counted.Text 162 2
   -- a character of two units is not cut: 152 and 2 units do not fit 153

@@ -6,3 +6,4 @@ pub mod Count
 pub mod Walk
 pub mod Ask
 pub mod Cases
+pub mod Uses

@@ -2,3 +2,4 @@ pub mod Texts
 pub mod Reading
 pub mod Fields
 pub mod Pieces
+pub mod Uses

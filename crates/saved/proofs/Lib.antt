@@ -7,3 +7,4 @@ pub mod SavedSetups
 pub mod Cases
 pub mod Puts
 pub mod Running
+pub mod Uses

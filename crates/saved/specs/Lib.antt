@@ -5,3 +5,4 @@ pub mod Calls
 pub mod SavedSetups
 pub mod Cases
 pub mod Put
+pub mod Uses

@@ -1,1 +1,2 @@
 pub mod Bills
+pub mod Uses
