@@ -11,7 +11,8 @@ use Rattle.rules.specs.Cell.{pick}
 use Rattle.rules.specs.Row.{columns, rowEnd}
 use Rattle.rules.specs.Search.{marksBy, others, startsFrom, firstIn, lastIn, around, aroundBack}
 use Rattle.rules.specs.State.{segmentTop, segmentBottom, cursorOf, withCursor, changed, sendingAfter, gatheredAfter, setupAfter}
-use Rattle.rules.specs.Possible.{powerOn, blank, unsplitOk, splitOk, screenOk, attributesOk, featuresOk, pendingOk, rememberedOk, placeOk, sendingOk, noStops, coreOk, setupOk, possible, good}
+use Rattle.rules.specs.Possible.{powerOn, blank, unsplitOk, splitOk, screenOk, attributesOk, featuresOk, pendingOk, rememberedOk, placeOk, sendingOk}
+use Rattle.rules.specs.Possible.{noStops, coreOk, setupOk, possible, good}
 use Rattle.rules.specs.Arguments.{isAttribute, featurePlace}
 use Rattle.rules.specs.Slot.{isText, allText, textOk, textsOk}
 use Rattle.rules.specs.Decode.{lookup, idleRule, escapeRule, decodeRule}
@@ -70,12 +71,13 @@ labels : (p q : List ℕ) → AlikePages p q → Labels p q
 labels p q h = record { off = unrevealed p q _ h; other = unrevealed p q _ h; impossible = unrevealed p q _ h }
 
 asked : Asking
-unfolding columns rowEnd marksBy others startsFrom firstIn lastIn around aroundBack segmentTop segmentBottom cursorOf withCursor changed sendingAfter
-    gatheredAfter setupAfter powerOn blank unsplitOk splitOk screenOk attributesOk featuresOk pendingOk rememberedOk placeOk sendingOk noStops coreOk
-    setupOk possible good isAttribute featurePlace isText allText textOk textsOk lookup idleRule escapeRule decodeRule sendPlan planRule openCell each
-    cellPlace textPlaces followsLeftOut textAt places bytesOf beyond standing sentFrom leftFrom applied landed done begun carried obeyed innerRule goesOn
-    stepInside stepRule joined repeated behind runInside runRule pageOf threeLetters cursorAt isReady question asking isCut toldRule askRule returns isMark
-    onto cutAtMarks pieces whole Pieces.joined kept trimmed inAlphabet cost units firstOutside filling parts capped sized textCount countRule
+unfolding columns rowEnd marksBy others startsFrom firstIn lastIn around aroundBack segmentTop segmentBottom cursorOf withCursor changed
+    sendingAfter gatheredAfter setupAfter powerOn blank unsplitOk splitOk screenOk attributesOk featuresOk pendingOk rememberedOk placeOk sendingOk
+    noStops coreOk setupOk possible good isAttribute featurePlace isText allText textOk textsOk lookup idleRule escapeRule decodeRule sendPlan
+    planRule openCell each cellPlace textPlaces followsLeftOut textAt places bytesOf beyond standing sentFrom leftFrom applied landed done begun
+    carried obeyed innerRule goesOn stepInside stepRule joined repeated behind runInside runRule pageOf threeLetters cursorAt isReady question
+    asking isCut toldRule askRule returns isMark onto cutAtMarks pieces whole Pieces.joined kept trimmed inAlphabet cost units firstOutside filling
+    parts capped sized textCount countRule
 asked = record { reply = refl; both = refl }
 
 pub uses : Uses

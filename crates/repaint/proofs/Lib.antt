@@ -8,3 +8,4 @@ pub mod Longest
 pub mod Proposing
 pub mod Forwards
 pub mod Judges
+pub mod Uses

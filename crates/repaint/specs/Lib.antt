@@ -5,3 +5,4 @@ pub mod Proposal
 pub mod Theorems
 pub mod Cases
 pub mod Forward
+pub mod Uses

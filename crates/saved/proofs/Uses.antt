@@ -11,7 +11,8 @@ use Rattle.rules.specs.Row.{columns}
 use Rattle.rules.specs.State.{segmentTop, cursorOf}
 use Rattle.rules.specs.Arguments.{isAttribute, featurePlace}
 use Rattle.rules.specs.Slot.{isText, allText, textOk, textsOk}
-use Rattle.rules.specs.Possible.{powerOn, screenOk, unsplitOk, attributesOk, featuresOk, noStops, pendingOk, rememberedOk, placeOk, sendingOk, coreOk, setupOk, possible}
+use Rattle.rules.specs.Possible.{powerOn, screenOk, unsplitOk, attributesOk, featuresOk, noStops, pendingOk, rememberedOk, placeOk, sendingOk, coreOk}
+use Rattle.rules.specs.Possible.{setupOk, possible}
 use Rattle.saved.specs.SetupBytes.{stopBytes, byCode, featureBytes, attributeBytes, textBytes, textsBytes, keyValue, labelValue, setupBytes}
 use Rattle.saved.specs.Settings.{Saved}
 use Rattle.saved.specs.Store.{Saves, none, Leaves}
@@ -22,16 +23,16 @@ use Rattle.saved.proofs.SavedSetups.{saved-setups}
 
 -- the states, and the store where nothing was saved
 wide-possible : Possible wide
-unfolding possible coreOk setupOk powerOn columns noStops screenOk unsplitOk textsOk textOk allText isText attributesOk isAttribute featuresOk featurePlace
-    rememberedOk pendingOk placeOk sendingOk segmentTop cursorOf
+unfolding possible coreOk setupOk powerOn columns noStops screenOk unsplitOk textsOk textOk allText isText attributesOk isAttribute featuresOk
+    featurePlace rememberedOk pendingOk placeOk sendingOk segmentTop cursorOf
 wide-possible = record {
   shaped = record { tabs = refl; attributes = refl; features = refl; keys = refl; labels = refl };
   possible = refl;
 }
 
 on-possible : possible on ≡ true
-unfolding possible coreOk setupOk powerOn columns noStops screenOk unsplitOk textsOk textOk allText isText attributesOk isAttribute featuresOk featurePlace
-    rememberedOk pendingOk sendingOk
+unfolding possible coreOk setupOk powerOn columns noStops screenOk unsplitOk textsOk textOk allText isText attributesOk isAttribute featuresOk
+    featurePlace rememberedOk pendingOk sendingOk
 on-possible = refl
 
 zeros-leaves : Leaves zeros

@@ -40,7 +40,8 @@ pub record Uses : Type 0 where
   pub longest : length (setupBytes (wide .setup)) ≡ 1087
   pub short : (s : State) → Possible s → length (setupBytes (s .setup)) ≤ 1087
   -- a terminal of either personality, with any room
-  pub gives : (m : Personality) (room : ℕ) → Gives (wide .setup) (setupBytes (wide .setup)) blank (runRule blank (powerOn m) (setupBytes (wide .setup)) room)
+  pub gives : (m : Personality) (room : ℕ)
+      → Gives (wide .setup) (setupBytes (wide .setup)) blank (runRule blank (powerOn m) (setupBytes (wide .setup)) room)
   pub saved : Saved (setupBytes (wide .setup))
   pub is-setup : isSetup (setupBytes (wide .setup)) ≡ true
   -- saved as the first, and the store is one that saves leave

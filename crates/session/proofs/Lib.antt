@@ -5,3 +5,4 @@ pub mod Completed
 pub mod Given
 pub mod CodeSessions
 pub mod Cases
+pub mod Uses
