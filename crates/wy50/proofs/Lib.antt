@@ -13,3 +13,5 @@ pub mod Noninterference
 pub mod RowNoninterference
 pub mod Sessions
 pub mod Repainting
+pub mod Cases
+pub mod Uses

@@ -8,3 +8,5 @@ pub mod Sessions
 pub mod Converting
 pub mod Mending
 pub mod Repainting
+pub mod Cases
+pub mod Uses
