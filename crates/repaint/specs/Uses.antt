@@ -6,7 +6,6 @@ use Prim.Native.Nat.{ℕ, zero, suc, _≤_}
 use lib.ListN.{length, replicate}
 use Rattle.rules.specs.declared.Personality.{Personality}
 use Rattle.rules.specs.declared.Personality.the-variants as Personality
-use Rattle.repaint.specs.declared.Verdict.the-variants as Verdict
 use Rattle.repaint.specs.Spans.{Accepts, SpansVerdict}
 use Rattle.repaint.specs.Bytes.{AcceptsBytes, paints}
 use Rattle.repaint.specs.Proposal.{stretches, paintBytes, served, refusedWith, proposeRule}
@@ -72,8 +71,8 @@ pub record ProposedAlone : Type 0 where
 
 -- the judge of spans: the cell is covered, or not
 pub record JudgedAlone : Type 0 where
-  pub one : SpansVerdict normal-a reverse-a (span 1 1 1 ∷ []) Verdict.Accepted
-  pub none : SpansVerdict normal-a reverse-a [] Verdict.NotAccepted
+  pub one : SpansVerdict normal-a reverse-a (span 1 1 1 ∷ []) 0
+  pub none : SpansVerdict normal-a reverse-a [] 3
 
 -- the judge of bytes: the letter with its attribute, the letter alone, no byte
 pub record PaintedAlone : Type 0 where

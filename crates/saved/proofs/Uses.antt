@@ -16,6 +16,7 @@ use Rattle.rules.specs.Possible.{setupOk, possible}
 use Rattle.saved.specs.SetupBytes.{stopBytes, byCode, featureBytes, attributeBytes, textBytes, textsBytes, keyValue, labelValue, setupBytes}
 use Rattle.saved.specs.Settings.{Saved}
 use Rattle.saved.specs.Store.{Saves, none, Leaves}
+use Rattle.saved.specs.Calls.{saveRule}
 use Rattle.saved.specs.SavedSetups.{Possible, OfBoth}
 use Rattle.saved.specs.Cases.{on, zeros}
 use Rattle.saved.specs.Uses.{wide, kept, Uses}
@@ -48,6 +49,9 @@ wide-saved = record { state = wide; shaped = wide-possible .shaped; possible = w
 both : (more : ℕ) (later : List ℕ) → Saves kept more later → OfBoth wide on zeros more later
 both more later = saved-setups .of-both wide on zeros more later wide-possible on-possible zeros-leaves (omega arith)
 
+saves-it : (saveRule wide zeros .answer ≡ 0) × ((saveRule wide zeros .number ≡ 1) × Leaves kept)
+saves-it = saved-setups .of-save wide zeros .done wide-possible zeros-leaves (omega arith)
+
 pub uses : Uses
 uses = record {
   is-possible = wide-possible;
@@ -56,9 +60,10 @@ uses = record {
   gives = λ m room. saved-setups .of-bytes .gives m wide room wide-possible;
   saved = wide-saved;
   is-setup = saved-setups .of-bytes .complete (setupBytes (wide .setup)) wide-saved;
-  first = saved-setups .of-save wide zeros .done wide-possible zeros-leaves (omega arith) .0;
-  leaves = saved-setups .of-save wide zeros .done wide-possible zeros-leaves (omega arith) .1;
-  is-store = saved-setups .of-stores .complete kept (saved-setups .of-save wide zeros .done wide-possible zeros-leaves (omega arith) .1);
+  done = saves-it .0;
+  first = saves-it .1 .0;
+  leaves = saves-it .1 .1;
+  is-store = saved-setups .of-stores .complete kept (saves-it .1 .1);
   back = λ more later h m. both more later h .back m;
   gone = λ later h. both 8 later h .gone (omega arith);
   alone = λ store n. saved-setups .of-restore wide store n .leaves;

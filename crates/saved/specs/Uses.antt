@@ -12,7 +12,6 @@ use Rattle.rules.specs.declared.Sending.the-variants as Sending
 use Rattle.rules.specs.State.{withScreen}
 use Rattle.rules.specs.Possible.{powerOn, blank, possible}
 use Rattle.rules.specs.Calls.{runRule}
-use Rattle.saved.specs.declared.SaveAnswer.the-variants as SaveAnswer
 use Rattle.saved.specs.declared.RestoreAnswer.the-variants as RestoreAnswer
 use Rattle.saved.specs.SetupBytes.{setupBytes}
 use Rattle.saved.specs.Settings.{SameSettings, Saved}
@@ -45,12 +44,13 @@ pub record Uses : Type 0 where
   pub saved : Saved (setupBytes (wide .setup))
   pub is-setup : isSetup (setupBytes (wide .setup)) ≡ true
   -- saved as the first, and the store is one that saves leave
-  pub first : saveRule wide zeros .result ≡ SaveAnswer.Saved 1
+  pub done : saveRule wide zeros .answer ≡ 0
+  pub first : saveRule wide zeros .number ≡ 1
   pub leaves : Leaves kept
   pub is-store : isStore kept ≡ true
   -- restored into a WY-50 of 80 columns after none to seven more saves, and refused after eight
   pub back : (more : ℕ) (later : List ℕ) → Saves kept more later → more ≤ 7
-      → (restoreRule on later 1 .result ≡ RestoreAnswer.Restored) × SameSettings (restoreRule on later 1 .state .setup) (wide .setup)
+      → (restoreRule on later 1 .answer ≡ 0) × SameSettings (restoreRule on later 1 .state .setup) (wide .setup)
   pub gone : (later : List ℕ) → Saves kept 8 later → restoreRule on later 1 ≡ restoring RestoreAnswer.BadNumber on
   -- whatever is restored into the wide one, its stops beyond column 80 and its send are left, and it stays possible
   pub alone : (store : List ℕ) (n : ℕ) → LeavesAlone wide (restoreRule wide store n .state)

@@ -24,7 +24,7 @@ use Rattle.wy50.specs.declared.raw.RawSequence.{RawSequence}
 use Rattle.wy50.specs.declared.raw.RawSending.{RawSending}
 use Rattle.wy50.specs.declared.raw.RawState.{RawState}
 use Rattle.wy50.specs.Raw.{sequenceOf, pendingOf, rawSending, sendingOf, rawModes, modesOf, packed, unpacked, named}
-use Rattle.wy50.specs.Saved.{saveNumbers, restoreNumber}
+use Rattle.saved.specs.Calls.{saveNumber, savedAs, restoreNumber}
 
 -- ---- a state of which each part is told from the others, a text and a send under way; `gathered` are its bytes
 
@@ -61,9 +61,9 @@ send c k n = record { command = c; kind = k; place = n }
 abbrev pub noKey : RawKey
 noKey = record { len = 0; bytes = replicate 8 0 }
 
--- its numbers, but for those that decide whether they name a state
-abbrev pub numbersWith : ℕ → ℕ → ℕ → ℕ → RawSequence → RawSending → ℕ → ℕ → ℕ → RawState
-numbersWith wide mark bells personality q y tab shifted wish = record {
+-- its numbers, but for the bytes gathered and those that decide whether they name a state
+abbrev pub gathering : List ℕ → ℕ → ℕ → ℕ → ℕ → RawSequence → RawSending → ℕ → ℕ → ℕ → RawState
+gathering g wide mark bells personality q y tab shifted wish = record {
   screen = record { wide = wide; active = 0; split = 13; cursor0 = 101; cursor1 = 2002 };
   modes = record { protect = 1; mark = mark; insert = 1; autoscroll = 0; locked = 1; local = 0 };
   bells = bells;
@@ -71,7 +71,7 @@ numbersWith wide mark bells personality q y tab shifted wish = record {
   remembered = 9;
   sequence = q;
   sending = y;
-  gathered = 0x61 ∷ 0x62 ∷ 0x63 ∷ replicate 43 0;
+  gathered = g;
   tabs = 1 ∷ tab ∷ 1 ∷ replicate 128 0 ++ 1 ∷ [];
   attributes = 0x30 ∷ 0x31 ∷ 0x34 ∷ 0x38 ∷ [];
   features = 0x30 ∷ 0x32 ∷ 0x36 ∷ 0x38 ∷ 0x3c ∷ [];
@@ -82,12 +82,24 @@ numbersWith wide mark bells personality q y tab shifted wish = record {
   wish = wish;
 }
 
+abbrev pub numbersWith : ℕ → ℕ → ℕ → ℕ → RawSequence → RawSending → ℕ → ℕ → ℕ → RawState
+numbersWith = gathering (0x61 ∷ 0x62 ∷ 0x63 ∷ replicate 43 0)
+
 abbrev pub numbers : RawState
 numbers = numbersWith 1 0 7 60 (sequence 19 0x41 3 0) (send 0x35 2 264) 0 1 0
 
+-- the same state as C handed it in: no text under way and zeros, or one of five bytes and rubbish
+abbrev pub zerosIn : RawState
+zerosIn = gathering (replicate 46 0) 1 0 7 60 (sequence 0 0 0 0) (send 0 0 0) 0 1 0
+
+abbrev pub rubbishIn : RawState
+rubbishIn = gathering (replicate 46 9) 1 0 7 60 (sequence 19 0x41 5 0) (send 0 0 0) 0 1 0
+
 pub record States : Type 0 where
-  -- bytes behind the text under way mean nothing, and are zeros in C
-  pub there : packed (stateWith (0x61 ∷ 0x62 ∷ 0x63 ∷ 0x64 ∷ replicate 42 0x65)) ≡ numbers
+  -- of the bytes gathered C gets those of the text under way, a 0 for each that is counted no longer, and behind them what it handed in
+  pub there : packed zerosIn (stateWith (0x61 ∷ 0x62 ∷ 0x63 ∷ 0x64 ∷ replicate 42 0x65)) ≡ numbers
+  pub rubbish : packed rubbishIn (stateWith (0x61 ∷ 0x62 ∷ 0x63 ∷ 0x64 ∷ replicate 42 0x65))
+      ≡ gathering (0x61 ∷ 0x62 ∷ 0x63 ∷ 0 ∷ 0 ∷ replicate 41 9) 1 0 7 60 (sequence 19 0x41 3 0) (send 0x35 2 264) 0 1 0
   pub back : unpacked numbers ≡ stateWith (0x61 ∷ 0x62 ∷ 0x63 ∷ replicate 43 0)
   pub named : named numbers ≡ true
 
@@ -199,9 +211,9 @@ pub record Unnamed : Type 0 where
 
 -- the answers of save and restore
 pub record Answers : Type 0 where
-  pub saves : map (λ a. saveNumbers a .answer) (SaveAnswer.Saved 65535 ∷ SaveAnswer.BadState ∷ SaveAnswer.BadStore ∷ SaveAnswer.Full ∷ [])
+  pub saves : map saveNumber (SaveAnswer.Saved 65535 ∷ SaveAnswer.BadState ∷ SaveAnswer.BadStore ∷ SaveAnswer.Full ∷ [])
       ≡ 0 ∷ 7 ∷ 9 ∷ 11 ∷ []
-  pub number : saveNumbers (SaveAnswer.Saved 65535) .number ≡ 65535
+  pub number : savedAs (SaveAnswer.Saved 65535) ≡ 65535
   pub restores : map restoreNumber (RestoreAnswer.Restored ∷ RestoreAnswer.BadState ∷ RestoreAnswer.BadStore ∷ RestoreAnswer.BadNumber ∷ [])
       ≡ 0 ∷ 7 ∷ 9 ∷ 10 ∷ []
 
