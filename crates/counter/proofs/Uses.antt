@@ -58,7 +58,7 @@ capped-large n h = ap (λ t. pick t n largest) (lt-leb n largest h)
 long-texts : LongTexts
 long-texts = record {
   told = λ n h. exact (tildes n) (omega (arith, length-replicate {A = ℕ} n 0x7e)) ∙ tildes-size n;
-  capped = λ n h. capped-large (units (trimmed (tildes n))) (omega (arith, tildes-size n));
+  beyond = λ n h. capped-large (units (trimmed (tildes n))) (omega (arith, tildes-size n));
   few = λ n h. few-parts (replicate n 0x61) (omega (arith, length-replicate {A = ℕ} n 0x61));
   least = λ n. fewest (replicate n 0x61) .0;
   reached = λ n. fewest (replicate n 0x61) .1;

@@ -18,7 +18,7 @@ use Rattle.counter.specs.Cases.{letters, tildes}
 -- texts of any length: 2^63 - 1 tildes have all their units told, 2^64 - 2; one more has not
 pub record LongTexts : Type 0 where
   pub told : (n : ℕ) → n ≤ 9223372036854775807 → capped (units (trimmed (tildes n))) ≡ n + n
-  pub capped : (n : ℕ) → 9223372036854775807 < n → capped (units (trimmed (tildes n))) ≡ 18446744073709551615
+  pub beyond : (n : ℕ) → 9223372036854775807 < n → capped (units (trimmed (tildes n))) ≡ 18446744073709551615
   pub few : (n : ℕ) → n ≤ 18446744073709551615 → parts (trimmed (letters n)) < 18446744073709551615
   pub least : (n : ℕ) (ts : List (List ℕ)) → Cutting (letters n) ts → parts (letters n) ≤ length ts
   pub reached : (n : ℕ) → (ts : List (List ℕ)) × Cutting (letters n) ts × (length ts ≡ parts (letters n))

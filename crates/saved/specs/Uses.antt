@@ -1,4 +1,4 @@
--- Each statement used where a weaker one would not do: at a set-up of the most bytes, which only a wide page's state has with all its stops.
+-- Each statement used where a weaker one would not do: at a set-up of the most bytes, of a wide terminal inside a send.
 use mathlib.Core.Path.{_≡_}
 use mathlib.Core.Bool.{true, false}
 use mathlib.Core.List.{List, []}
