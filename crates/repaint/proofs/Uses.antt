@@ -35,6 +35,7 @@ use Rattle.repaint.specs.Cases.{spaces, shown, nines}
 use Rattle.repaint.specs.Uses.{everySecond, byTurns, spread, costly, normal-a, reverse-a, Bounds, ProposedAlone, JudgedAlone, PaintedAlone}
 use Rattle.repaint.specs.Uses.{Uses}
 use Rattle.repaint.proofs.Verdicts.{verdict}
+use Rattle.repaint.proofs.Painting.{served-parts}
 use Rattle.repaint.proofs.Proposing.{proposing}
 
 spread-served : served Personality.Wy50 shown spread ≡ true
@@ -46,12 +47,10 @@ unfolding rememberedOk isText allText served byTurns
 costly-served = refl
 
 spread-parts : Served Personality.Wy50 shown spread
-unfolding rememberedOk isText allText everySecond
-spread-parts = record { from = refl; to = refl; shown = refl; wanted = refl; last = refl }
+spread-parts = served-parts Personality.Wy50 shown spread spread-served
 
 costly-parts : Served Personality.Wy60 shown costly
-unfolding rememberedOk isText allText byTurns
-costly-parts = record { from = refl; to = refl; shown = refl; wanted = refl; last = refl }
+costly-parts = served-parts Personality.Wy60 shown costly costly-served
 
 spans-reached : length (stretches shown spread) ≡ 960
 unfolding lengthened differing everySecond
