@@ -6,6 +6,7 @@ mod excursions;
 mod mending;
 mod personalities;
 mod phrases;
+mod reading;
 mod repainting;
 mod rows;
 mod scenes;
@@ -17,12 +18,12 @@ mod widths;
 use crate::random::Random;
 use crate::state::{Sequence, ROWS};
 use crate::terminal::{Refusal, Terminal};
+use crate::transcript::limits::WIDEST_ROOM;
 use crate::transcript::{Bench, Line};
 pub use counts::count_line;
 use std::collections::VecDeque;
 
 const MOST_BYTES: usize = 60;
-const DRY_ROOM: usize = 4000;
 /// After ESC: protect off, clear all, and sending protected text.
 const EXCLUDED: &[u8] = b"'*+,67";
 
@@ -87,7 +88,10 @@ impl Generator {
         let taken = self.bench.follow(&line);
         let taken = taken.unwrap_or_else(|| panic!("a line that cannot be set: {line:?}"));
         match &line {
-            Line::Run { bytes, .. } | Line::ListRun { bytes, .. } => {
+            Line::Run { bytes, .. }
+            | Line::ListRun { bytes, .. }
+            | Line::Next { bytes, .. }
+            | Line::ListNext { bytes, .. } => {
                 self.send_again_or_forget(&bytes[taken..]);
             }
             Line::Step { byte, .. } | Line::ListStep { byte, .. } if taken == 0 => {
@@ -128,12 +132,16 @@ impl Generator {
                 _ => self.convert(),
             };
         }
+        if self.random.once_in(12) {
+            return self.read_page();
+        }
         if self.tend_rows() {
             return self.rebuild();
         }
         match self.random.below(20) {
             0 => self.press(),
             1..=5 => self.step(),
+            6..=10 => self.next(),
             _ => self.run(),
         }
     }
@@ -146,7 +154,7 @@ impl Generator {
                 .pick(&[0x3F, 0x40, 0x4F, 0x50, 0x5F, 0x60, 0x6F, 0x70]),
             _ => self.key_value(),
         };
-        let mut room = [0; DRY_ROOM];
+        let mut room = [0; WIDEST_ROOM];
         let replied = self.bench.terminal.press(value, &mut room).unwrap_or(0);
         let room = self.room_about(replied);
         self.add(Line::Press { value, room });
@@ -154,7 +162,7 @@ impl Generator {
 
     fn step(&mut self) {
         let byte = self.next_bytes(1)[0];
-        let mut room = [0; DRY_ROOM];
+        let mut room = [0; WIDEST_ROOM];
         let replied = self
             .bench
             .terminal
@@ -174,13 +182,8 @@ impl Generator {
     }
 
     fn run(&mut self) {
-        let count = match self.random.below(8) {
-            0 => self.random.below(4),
-            1..=3 => self.random.below(12),
-            _ => self.random.within(0..=MOST_BYTES),
-        };
-        let mut bytes = self.next_bytes(count);
-        let mut room = [0; DRY_ROOM];
+        let mut bytes = self.some_bytes();
+        let mut room = [0; WIDEST_ROOM];
         let replied = self.bench.terminal.clone().run(&bytes, &mut room).replied;
         let room = self.room_about(replied);
         self.replace_excluded(&mut bytes, room);
@@ -189,6 +192,37 @@ impl Generator {
         } else {
             Line::Run { bytes, room }
         });
+    }
+
+    fn next(&mut self) {
+        let mut bytes = self.some_bytes();
+        let mut room = [0; WIDEST_ROOM];
+        let next = self.bench.terminal.clone().next(&bytes, &mut room);
+        let room = self.room_about(next.run.replied);
+        while let Some(place) = self.excluded_place(self.taken_by_next(&bytes, room), room) {
+            bytes[place] = b'?';
+        }
+        if self.lists && self.random.once_in(12) {
+            self.add(Line::Rows(0));
+        }
+        self.add(if self.lists {
+            Line::ListNext { bytes, room }
+        } else {
+            Line::Next { bytes, room }
+        });
+    }
+
+    fn taken_by_next<'a>(&self, bytes: &'a [u8], room: usize) -> &'a [u8] {
+        taken_by_next(&self.bench.terminal, bytes, room)
+    }
+
+    fn some_bytes(&mut self) -> Vec<u8> {
+        let count = match self.random.below(8) {
+            0 => self.random.below(4),
+            1..=3 => self.random.below(12),
+            _ => self.random.within(0..=MOST_BYTES),
+        };
+        self.next_bytes(count)
     }
 
     fn next_bytes(&mut self, count: usize) -> Vec<u8> {
@@ -213,7 +247,7 @@ impl Generator {
             0..=2 => self.random.within(0..=10),
             3..=6 => {
                 let room = replied + self.random.within(0..=2);
-                room.saturating_sub(1).min(DRY_ROOM)
+                room.saturating_sub(1).min(WIDEST_ROOM)
             }
             7 => self.random.within(0..=replied),
             8 => {
@@ -221,7 +255,7 @@ impl Generator {
                 self.random.within(longest - 4..=longest + 4)
             }
             9 | 10 => self.random.within(0..=self.cells() + ROWS),
-            11 => DRY_ROOM,
+            11 => WIDEST_ROOM,
             _ => self.cells() + 80,
         }
     }
@@ -239,6 +273,12 @@ impl Generator {
         }
         excluded_byte(&self.bench.terminal, bytes, room)
     }
+}
+
+/// The bytes that a call up to the first reply or refusal takes.
+pub fn taken_by_next<'a>(terminal: &Terminal, bytes: &'a [u8], room: usize) -> &'a [u8] {
+    let taken = terminal.clone().next(bytes, &mut vec![0; room]).run.taken;
+    &bytes[..taken]
 }
 
 /// The place of the byte that would be the last of an excluded command in a run

@@ -8,6 +8,7 @@ mod mending;
 mod pairs;
 mod program;
 mod random;
+mod reading;
 mod repainting;
 mod setups;
 mod shrink;

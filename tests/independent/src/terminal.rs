@@ -6,6 +6,8 @@ mod arguments;
 mod convert;
 #[path = "terminal/cursor.rs"]
 mod cursor;
+#[path = "terminal/next.rs"]
+mod next;
 #[path = "terminal/replies.rs"]
 mod replies;
 #[path = "terminal/rows.rs"]
@@ -20,6 +22,7 @@ mod texts;
 mod writing;
 
 use crate::state::*;
+pub use next::Next;
 use replies::reply;
 pub use rows::ROW_NUMBERS;
 

@@ -2,6 +2,7 @@
 
 mod bench;
 mod digest;
+pub mod limits;
 mod line;
 mod replay;
 mod set;
@@ -17,7 +18,6 @@ pub use set::set;
 use std::io::{self, BufRead, Write};
 pub use write::push_number;
 
-const WIDEST_ROOM: usize = 4000;
 const ROOM_FILLER: u8 = 0xEE;
 
 /// The trace of a whole script, or none if a line is bad.

@@ -1,9 +1,10 @@
 //! Replies and texts for the alert counter.
 
-use super::{Generator, DRY_ROOM};
+use super::Generator;
 use crate::counter::{units, LINKED_PART};
 use crate::random::Random;
 use crate::state::{CR, ESC};
+use crate::transcript::limits::WIDEST_ROOM;
 use crate::transcript::Line;
 
 const MARKS: &[u8] = b"\x1c\x1f";
@@ -22,7 +23,7 @@ impl Generator {
 
     fn count_of_send(&mut self) -> Line {
         let mut terminal = self.bench.terminal.clone();
-        let mut room = [0; DRY_ROOM];
+        let mut room = [0; WIDEST_ROOM];
         let replied = terminal.run(&[ESC, b'5'], &mut room).replied;
         numbered(&mut self.random, room[..replied].to_vec())
     }

@@ -2,6 +2,7 @@
 
 use super::Generator;
 use crate::state::{COLUMNS, DEL, KEYS, ROWS, WIDEST};
+use crate::transcript::limits::LONGEST_PAGE;
 use crate::transcript::Line;
 
 impl Generator {
@@ -24,10 +25,11 @@ impl Generator {
 
     pub fn wrong_length(&mut self) {
         let length = match self.random.below(4) {
-            0 => self.random.within(0..=4000),
-            _ => self
-                .random
-                .pick(&[0, 1, 79, 80, 1919, 1920, 1921, 3167, 3168, 3169, 4000]),
+            0 => self.random.within(0..=LONGEST_PAGE),
+            _ => {
+                let lengths = [0, 1, 79, 80, 1919, 1920, 1921, 3167, 3168, 3169];
+                self.random.pick(&[&lengths[..], &[LONGEST_PAGE]].concat())
+            }
         };
         self.add(Line::Length(length));
         if length > 0 && self.random.coin() {

@@ -2,6 +2,7 @@
 
 use super::Generator;
 use crate::state::Personality;
+use crate::transcript::limits::MOST_ENTRIES;
 use crate::transcript::Line;
 
 impl Generator {
@@ -10,7 +11,7 @@ impl Generator {
             self.damage_cells();
         }
         let personality = self.random.pick(&[Personality::Wy50, Personality::Wy60]);
-        let (mended, _) = self.bench.clone().mend(personality, 4000);
+        let (mended, _) = self.bench.clone().mend(personality, MOST_ENTRIES);
         let entries = match self.random.below(6) {
             0 => 0,
             1 => mended.needed.saturating_sub(1),

@@ -2,6 +2,7 @@
 
 use super::Generator;
 use crate::state::{CELLS, COLUMNS, ROWS, WIDEST};
+use crate::transcript::limits::LONGEST_PAGE;
 use crate::transcript::Line;
 
 impl Generator {
@@ -45,7 +46,7 @@ impl Generator {
         let other = ROWS * self.bench.terminal.state.other_columns();
         let target = match self.random.below(8) {
             0 => {
-                let lengths = [0, 1, 1919, 1920, 1921, 3167, 3168, 3169, 4000];
+                let lengths = [0, 1, 1919, 1920, 1921, 3167, 3168, 3169, LONGEST_PAGE];
                 self.random.pick(&lengths)
             }
             _ => other,

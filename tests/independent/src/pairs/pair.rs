@@ -1,6 +1,6 @@
 //! A pair of scripts.
 
-use crate::generate::{excluded_byte, Generator};
+use crate::generate::{excluded_byte, taken_by_next, Generator};
 use crate::state::Cell;
 use crate::transcript::{set, Bench, Line};
 
@@ -98,17 +98,22 @@ fn are_alike(first: &[Cell], second: &[Cell]) -> bool {
 }
 
 /// A list call whose list agrees takes the same bytes as one without a list; one
-/// whose list does not agree takes none, and a step takes none during a send.
+/// whose list does not agree takes none, and a step takes none during a send. An
+/// empty list is none where a call may do without.
 fn obeys_without_excluded(bench: &mut Bench, call: &Line) -> bool {
     let Bench { terminal, rows, .. } = bench;
     let is_sending = terminal.state.sending.is_some();
     let (bytes, room) = match call {
+        Line::ListNext { .. } if !rows.is_empty() && !terminal.agrees_with(rows) => (&[][..], 0),
         Line::ListStep { .. } | Line::ListRun { .. } if !terminal.agrees_with(rows) => (&[][..], 0),
         Line::Step { .. } | Line::ListStep { .. } if is_sending => (&[][..], 0),
         Line::Step { byte, room } | Line::ListStep { byte, room } => {
             (std::slice::from_ref(byte), *room)
         }
         Line::Run { bytes, room } | Line::ListRun { bytes, room } => (&bytes[..], *room),
+        Line::Next { bytes, room } | Line::ListNext { bytes, room } => {
+            (taken_by_next(terminal, bytes, *room), *room)
+        }
         _ => (&[][..], 0),
     };
     excluded_byte(terminal, bytes, room).is_none() && bench.follow(call).is_some()

@@ -1,8 +1,8 @@
 //! What a script works on.
 
+use super::limits::WIDEST_ROOM;
 use super::line::Line;
 use super::set::set;
-use super::WIDEST_ROOM;
 use crate::mending::{mend, Mended, ENTRY_NUMBERS};
 use crate::setups::{self, STORE};
 use crate::state::{Cell, Personality, CELLS};
@@ -76,6 +76,11 @@ impl Bench {
             Line::ListRun { bytes, room } => {
                 let report = terminal.run_with_rows(bytes, &mut widest[..*room], rows);
                 report.taken
+            }
+            Line::Next { bytes, room } => terminal.next(bytes, &mut widest[..*room]).run.taken,
+            Line::ListNext { bytes, room } => {
+                let next = terminal.next_with_rows(bytes, &mut widest[..*room], rows);
+                next.run.taken
             }
             Line::Rebuild => {
                 let _ = terminal.rebuild_rows(rows);

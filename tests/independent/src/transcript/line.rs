@@ -107,6 +107,30 @@ pub enum Line {
         bytes: Vec<u8>,
         room: usize,
     },
+    Next {
+        bytes: Vec<u8>,
+        room: usize,
+    },
+    ListNext {
+        bytes: Vec<u8>,
+        room: usize,
+    },
+    Field(usize),
+    FieldText {
+        start: usize,
+        trim: bool,
+        room: usize,
+    },
+    RowText {
+        row: usize,
+        trim: bool,
+        room: usize,
+    },
+    Position(usize),
+    Place {
+        row: usize,
+        column: usize,
+    },
     Save,
     Restore(u16),
     Convert(usize),
@@ -142,6 +166,13 @@ impl Line {
                 | Line::Rebuild
                 | Line::ListStep { .. }
                 | Line::ListRun { .. }
+                | Line::Next { .. }
+                | Line::ListNext { .. }
+                | Line::Field(_)
+                | Line::FieldText { .. }
+                | Line::RowText { .. }
+                | Line::Position(_)
+                | Line::Place { .. }
                 | Line::Save
                 | Line::Restore(_)
                 | Line::Convert(_)
@@ -156,7 +187,10 @@ impl Line {
     pub fn byte_count(&self) -> usize {
         match self {
             Line::Step { .. } | Line::ListStep { .. } => 1,
-            Line::Run { bytes, .. } | Line::ListRun { bytes, .. } => bytes.len(),
+            Line::Run { bytes, .. }
+            | Line::ListRun { bytes, .. }
+            | Line::Next { bytes, .. }
+            | Line::ListNext { bytes, .. } => bytes.len(),
             _ => 0,
         }
     }
@@ -164,7 +198,10 @@ impl Line {
     /// The bytes that the line hands to a call, if it is one over many.
     pub fn bytes_mut(&mut self) -> Option<&mut Vec<u8>> {
         match self {
-            Line::Run { bytes, .. } | Line::ListRun { bytes, .. } => Some(bytes),
+            Line::Run { bytes, .. }
+            | Line::ListRun { bytes, .. }
+            | Line::Next { bytes, .. }
+            | Line::ListNext { bytes, .. } => Some(bytes),
             Line::Count { reply, .. } => Some(reply),
             Line::Entry(text) => Some(text),
             Line::Bytes { bytes, .. } => Some(bytes),

@@ -1,16 +1,19 @@
 //! The calls, and the trace that they leave.
 
+mod reading;
+
 use super::bench::Bench;
 use super::digest::{bytes_digest, PageDigest};
+use super::limits::WIDEST_ROOM;
 use super::line::Line;
 use super::set::set;
 use super::state::write_state;
 use super::write::*;
-use super::{ROOM_FILLER, WIDEST_ROOM};
+use super::ROOM_FILLER;
 use crate::counter::{write_count, write_entry};
 use crate::setups::{self, Unkept};
 use crate::state::Personality;
-use crate::terminal::{answer_number, Outcome, Run, Step};
+use crate::terminal::{answer_number, Next, Outcome, Run, Step};
 
 /// A terminal that obeys script lines and writes the trace.
 pub struct Replay {
@@ -45,6 +48,13 @@ impl Replay {
             Line::Rebuild => self.rebuild(out),
             Line::ListStep { byte, room } => self.list_step(*byte, *room, out),
             Line::ListRun { bytes, room } => self.list_run(bytes, *room, out),
+            Line::Next { bytes, room } => self.next(bytes, *room, out),
+            Line::ListNext { bytes, room } => self.list_next(bytes, *room, out),
+            Line::Field(from) => self.field(*from, out),
+            Line::FieldText { start, trim, room } => self.field_text(*start, *trim, *room, out),
+            Line::RowText { row, trim, room } => self.row_text(*row, *trim, *room, out),
+            Line::Position(cell) => self.position(*cell, out),
+            Line::Place { row, column } => self.place(*row, *column, out),
             Line::Convert(count) => self.convert(*count, out),
             Line::Mend {
                 personality,
@@ -101,7 +111,8 @@ impl Replay {
     fn run(&mut self, bytes: &[u8], room: usize, out: &mut Vec<u8>) {
         let report = self.bench.terminal.run(bytes, &mut self.room[..room]);
         out.extend_from_slice(b" run");
-        self.write_report(report, room, out);
+        write_report(&report, out);
+        self.write_run_reply(&report, room, out);
     }
 
     fn rebuild(&mut self, out: &mut Vec<u8>) {
@@ -124,7 +135,22 @@ impl Replay {
         let Bench { terminal, rows, .. } = &mut self.bench;
         let report = terminal.run_with_rows(bytes, &mut self.room[..room], rows);
         out.extend_from_slice(b" listrun");
-        self.write_report(report, room, out);
+        write_report(&report, out);
+        self.write_run_reply(&report, room, out);
+        self.write_rows(out);
+    }
+
+    fn next(&mut self, bytes: &[u8], room: usize, out: &mut Vec<u8>) {
+        let next = self.bench.terminal.next(bytes, &mut self.room[..room]);
+        out.extend_from_slice(b" next");
+        self.write_next(next, room, out);
+    }
+
+    fn list_next(&mut self, bytes: &[u8], room: usize, out: &mut Vec<u8>) {
+        let Bench { terminal, rows, .. } = &mut self.bench;
+        let next = terminal.next_with_rows(bytes, &mut self.room[..room], rows);
+        out.extend_from_slice(b" listnext");
+        self.write_next(next, room, out);
         self.write_rows(out);
     }
 
@@ -174,25 +200,17 @@ impl Replay {
         push_list(out, self.bench.rows.iter().copied());
     }
 
-    fn write_report(&mut self, report: Run, room: usize, out: &mut Vec<u8>) {
-        let Run {
-            answer,
-            taken,
-            replied,
-            refused,
-            rest,
-        } = report;
-        out.extend_from_slice(b" answer=");
-        push_number(out, answer as usize);
-        out.extend_from_slice(b" taken=");
-        push_number(out, taken);
-        out.extend_from_slice(b" replied=");
-        push_number(out, replied);
-        out.extend_from_slice(b" refused=");
-        push_number(out, refused);
+    fn write_next(&mut self, next: Next, room: usize, out: &mut Vec<u8>) {
+        write_report(&next.run, out);
+        out.extend_from_slice(b" asked=");
+        push_bytes(out, next.asked.as_slice());
+        self.write_run_reply(&next.run, room, out);
+    }
+
+    fn write_run_reply(&mut self, report: &Run, room: usize, out: &mut Vec<u8>) {
         out.extend_from_slice(b" rest=");
-        push_bytes(out, rest);
-        self.write_reply(replied, room, out);
+        push_bytes(out, report.rest);
+        self.write_reply(report.replied, room, out);
     }
 
     fn show(&mut self, out: &mut Vec<u8>) {
@@ -212,10 +230,14 @@ impl Replay {
         self.write_reply(outcome.unwrap_or(0), room, out);
     }
 
-    /// Writes the reply and fills the room again for the next call.
     fn write_reply(&mut self, replied: usize, room: usize, out: &mut Vec<u8>) {
-        let (front, beyond) = self.room[..room].split_at_mut(replied);
         out.extend_from_slice(b" reply=");
+        self.write_room(replied, room, out);
+    }
+
+    /// Writes the room's front and fills the room again for the next call.
+    fn write_room(&mut self, length: usize, room: usize, out: &mut Vec<u8>) {
+        let (front, beyond) = self.room[..room].split_at_mut(length);
         push_bytes(out, front);
         let untouched = beyond
             .iter()
@@ -229,6 +251,17 @@ impl Replay {
         front.fill(ROOM_FILLER);
         beyond.fill(ROOM_FILLER);
     }
+}
+
+fn write_report(report: &Run, out: &mut Vec<u8>) {
+    out.extend_from_slice(b" answer=");
+    push_number(out, report.answer as usize);
+    out.extend_from_slice(b" taken=");
+    push_number(out, report.taken);
+    out.extend_from_slice(b" replied=");
+    push_number(out, report.replied);
+    out.extend_from_slice(b" refused=");
+    push_number(out, report.refused);
 }
 
 fn unkept_name(unkept: Unkept) -> &'static [u8] {

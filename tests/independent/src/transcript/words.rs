@@ -1,6 +1,6 @@
 //! The words of a line.
 
-use super::WIDEST_ROOM;
+use super::limits::WIDEST_ROOM;
 use crate::state::{Place, Sending, ESC};
 
 pub fn number(word: &str, largest: usize) -> Option<usize> {

@@ -3,11 +3,8 @@
 use super::Line;
 use crate::repainting::Span;
 use crate::state::{Personality, KEYS, LABELS, WIDEST};
+use crate::transcript::limits::*;
 use crate::transcript::words::*;
-
-const LONGEST_PAGE: usize = 4000;
-const LONGEST_LIST: usize = 4000;
-const LONGEST_STORE: usize = 16384;
 
 impl Line {
     pub fn parse(text: &str) -> Option<Line> {
@@ -62,9 +59,9 @@ impl Line {
                 bytes: text_bytes(words.next()?)?,
             },
             "shifted" => Line::Shifted(flag(words.next()?)?),
-            "rows" => Line::Rows(number(words.next()?, LONGEST_LIST)?),
+            "rows" => Line::Rows(number(words.next()?, LONGEST_ROW_LIST)?),
             "row" => Line::Row {
-                index: number(words.next()?, LONGEST_LIST)?,
+                index: number(words.next()?, LONGEST_ROW_LIST)?,
                 value: number(words.next()?, 0xFFFF)? as u16,
             },
             "personality" => Line::Personality(personality(words.next()?)?),
@@ -100,7 +97,7 @@ impl Line {
             "convert" => Line::Convert(number(words.next()?, LONGEST_PAGE)?),
             "mend" => Line::Mend {
                 personality: personality(words.next()?)?,
-                entries: number(words.next()?, LONGEST_LIST)?,
+                entries: number(words.next()?, MOST_ENTRIES)?,
             },
             "spans" => Line::Spans(spans(words.next()?)?),
             "bytes" => Line::Bytes {
@@ -109,8 +106,8 @@ impl Line {
             },
             "propose" => Line::Propose {
                 personality: personality(words.next()?)?,
-                spans: number(words.next()?, LONGEST_LIST)?,
-                bytes: number(words.next()?, LONGEST_STORE)?,
+                spans: number(words.next()?, MOST_SPANS)?,
+                bytes: number(words.next()?, MOST_PAINT_BYTES)?,
             },
             "rebuild" => Line::Rebuild,
             "liststep" => Line::ListStep {
@@ -120,6 +117,30 @@ impl Line {
             "listrun" => Line::ListRun {
                 bytes: hex(words.next()?)?,
                 room: room(words.next()?)?,
+            },
+            "next" => Line::Next {
+                bytes: hex(words.next()?)?,
+                room: room(words.next()?)?,
+            },
+            "listnext" => Line::ListNext {
+                bytes: hex(words.next()?)?,
+                room: room(words.next()?)?,
+            },
+            "field" => Line::Field(number(words.next()?, FARTHEST)?),
+            "fieldtext" => Line::FieldText {
+                start: number(words.next()?, FARTHEST)?,
+                trim: flag(words.next()?)?,
+                room: room(words.next()?)?,
+            },
+            "rowtext" => Line::RowText {
+                row: number(words.next()?, FARTHEST)?,
+                trim: flag(words.next()?)?,
+                room: room(words.next()?)?,
+            },
+            "position" => Line::Position(number(words.next()?, FARTHEST)?),
+            "place" => Line::Place {
+                row: number(words.next()?, FARTHEST)?,
+                column: number(words.next()?, FARTHEST)?,
             },
             "count" => Line::Count {
                 reply: hex(words.next()?)?,

@@ -102,6 +102,25 @@ impl Line {
                 push_bytes(out, bytes);
                 word(out, &format!(" {room}"));
             }
+            Line::Next { bytes, room } => {
+                word(out, "next ");
+                push_bytes(out, bytes);
+                word(out, &format!(" {room}"));
+            }
+            Line::ListNext { bytes, room } => {
+                word(out, "listnext ");
+                push_bytes(out, bytes);
+                word(out, &format!(" {room}"));
+            }
+            Line::Field(from) => word(out, &format!("field {from}")),
+            Line::FieldText { start, trim, room } => {
+                word(out, &format!("fieldtext {start} {} {room}", *trim as u8));
+            }
+            Line::RowText { row, trim, room } => {
+                word(out, &format!("rowtext {row} {} {room}", *trim as u8));
+            }
+            Line::Position(cell) => word(out, &format!("position {cell}")),
+            Line::Place { row, column } => word(out, &format!("place {row} {column}")),
             Line::Entry(text) => {
                 word(out, "entry ");
                 push_bytes(out, text);
