@@ -5,12 +5,15 @@ mod bench;
 mod book;
 mod calls;
 mod counter;
+mod events;
+mod leaving;
 mod mending;
 mod moves;
 mod narrow;
 mod personalities;
 mod possible;
 mod protection;
+mod reading;
 mod repainting;
 mod rows;
 mod sends;
@@ -51,5 +54,8 @@ pub fn script() -> Vec<u8> {
     book.wide_pages();
     book.mending();
     book.repainting();
+    book.leaving();
+    book.events();
+    book.reading();
     book.text
 }

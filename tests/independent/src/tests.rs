@@ -1,9 +1,11 @@
 //! The bench list and the transcript's example.
 
 mod counter;
+mod events;
 mod mending;
 mod narrow;
 mod personalities;
+mod reading;
 mod repainting;
 mod rows;
 mod sends;
@@ -267,6 +269,12 @@ fn bad_lines_are_named() {
         ("mend 50 0\nmend 55 0\n", 2),
         ("sending 1b3F:1\n", 1),
         ("rebuild\nliststep 1b\n", 2),
+        ("next 41 0\nlistnext - 4000\nnext 41 4001\n", 3),
+        ("next 41\n", 1),
+        ("field 65535\nfield 65536\n", 2),
+        ("fieldtext 0 1 4000\nfieldtext 0 2 0\n", 2),
+        ("rowtext 65535 0 4000\nrowtext 0 0 4001\n", 2),
+        ("position 0\nplace 0 0\nplace 0\n", 3),
         ("pending 1b4600\n", 1),
         ("pending 1b4641+\n", 1),
         ("pending 1b7a7f\n", 1),

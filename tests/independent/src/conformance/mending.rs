@@ -2,6 +2,7 @@
 
 use super::book::Book;
 use crate::state::{Personality, CELLS, COLUMNS, ROWS, WIDEST};
+use crate::transcript::limits::MOST_ENTRIES;
 use crate::transcript::Line;
 
 const BOTH: [Personality; 2] = [Personality::Wy50, Personality::Wy60];
@@ -75,7 +76,7 @@ impl Book {
             mask: 0x007F,
             share: 8,
         });
-        self.mend(Personality::Wy60, 4000);
+        self.mend(Personality::Wy60, MOST_ENTRIES);
         self.line(Line::Wide(false));
     }
 
@@ -98,7 +99,7 @@ impl Book {
         for length in [1, 24, 1919, 1921, 1944, 3167, 3169, 4000] {
             self.line(Line::Length(length));
             self.fill(0, length, 0x7F);
-            for entries in [0, 10, 4000] {
+            for entries in [0, 10, MOST_ENTRIES] {
                 self.mend(Personality::Wy50, entries);
             }
         }
