@@ -132,7 +132,8 @@ impl Generator {
                 _ => self.convert(),
             };
         }
-        if self.random.once_in(12) {
+        let is_of_other_length = self.bench.terminal.page.len() != self.cells();
+        if self.random.once_in(if is_of_other_length { 3 } else { 12 }) {
             return self.read_page();
         }
         if self.tend_rows() {
@@ -217,6 +218,9 @@ impl Generator {
     }
 
     fn some_bytes(&mut self) -> Vec<u8> {
+        if self.is_sending() && self.random.once_in(4) {
+            return vec![];
+        }
         let count = match self.random.below(8) {
             0 => self.random.below(4),
             1..=3 => self.random.below(12),

@@ -11,12 +11,14 @@ impl Generator {
             self.damage_cells();
         }
         let personality = self.random.pick(&[Personality::Wy50, Personality::Wy60]);
-        let (mended, _) = self.bench.clone().mend(personality, MOST_ENTRIES);
+        let always_enough = self.bench.terminal.page.len();
+        let (mended, _) = self.bench.clone().mend(personality, always_enough);
         let entries = match self.random.below(6) {
             0 => 0,
             1 => mended.needed.saturating_sub(1),
             2 => mended.needed,
             3 => self.random.within(0..=mended.needed + 3),
+            4 => self.random.pick(&[always_enough, MOST_ENTRIES]),
             _ => mended.needed + self.random.within(0..=3),
         };
         self.add(Line::Mend {

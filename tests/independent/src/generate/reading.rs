@@ -32,7 +32,7 @@ impl Generator {
     fn read_field(&mut self) {
         let (start, trim) = (self.cell_to_read(), self.random.coin());
         let page = &self.bench.terminal.page;
-        let length = field_text(page, start, trim, &mut [0; WIDEST_ROOM]).unwrap_or(0);
+        let length = field_text(page, start, trim, &mut [0; WIDEST]).unwrap_or(0);
         let room = self.room_for_text(length);
         self.add(Line::FieldText { start, trim, room });
     }
@@ -44,7 +44,7 @@ impl Generator {
         };
         let trim = self.random.coin();
         let page = &self.bench.terminal.page;
-        let length = row_text(page, row, trim, &mut [0; WIDEST_ROOM]).unwrap_or(0);
+        let length = row_text(page, row, trim, &mut [0; WIDEST]).unwrap_or(0);
         let room = self.room_for_text(length);
         self.add(Line::RowText { row, trim, room });
     }
