@@ -200,9 +200,7 @@ impl Generator {
         let mut room = [0; WIDEST_ROOM];
         let next = self.bench.terminal.clone().next(&bytes, &mut room);
         let room = self.room_about(next.run.replied);
-        while let Some(place) = self.excluded_place(self.taken_by_next(&bytes, room), room) {
-            bytes[place] = b'?';
-        }
+        self.replace_excluded_of_next(&mut bytes, room);
         if self.lists && self.random.once_in(12) {
             self.add(Line::Rows(0));
         }
@@ -211,10 +209,6 @@ impl Generator {
         } else {
             Line::Next { bytes, room }
         });
-    }
-
-    fn taken_by_next<'a>(&self, bytes: &'a [u8], room: usize) -> &'a [u8] {
-        taken_by_next(&self.bench.terminal, bytes, room)
     }
 
     fn some_bytes(&mut self) -> Vec<u8> {
@@ -267,6 +261,14 @@ impl Generator {
     /// Puts other bytes in the place of those that would complete an excluded command.
     fn replace_excluded(&self, bytes: &mut [u8], room: usize) {
         while let Some(place) = self.excluded_place(bytes, room) {
+            bytes[place] = b'?';
+        }
+    }
+
+    /// The same for a call up to the first reply or refusal.
+    fn replace_excluded_of_next(&self, bytes: &mut [u8], room: usize) {
+        let terminal = &self.bench.terminal;
+        while let Some(place) = self.excluded_place(taken_by_next(terminal, bytes, room), room) {
             bytes[place] = b'?';
         }
     }

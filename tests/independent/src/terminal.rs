@@ -7,7 +7,7 @@ mod convert;
 #[path = "terminal/cursor.rs"]
 mod cursor;
 #[path = "terminal/next.rs"]
-mod next;
+pub mod next;
 #[path = "terminal/replies.rs"]
 mod replies;
 #[path = "terminal/rows.rs"]
@@ -22,7 +22,6 @@ mod texts;
 mod writing;
 
 use crate::state::*;
-pub use next::Next;
 use replies::reply;
 pub use rows::ROW_NUMBERS;
 

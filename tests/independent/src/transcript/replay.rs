@@ -13,7 +13,8 @@ use super::ROOM_FILLER;
 use crate::counter::{write_count, write_entry};
 use crate::setups::{self, Unkept};
 use crate::state::Personality;
-use crate::terminal::{answer_number, Next, Outcome, Run, Step};
+use crate::terminal::next::Next;
+use crate::terminal::{answer_number, Outcome, Run, Step};
 
 /// A terminal that obeys script lines and writes the trace.
 pub struct Replay {
