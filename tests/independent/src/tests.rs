@@ -15,6 +15,7 @@ mod widths;
 
 use crate::state::{Cell, Personality, ESC};
 use crate::terminal::{answer_number, Refusal, Terminal};
+use crate::transcript::limits::*;
 use crate::{conformance, generate, transcript};
 
 /// The replies of a run that takes and obeys every byte.
@@ -239,7 +240,6 @@ fn bad_lines_are_named() {
         ("on\nof\n", 2),
         ("# comment\n\nstep 1B 0\n", 3),
         ("step 41  0\n", 1),
-        ("step 41 4001\n", 1),
         ("cell 1920 0\n", 1),
         ("pending 1b3d2020\n", 1),
         ("pending 1b613552\n", 1),
@@ -264,16 +264,13 @@ fn bad_lines_are_named() {
         ("spans -\nspans 1:2:3,0:0:65535\nspans 1:2\n", 3),
         ("bytes 60 -\nbytes 1b\n", 2),
         ("display\npropose 50 0 0\npropose 50 0\n", 3),
-        ("length 9\nnoise 1 127 64\nconvert 4000\nconvert 4001\n", 4),
-        ("mend 60 4000\nmend 50 4001\n", 2),
+        ("length 9\nnoise 1 127 64\nconvert\n", 3),
         ("mend 50 0\nmend 55 0\n", 2),
         ("sending 1b3F:1\n", 1),
         ("rebuild\nliststep 1b\n", 2),
-        ("next 41 0\nlistnext - 4000\nnext 41 4001\n", 3),
-        ("next 41\n", 1),
-        ("field 65535\nfield 65536\n", 2),
-        ("fieldtext 0 1 4000\nfieldtext 0 2 0\n", 2),
-        ("rowtext 65535 0 4000\nrowtext 0 0 4001\n", 2),
+        ("next 41 0\nlistnext - 0\nnext 41\n", 3),
+        ("fieldtext 0 1 0\nfieldtext 0 2 0\n", 2),
+        ("rowtext 0 0 0\nrowtext 0 0\n", 2),
         ("position 0\nplace 0 0\nplace 0\n", 3),
         ("pending 1b4600\n", 1),
         ("pending 1b4641+\n", 1),
@@ -281,6 +278,35 @@ fn bad_lines_are_named() {
         ("message 41\npending 1b46+\npending 1b7a57+\nstep\n", 4),
     ] {
         assert_eq!(trace_of(script.as_bytes()).1, Err(line), "{script}");
+    }
+}
+
+#[test]
+fn what_is_past_its_limit_is_bad() {
+    for (start, limit, end) in [
+        ("length ", LONGEST_PAGE, ""),
+        ("convert ", LONGEST_PAGE, ""),
+        ("rows ", LONGEST_ROW_LIST, ""),
+        ("mend 50 ", MOST_ENTRIES, ""),
+        ("propose 50 ", MOST_SPANS, " 0"),
+        ("propose 50 0 ", MOST_PAINT_BYTES, ""),
+        ("store ", LONGEST_STORE, ""),
+        ("step 41 ", WIDEST_ROOM, ""),
+        ("run 41 ", WIDEST_ROOM, ""),
+        ("press 41 ", WIDEST_ROOM, ""),
+        ("listnext 41 ", WIDEST_ROOM, ""),
+        ("fieldtext 0 0 ", WIDEST_ROOM, ""),
+        ("rowtext 0 1 ", WIDEST_ROOM, ""),
+        ("field ", FARTHEST, ""),
+        ("fieldtext ", FARTHEST, " 0 0"),
+        ("rowtext ", FARTHEST, " 0 0"),
+        ("position ", FARTHEST, ""),
+        ("place ", FARTHEST, " 0"),
+        ("place 0 ", FARTHEST, ""),
+    ] {
+        let past = limit + 1;
+        let script = format!("{start}{limit}{end}\n{start}{past}{end}\n");
+        assert_eq!(trace_of(script.as_bytes()).1, Err(2), "{script}");
     }
 }
 

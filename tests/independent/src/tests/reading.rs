@@ -2,7 +2,7 @@
 
 use super::*;
 use crate::reading::{cell_at, field_text, fields, next_field, position, row_text, Field};
-use crate::transcript::{Bench, Line};
+use crate::transcript::Bench;
 
 /// Labels but for cells 3 and 4, and 78 to 81.
 fn form() -> Vec<Cell> {
@@ -150,8 +150,4 @@ fn the_trace_of_a_page_read() {
     ]) {
         assert!(line.starts_with(expected), "{line}");
     }
-    assert!(matches!(
-        Line::parse("field 65535"),
-        Some(Line::Field(65535))
-    ));
 }

@@ -76,7 +76,7 @@ fn calls_with_the_list_do_as_those_without() {
                 true => plain.rows_with_room(),
                 false => vec![0; ROW_NUMBERS],
             };
-            let [mut listed_room, mut plain_room] = [[0; 4000]; 2];
+            let [mut listed_room, mut plain_room] = [[0; WIDEST_ROOM]; 2];
             match &line {
                 Line::Step { byte, room } | Line::ListStep { byte, room } => assert_eq!(
                     listed.step_with_rows(*byte, &mut listed_room[..*room], &mut list),
