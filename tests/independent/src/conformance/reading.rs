@@ -76,7 +76,8 @@ impl Book {
             self.page_of_fields(columns, &[]);
             self.field(0);
             self.field_text(0, false, WIDEST);
-            self.case("reading: every second cell");
+            self.case("reading: short fields");
+            self.line(Line::Length(ROWS * columns));
             self.line(Line::Noise {
                 seed: 5,
                 mask: 0x7F,
