@@ -1,160 +1,50 @@
 // Runs a script of calls against the terminal and writes its trace: the script on standard input, the trace on standard output.
-mod bounds;
-mod call;
-mod change;
-mod digest;
-mod mending;
-mod progress;
-mod repainting;
-mod script;
-mod send;
-mod sequence;
-mod sizes;
-mod state_text;
-mod store;
-mod text;
-mod trace;
-mod turn;
+mod calls; // lines that call
+mod lists; // lines that change what is lent to calls
+mod progress; // what is kept from line to line
+mod script; // a line as a command
+mod sizes; // how long what is lent may be
+mod source; // the lines of the input
 
-ghost use Prim.Native.Nat.{_≤_, _<_};
-ghost use lib.ListN.{length};
-use bounds::least;
-use bounds::within;
+ghost use Prim.Native.Nat.{_<_};
 use libc::STDERR_FILENO;
-use libc::STDIN_FILENO;
-use progress::Progress;
 use progress::obey;
-use progress::stopped;
+use replay_text::rooms::front;
+use replay_text::rooms::part;
+use replay_text::trace::flush;
+use sizes::BYTES;
+use sizes::CELLS;
+use sizes::INPUT;
 
-// Reads once, and answers how many bytes came; 0 at the end.
-fn read(input: &mut [u8]) -> usize
-    ensures { λ r. ⌜ r ≤ length (now (input .exit)) ⌝ }
-{
-    let got = libc::read(STDIN_FILENO, input);
-    if got < 0 {
-        os::fail(b"replay: standard input");
-    }
-    io::count(got, input)
-}
-
-// Obeys the whole lines of the input; what follows the last of them is held.
-fn obey_lines(
-    s: Progress,
-    input: &[u8],
-    page: &mut [u16],
-    rows: &mut [u16],
-    store: &mut [u8],
-    display: &mut [u16],
-    out: &mut [u8],
-) -> Progress {
-    let mut t = s;
-    let mut rest = input;
-    while 0 < rest.len() {
-        let end = text::find(rest, b'\n');
-        if end == rest.len() {
-            break;
-        }
-        let u = obey(t, &rest[..end], page, rows, store, display, out);
-        t = u;
-        if !t.going {
-            break;
-        }
-        rest = &rest[end + 1..];
-    }
-    t.held = rest.len();
-    t
-}
-
-// Moves the bytes from `from` up to `to` to the front.
-fn move_to_front(input: &mut [u8], from: usize, to: usize)
-    requires { ⌜ to ≤ length (now input) ⌝ }
-{
-    let mut i = 0;
-    let mut j = from;
-    while j < to {
-        input[i] = input[j];
-        i += 1;
-        j += 1;
-    }
-}
-
-// One piece of the input. What is held of an unfinished line stands at the front of the buffer.
-fn piece(
-    s: Progress,
-    input: &mut [u8],
-    page: &mut [u16],
-    rows: &mut [u16],
-    store: &mut [u8],
-    display: &mut [u16],
-    out: &mut [u8],
-) -> Progress {
-    let held = within(s.held, input);
-    let n = read(&mut input[held..]);
-    if n == 0 {
-        return end(s, &input[..held], page, rows, store, display, out);
-    }
-    filled(s, held + n, input, page, rows, store, display, out)
-}
-
-// Obeys the whole lines of the n bytes that the buffer holds, and moves the rest to its front.
-fn filled(
-    s: Progress,
-    n: usize,
-    input: &mut [u8],
-    page: &mut [u16],
-    rows: &mut [u16],
-    store: &mut [u8],
-    display: &mut [u16],
-    out: &mut [u8],
-) -> Progress {
-    let size = within(n, input);
-    let t = obey_lines(s, &input[..size], page, rows, store, display, out);
-    let left = least(t.held, size);
-    if left == input.len() {
-        return too_long(t);
-    }
-    move_to_front(input, size - left, size);
-    t
-}
-
-// The last line may have no line end.
-fn end(
-    s: Progress,
-    line: &[u8],
-    page: &mut [u16],
-    rows: &mut [u16],
-    store: &mut [u8],
-    display: &mut [u16],
-    out: &mut [u8],
-) -> Progress {
-    let t = obey(s, line, page, rows, store, display, out);
-    stopped(t)
-}
-
-// A line has to fit into the buffer with its line end.
-fn too_long(s: Progress) -> Progress {
-    if !s.going {
-        return s;
+// A line that fits none of the forms is named on standard error, and the run ends there. (A Rattle program has no exit status to set.)
+fn tell(going: bool, number: usize, line: &[u8]) {
+    if going {
+        return;
     }
     io::write_all(STDERR_FILENO, b"replay: line ");
-    io::print_decimal(
-        STDERR_FILENO,
-        std::num::wrapping_add_usize(s.line, 1) as u64,
-    );
-    io::write_all(STDERR_FILENO, b" is longer than 65535 bytes\n");
-    stopped(s)
+    io::print_decimal(STDERR_FILENO, number as u64);
+    io::write_all(STDERR_FILENO, b" fits none of the forms: ");
+    io::write_all(STDERR_FILENO, front(line, 200));
+    io::write_all(STDERR_FILENO, b"\n");
 }
 
-// How many pieces may follow.
-fn left(pieces: u64, going: bool) -> u64
-    requires { ⌜ 0 < pieces ⌝ }
-    ensures { λ r. ⌜ r < pieces ⌝ }
+// How many lines may follow.
+fn left(lines: u64, going: bool, is_last: bool) -> u64
+    requires { ⌜ 0 < lines ⌝ }
+    ensures { λ r. ⌜ r < lines ⌝ }
 {
-    if going { pieces - 1 } else { 0 }
+    if !going {
+        return 0;
+    }
+    if is_last {
+        return 0;
+    }
+    lines - 1
 }
 
-// A proved loop has to end, and nothing says that the input does: the count of pieces falls from a number that no script uses up.
+// A proved loop has to end, and nothing says that the input does: the count of lines falls from a number that no script uses up.
 fn replay(
+    text: &mut [u8],
     input: &mut [u8],
     page: &mut [u16],
     rows: &mut [u16],
@@ -163,23 +53,38 @@ fn replay(
     out: &mut [u8],
 ) {
     let mut s = progress::start();
-    let mut pieces = u64::MAX;
-    while 0 < pieces {
-        let t = piece(s, input, page, rows, store, display, out);
+    let mut x = source::start();
+    let mut lines = u64::MAX;
+    while 0 < lines {
+        let y = source::next(x, text);
+        x = y;
+        let t = obey(
+            s,
+            part(text, x.from, x.end),
+            input,
+            page,
+            rows,
+            store,
+            display,
+            out,
+        );
         s = t;
-        pieces = left(pieces, s.going);
+        lines = left(lines, s.going, x.is_last);
     }
-    trace::flush(out, s.at);
+    tell(s.going, x.number, part(text, x.from, x.end));
+    flush(out, s.at);
 }
 
 fn main() {
-    let mut input = io::large_buffer();
+    let mut text = io::large_buffer();
     let mut out = io::large_buffer();
-    let mut page = [0u16; 4000];
-    let mut rows = [0u16; 4000];
-    let mut store = [0u8; 16384];
-    let mut display = [0u16; 4000];
+    let mut input = [0u8; INPUT];
+    let mut page = [0u16; CELLS];
+    let mut rows = [0u16; CELLS];
+    let mut store = [0u8; BYTES];
+    let mut display = [0u16; CELLS];
     replay(
+        &mut text,
         &mut input,
         &mut page,
         &mut rows,

@@ -1,99 +1,90 @@
-// A line of a script as a command of numbers. Its byte strings are read where it is carried out.
-use crate::sizes::STOPS;
-use crate::text::NONE;
-use crate::text::byte;
-use crate::text::first;
-use crate::text::later;
-use crate::text::number;
-use crate::text::word_count;
-use check::same;
+// A line of a script as a command of numbers. Its byte string, if it has one, is put to the front of a room, and the command has its length.
+use crate::sizes::BYTES;
+use crate::sizes::CELLS;
+use crate::sizes::ENTRIES;
+use crate::sizes::INPUT;
+use replay_above::repainting::are_spans;
+use replay_text::words::NONE;
+use replay_text::words::byte;
+use replay_text::words::byte_string;
+use replay_text::words::first;
+use replay_text::words::later;
+use replay_text::words::number;
+use replay_text::words::which;
+use replay_text::words::word_count;
 use rules::Personality;
 
-// Lines that change the page.
-pub enum PageLine {
-    Length(usize),
-    Noise(usize, usize, usize),
-    // first cell, how many, value
-    Fill(usize, usize, u16),
-}
-
-// Lines that change the row list: its length, a number of it.
+// Lines that change what is lent to calls: a new length, or numbers of it.
 pub enum ListLine {
-    Length(usize),
-    Number(usize, u16),
+    Page(usize),
+    Rows(usize),
+    Store(usize),
+    // first cell, how many, value
+    Cells(usize, usize, u16),
+    Row(usize, u16),
+    Byte(usize, u8),
+    Noise(usize, usize, usize),
+    Display,
 }
 
-// Lines about the store: its length, a byte of it, a save and a restore.
+// Lines that call the terminal. A room has its length.
+pub enum TerminalLine {
+    On(Personality),
+    // with the row list, the byte, the room
+    Step(bool, u8, usize),
+    // up to the first event, with the row list, the length of the input, the room
+    Run(bool, bool, usize, usize),
+    Press(u8, usize),
+    Rebuild,
+}
+
+// Lines that read the page.
+pub enum PageLine {
+    Show,
+    Field(usize),
+    // the first cell or the row, trimmed, the room
+    FieldText(usize, bool, usize),
+    RowText(usize, bool, usize),
+    Position(usize),
+    Place(usize, usize),
+}
+
 pub enum StoreLine {
-    Length(usize),
-    Byte(usize, u8),
     Save,
     Restore(u16),
 }
 
-// Lines about the distant display: its page, the judges of spans and of bytes, and the proposer with rooms for so many spans and bytes.
-pub enum RepaintLine {
-    Display,
+// Lines that count, that mend, and about the distant display: the length of the input; the numbers of the first and the last piece; the length of
+// the list; the lengths of the rooms.
+pub enum AboveLine {
+    Count(usize, usize, usize),
+    Entry(usize),
+    Mend(Personality, usize),
     Spans,
-    Bytes(Personality),
+    Bytes(Personality, usize),
     Propose(Personality, usize, usize),
 }
 
-// Lines that change the state by numbers alone. A mode counts from 0 in the order of `Modes`.
-pub enum Setting {
-    Active(u8),
-    Cursor(bool, u16),
-    Split(u8),
-    Mode(usize, bool),
-    Tab(usize, bool),
-    Attribute(usize, u8),
-    Feature(usize, u8),
-    Bells(u8),
-    Shifted(bool),
-    Wide(bool),
-    Wish(bool),
-    Personality(Personality),
-    Remembered(u8),
-}
-
-// Lines that call, or show.
 pub enum Call {
-    On(Personality),
-    Step(u8),
-    Run,
-    Press(u8),
-    // the numbers of the first and the last piece
-    Count(usize, usize),
-    Entry,
-    Show,
-    Rebuild,
-    ListStep(u8),
-    ListRun,
+    Terminal(TerminalLine),
+    Page(PageLine),
+    Store(StoreLine),
+    Above(AboveLine),
 }
 
-// Key and Label have their place, counted from 0; a call the length of its reply room.
+// A setting is read where it is carried out.
 pub enum Command {
     Bad,
     Skip,
-    Page(PageLine),
+    Set,
     List(ListLine),
-    Store(StoreLine),
-    Set(Setting),
-    Key(usize),
-    Label(usize),
-    Message,
-    Pending,
-    Sending,
     // the length of the target
     Convert(usize),
-    // the length of the list, in numbers
-    Mend(Personality, usize),
-    Repaint(RepaintLine),
-    Call(Call, usize),
+    Call(Call),
 }
 
 // What a line says.
-pub fn read(line: &[u8]) -> Command {
+pub fn read(line: &[u8], input: &mut [u8]) -> Command {
     if line.len() == 0 {
         return Command::Skip;
     }
@@ -101,303 +92,243 @@ pub fn read(line: &[u8]) -> Command {
         return Command::Skip;
     }
     let n = word_count(line);
+    let word = first(line);
+    let words = later(line);
     match n {
         1 => one_word(line),
-        2 => two_words(line),
-        3 => three_words(line),
-        4 => four_words(line),
+        2 => two_words(word, words, input),
+        3 => three_words(word, first(words), later(words), input),
+        4 => four_words(word, first(words), later(words), input),
         _ => Command::Bad,
     }
 }
 
-fn one_word(line: &[u8]) -> Command {
-    if same(line, b"on") {
-        return Command::Call(Call::On(Personality::Wy50), 0);
-    }
-    if same(line, b"show") {
-        return Command::Call(Call::Show, 0);
-    }
-    if same(line, b"rebuild") {
-        return Command::Call(Call::Rebuild, 0);
-    }
-    if same(line, b"save") {
-        return Command::Store(StoreLine::Save);
-    }
-    if same(line, b"display") {
-        return Command::Repaint(RepaintLine::Display);
-    }
-    Command::Bad
-}
-
-// A command whose numbers have to lie in their ranges.
 fn given(fits: bool, c: Command) -> Command {
     if fits { c } else { Command::Bad }
 }
 
-fn two_words(line: &[u8]) -> Command {
-    let word = first(line);
-    if same(word, b"pending") {
-        return Command::Pending;
-    }
-    if same(word, b"sending") {
-        return Command::Sending;
-    }
-    if same(word, b"message") {
-        return Command::Message;
-    }
-    if same(word, b"entry") {
-        return Command::Call(Call::Entry, 0);
-    }
-    if same(word, b"spans") {
-        return Command::Repaint(RepaintLine::Spans);
-    }
-    let n = number(later(line));
-    if same(word, b"length") {
-        return given(n <= 4000, Command::Page(PageLine::Length(n)));
-    }
-    if same(word, b"rows") {
-        return given(n <= 4000, Command::List(ListLine::Length(n)));
-    }
-    if same(word, b"store") {
-        return given(n <= 16384, Command::Store(StoreLine::Length(n)));
-    }
-    if same(word, b"restore") {
-        return restore(n);
-    }
-    if same(word, b"convert") {
-        return given(n <= 4000, Command::Convert(n));
-    }
-    if 255 < n {
-        return Command::Bad;
-    }
-    let v = n as u8;
-    if same(word, b"active") {
-        return Command::Set(Setting::Active(v));
-    }
-    if same(word, b"split") {
-        return Command::Set(Setting::Split(v));
-    }
-    if same(word, b"bells") {
-        return Command::Set(Setting::Bells(v));
-    }
-    if same(word, b"remembered") {
-        return given(v < 32, Command::Set(Setting::Remembered(v)));
-    }
-    if v <= 1 {
-        return of_flag(word, v == 1);
-    }
-    of_personality(word, v)
+fn list(x: ListLine) -> Command {
+    Command::List(x)
 }
 
-// A word with a flag.
-fn of_flag(word: &[u8], b: bool) -> Command {
-    if same(word, b"shifted") {
-        return Command::Set(Setting::Shifted(b));
+fn terminal(x: TerminalLine) -> Command {
+    Command::Call(Call::Terminal(x))
+}
+
+fn page(x: PageLine) -> Command {
+    Command::Call(Call::Page(x))
+}
+
+fn store(x: StoreLine) -> Command {
+    Command::Call(Call::Store(x))
+}
+
+fn above(x: AboveLine) -> Command {
+    Command::Call(Call::Above(x))
+}
+
+fn one_word(word: &[u8]) -> Command {
+    let k = which(word, b"on show rebuild save display");
+    match k {
+        0 => terminal(TerminalLine::On(Personality::Wy50)),
+        1 => page(PageLine::Show),
+        2 => terminal(TerminalLine::Rebuild),
+        3 => store(StoreLine::Save),
+        4 => list(ListLine::Display),
+        _ => Command::Bad,
     }
-    if same(word, b"wide") {
-        return Command::Set(Setting::Wide(b));
+}
+
+fn two_words(word: &[u8], value: &[u8], input: &mut [u8]) -> Command {
+    let k = which(word, b"entry spans");
+    match k {
+        0 => entry(byte_string(value, input)),
+        1 => given(are_spans(value), above(AboveLine::Spans)),
+        _ => one_number(word, number(value)),
     }
-    given(same(word, b"wish"), Command::Set(Setting::Wish(b)))
+}
+
+fn entry(length: usize) -> Command {
+    given(length <= INPUT, above(AboveLine::Entry(length)))
+}
+
+fn one_number(word: &[u8], n: usize) -> Command {
+    let k = which(word, b"length rows store convert field position restore on");
+    match k {
+        0 => given(n <= CELLS, list(ListLine::Page(n))),
+        1 => given(n <= CELLS, list(ListLine::Rows(n))),
+        2 => given(n <= BYTES, list(ListLine::Store(n))),
+        3 => given(n <= CELLS, Command::Convert(n)),
+        4 => given(n != NONE, page(PageLine::Field(n))),
+        5 => given(n != NONE, page(PageLine::Position(n))),
+        6 => restore(n),
+        7 => given(
+            is_personality(n),
+            terminal(TerminalLine::On(personality(n))),
+        ),
+        _ => Command::Set,
+    }
 }
 
 fn restore(n: usize) -> Command {
     if 65535 < n {
         return Command::Bad;
     }
-    Command::Store(StoreLine::Restore(n as u16))
+    store(StoreLine::Restore(n as u16))
 }
 
-// A word with a personality, 50 or 60.
-fn of_personality(word: &[u8], v: u8) -> Command {
-    if v == 50 {
-        return personality_line(word, Personality::Wy50);
+// A personality is 50 or 60.
+fn is_personality(n: usize) -> bool {
+    if n == 50 {
+        return true;
     }
-    if v == 60 {
-        return personality_line(word, Personality::Wy60);
-    }
-    Command::Bad
+    n == 60
 }
 
-fn personality_line(word: &[u8], m: Personality) -> Command {
-    if same(word, b"on") {
-        return Command::Call(Call::On(m), 0);
+fn personality(n: usize) -> Personality {
+    if n == 60 {
+        return Personality::Wy60;
+    }
+    Personality::Wy50
+}
+
+fn three_words(word: &[u8], a: &[u8], b: &[u8], input: &mut [u8]) -> Command {
+    let k = which(word, b"run next listrun listnext bytes");
+    match k {
+        0 => run(false, false, byte_string(a, input), number(b)),
+        1 => run(true, false, byte_string(a, input), number(b)),
+        2 => run(false, true, byte_string(a, input), number(b)),
+        3 => run(true, true, byte_string(a, input), number(b)),
+        4 => judged(number(a), byte_string(b, input)),
+        _ => byte_call(word, a, b),
+    }
+}
+
+fn run(is_next: bool, is_listed: bool, length: usize, room: usize) -> Command {
+    if INPUT < length {
+        return Command::Bad;
     }
     given(
-        same(word, b"personality"),
-        Command::Set(Setting::Personality(m)),
+        room <= CELLS,
+        terminal(TerminalLine::Run(is_next, is_listed, length, room)),
     )
 }
 
-fn three_words(line: &[u8]) -> Command {
-    let word = first(line);
-    let words = later(line);
-    let n = number(later(words));
-    if same(word, b"run") {
-        return given(n <= 4000, Command::Call(Call::Run, n));
+fn judged(p: usize, length: usize) -> Command {
+    if INPUT < length {
+        return Command::Bad;
     }
-    if same(word, b"listrun") {
-        return given(n <= 4000, Command::Call(Call::ListRun, n));
+    given(
+        is_personality(p),
+        above(AboveLine::Bytes(personality(p), length)),
+    )
+}
+
+fn byte_call(word: &[u8], a: &[u8], b: &[u8]) -> Command {
+    let k = which(word, b"step liststep press");
+    if 2 < k {
+        return two_numbers(word, number(a), number(b));
     }
-    let b = byte(first(words));
-    if same(word, b"step") {
-        return byte_call(0, b, n);
+    let v = byte(a);
+    if 255 < v {
+        return Command::Bad;
     }
-    if same(word, b"press") {
-        return byte_call(1, b, n);
+    let room = number(b);
+    given(room <= CELLS, terminal(with_byte(k, v as u8, room)))
+}
+
+// `step`, `liststep` or `press`, from 0.
+fn with_byte(k: usize, b: u8, room: usize) -> TerminalLine {
+    match k {
+        0 => TerminalLine::Step(false, b, room),
+        1 => TerminalLine::Step(true, b, room),
+        _ => TerminalLine::Press(b, room),
     }
-    if same(word, b"liststep") {
-        return byte_call(2, b, n);
+}
+
+fn two_numbers(word: &[u8], i: usize, n: usize) -> Command {
+    let k = which(word, b"place mend cell row byte");
+    match k {
+        0 => place(i, n),
+        1 => mend(i, n),
+        2 => cells(i, 1, n),
+        3 => row(i, n),
+        4 => store_byte(i, n),
+        _ => Command::Set,
     }
-    let i = number(first(words));
-    if same(word, b"key") {
-        return given(i < 32, Command::Key(i));
+}
+
+fn place(row: usize, column: usize) -> Command {
+    if row == NONE {
+        return Command::Bad;
     }
-    if same(word, b"label") {
-        return given(i < 16, Command::Label(i));
-    }
-    if same(word, b"mend") {
-        return mending(i, n);
-    }
-    if same(word, b"bytes") {
-        return judging(i);
-    }
-    pair(word, i, n)
+    given(column != NONE, page(PageLine::Place(row, column)))
 }
 
 // A personality, and how many entries the list has.
-fn mending(p: usize, n: usize) -> Command {
-    if 4000 < n {
+fn mend(p: usize, n: usize) -> Command {
+    if ENTRIES < n {
         return Command::Bad;
     }
-    if p == 50 {
-        return Command::Mend(Personality::Wy50, 4 * n);
-    }
-    given(p == 60, Command::Mend(Personality::Wy60, 4 * n))
-}
-
-// The personality that is to be fed bytes.
-fn judging(p: usize) -> Command {
-    if p == 50 {
-        return Command::Repaint(RepaintLine::Bytes(Personality::Wy50));
-    }
     given(
-        p == 60,
-        Command::Repaint(RepaintLine::Bytes(Personality::Wy60)),
+        is_personality(p),
+        above(AboveLine::Mend(personality(p), 4 * n)),
     )
 }
 
-// `step`, `press` or `liststep`, from 0: a byte, and the length of the room.
-fn byte_call(which: u8, byte: usize, room: usize) -> Command {
-    if 255 < byte {
-        return Command::Bad;
-    }
-    let b = byte as u8;
-    let call = match which {
-        0 => Call::Step(b),
-        1 => Call::Press(b),
-        _ => Call::ListStep(b),
-    };
-    given(room <= 4000, Command::Call(call, room))
-}
-
-// A word with two numbers that sets something.
-fn pair(word: &[u8], i: usize, n: usize) -> Command {
-    if 65535 < n {
-        return Command::Bad;
-    }
-    let v = n as u16;
-    if same(word, b"cell") {
-        return Command::Page(PageLine::Fill(i, 1, v));
-    }
-    if same(word, b"row") {
-        return Command::List(ListLine::Number(i, v));
-    }
-    if same(word, b"cursor") {
-        return given(i < 2, Command::Set(Setting::Cursor(i == 1, v)));
-    }
-    if 255 < n {
-        return Command::Bad;
-    }
-    let b = n as u8;
-    if same(word, b"byte") {
-        return Command::Store(StoreLine::Byte(i, b));
-    }
-    if same(word, b"attribute") {
-        return given(i < 4, Command::Set(Setting::Attribute(i, b)));
-    }
-    if same(word, b"feature") {
-        return given(i < 5, Command::Set(Setting::Feature(i, b)));
-    }
-    switch(word, i, n)
-}
-
-// A word with a number and a flag.
-fn switch(word: &[u8], i: usize, n: usize) -> Command {
-    if 1 < n {
-        return Command::Bad;
-    }
-    if same(word, b"mode") {
-        return given(i < 6, Command::Set(Setting::Mode(i, n == 1)));
-    }
-    if same(word, b"tab") {
-        return given(i < STOPS, Command::Set(Setting::Tab(i, n == 1)));
-    }
-    Command::Bad
-}
-
-fn four_words(line: &[u8]) -> Command {
-    let word = first(line);
-    let words = later(line);
-    let a = number(first(words));
-    let b = number(first(later(words)));
-    let c = number(later(later(words)));
-    if same(word, b"count") {
-        return count(b, c);
-    }
-    if same(word, b"fill") {
-        return fill(a, b, c);
-    }
-    if same(word, b"noise") {
-        return noise(a, b, c);
-    }
-    if same(word, b"propose") {
-        return proposing(a, b, c);
-    }
-    Command::Bad
-}
-
-// A personality, and how many spans and bytes the rooms hold.
-fn proposing(p: usize, spans: usize, bytes: usize) -> Command {
-    if 4000 < spans {
-        return Command::Bad;
-    }
-    if 16384 < bytes {
-        return Command::Bad;
-    }
-    if p == 50 {
-        return Command::Repaint(RepaintLine::Propose(Personality::Wy50, spans, bytes));
-    }
-    given(
-        p == 60,
-        Command::Repaint(RepaintLine::Propose(Personality::Wy60, spans, bytes)),
-    )
-}
-
-fn count(first: usize, last: usize) -> Command {
-    if first == NONE {
-        return Command::Bad;
-    }
-    given(last != NONE, Command::Call(Call::Count(first, last), 0))
-}
-
-fn fill(i: usize, n: usize, v: usize) -> Command {
+fn cells(i: usize, n: usize, v: usize) -> Command {
     if 65535 < v {
         return Command::Bad;
     }
-    Command::Page(PageLine::Fill(i, n, v as u16))
+    list(ListLine::Cells(i, n, v as u16))
 }
 
-// `noise` takes numbers of any size.
+fn row(i: usize, v: usize) -> Command {
+    if 65535 < v {
+        return Command::Bad;
+    }
+    list(ListLine::Row(i, v as u16))
+}
+
+fn store_byte(i: usize, v: usize) -> Command {
+    if 255 < v {
+        return Command::Bad;
+    }
+    list(ListLine::Byte(i, v as u8))
+}
+
+fn four_words(word: &[u8], a: &[u8], words: &[u8], input: &mut [u8]) -> Command {
+    let b = number(first(words));
+    let c = number(later(words));
+    if which(word, b"count") == 0 {
+        return count(byte_string(a, input), b, c);
+    }
+    three_numbers(word, number(a), b, c)
+}
+
+fn count(length: usize, first: usize, last: usize) -> Command {
+    if INPUT < length {
+        return Command::Bad;
+    }
+    if first == NONE {
+        return Command::Bad;
+    }
+    given(last != NONE, above(AboveLine::Count(length, first, last)))
+}
+
+fn three_numbers(word: &[u8], a: usize, b: usize, c: usize) -> Command {
+    let k = which(word, b"fill noise propose fieldtext rowtext");
+    match k {
+        0 => cells(a, b, c),
+        1 => noise(a, b, c),
+        2 => propose(a, b, c),
+        3 => given(is_text(a, b, c), page(PageLine::FieldText(a, b == 1, c))),
+        4 => given(is_text(a, b, c), page(PageLine::RowText(a, b == 1, c))),
+        _ => Command::Bad,
+    }
+}
+
+// Numbers of any size.
 fn noise(x: usize, mask: usize, share: usize) -> Command {
     if x == NONE {
         return Command::Bad;
@@ -405,8 +336,30 @@ fn noise(x: usize, mask: usize, share: usize) -> Command {
     if mask == NONE {
         return Command::Bad;
     }
+    given(share != NONE, list(ListLine::Noise(x, mask, share)))
+}
+
+// A personality, and how many spans and bytes the rooms hold.
+fn propose(p: usize, spans: usize, bytes: usize) -> Command {
+    if CELLS < spans {
+        return Command::Bad;
+    }
+    if BYTES < bytes {
+        return Command::Bad;
+    }
     given(
-        share != NONE,
-        Command::Page(PageLine::Noise(x, mask, share)),
+        is_personality(p),
+        above(AboveLine::Propose(personality(p), spans, bytes)),
     )
+}
+
+// A number, a flag and a room.
+fn is_text(n: usize, trim: usize, room: usize) -> bool {
+    if n == NONE {
+        return false;
+    }
+    if 1 < trim {
+        return false;
+    }
+    room <= CELLS
 }

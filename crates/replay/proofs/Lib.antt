@@ -1,6 +1,0 @@
-pub mod Words
-pub mod Numbers
-pub mod Hex
-pub mod Rooms
-pub mod Fnv
-pub mod Proposals
