@@ -1,5 +1,5 @@
-// A plan carried out. A command that is planned reads and writes cells' contents here alone; what hosts send most goes without a plan, in
-// `terminal::runs`, by the same changes of cells.
+// A plan carried out. A command that is planned reads and writes cells' contents here alone; what hosts send most goes without a plan, by
+// `terminal::fast`.
 ghost use mathlib.Core.Path.{_≡_};
 ghost use mathlib.Core.Bool.{true};
 ghost use lib.ListN.{length};

@@ -2,12 +2,12 @@ pub mod Gathered
 pub mod Carrying
 pub mod Loop
 pub mod Along
-pub mod TextSteps
-pub mod TextRuns
+pub mod FastSteps
+pub mod FastPaths
 pub mod Sequences
 pub mod Calls
 pub mod Converting
 pub mod Noninterference
-pub mod RowRuns
+pub mod FastRows
 pub mod RowCalls
 pub mod RowNoninterference

@@ -22,7 +22,7 @@ use Rattle.rules.specs.State.{widthOf, awaiting}
 use Rattle.rules.proofs.Decoding.{decodedOk, decoded-ok}
 use Rattle.terminal.specs.Sequence.{Waits, begun, next}
 use Rattle.terminal.proofs.Loop.{Running}
-use Rattle.terminal.proofs.TextRuns.{waited, Resumed}
+use Rattle.terminal.proofs.FastPaths.{waited, Resumed}
 
 module _ {l : List ℕ} {q₀ : Pending} {i₀ : ℕ} where
   pub waits-ok : {q : Pending} {i : ℕ} (g : List ℕ) → pendingOk q₀ g ≡ true → Waits l q₀ i₀ q i → pendingOk q g ≡ true

@@ -1,6 +1,6 @@
 pub mod Promise
 pub mod Loop
-pub mod Text
+pub mod FastPath
 pub mod Sequence
 pub mod Rows
 pub mod Noninterference

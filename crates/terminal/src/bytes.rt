@@ -20,9 +20,9 @@ ghost use Rattle.carry.specs.Went.{Went};
 ghost use Rattle.terminal.specs.Loop.{keepsSetup, isNothing, stateWith, callTo};
 ghost use Rattle.terminal.specs.Promise.{Completed};
 ghost use Rattle.terminal.specs.Rows.{closedNone, Behind};
+use crate::fast::fast_path;
+use crate::fast::moved;
 use crate::inner::inner;
-use crate::runs::moved;
-use crate::runs::text;
 use crate::sequence::awaited;
 use carry::replies::send;
 use page::rows::rebuild;
@@ -180,8 +180,8 @@ fn finished(
     }
 }
 
-// The row list after a run of text, which took nothing if it is the `same`: only with protect and write-protect mode on has it closed cells.
-fn follow_text(rows: &mut [u16], page: &[u16], wide: bool, protect: bool, mark: bool, same: bool)
+// The row list after the fast path, which took nothing if it is the `same`: only with protect and write-protect mode on has it closed cells.
+fn follow_path(rows: &mut [u16], page: &[u16], wide: bool, protect: bool, mark: bool, same: bool)
     requires { ⌜ (length (now page) ≡ 24 * columns wide) × Behind (closedNone same protect mark) (columns wide) (guardedAt protect (now page)) (now rows) ⌝ }
     ensures { λ r. ⌜ Beside (columns wide) (guardedAt protect (now (page .entry))) (now (rows .exit)) ⌝ }
 {
@@ -226,13 +226,13 @@ pub(crate) fn run_beside(
     let mut replied = sent.replied;
     let mut refused = 0;
     while taken < input.len() {
-        let run = text(page, c, input, taken, stop);
-        let same = run.taken == taken;
-        let moved_core = moved(c, run.at, same);
+        let fast = fast_path(page, c, input, taken, stop);
+        let same = fast.taken == taken;
+        let moved_core = moved(c, fast.at, same);
         c = moved_core;
-        taken = run.taken;
-        refused += run.refused;
-        follow_text(
+        taken = fast.taken;
+        refused += fast.refused;
+        follow_path(
             rows,
             page,
             c.screen.wide,

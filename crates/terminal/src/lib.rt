@@ -2,13 +2,10 @@
 // did not take, the key press and the conversion to the other width. No call asks anything of its caller, and each promises all that it gives: the
 // answer, every count, and every cell and byte that it was lent.
 mod bytes; // the send under way and the loop over host bytes
-mod edits; // what a run edits and clears
+mod fast; // the fast path: host bytes without a plan for each
 mod inner; // one byte
 mod key; // what a key sends
-mod moves; // where a run moves the cursor
-mod runs; // host bytes without a plan for each
 mod sequence; // awaited bytes
-mod text; // text that a run stores
 mod width; // the state at the other width
 
 ghost use mathlib.Core.Path.{_≡_};

@@ -22,8 +22,8 @@ use Rattle.terminal.specs.Promise.{Completed}
 use Rattle.terminal.specs.Loop.{callTo}
 use Rattle.terminal.proofs.Calls.{run-none, run-sent, run-on, went-fits, went-long, has-room, send-ready, good-quiet}
 use Rattle.terminal.proofs.Loop.{Running, runBehind, ran-is, begin, stops, go, halt, finish, ready, room-size, back-size, more-replied, more-refused, nothing-made, event-ends, event-answer, no-event, stop-beside, go-beside, ended-beside}
-use Rattle.terminal.proofs.TextRuns.{Resumed, resumed, text-fits}
-use Rattle.terminal.proofs.RowRuns.{text-behind, moved-behind}
+use Rattle.terminal.proofs.FastPaths.{Resumed, resumed, path-fits}
+use Rattle.terminal.proofs.FastRows.{path-behind, moved-behind}
 use Rattle.terminal.proofs.Sequences.{passed, passed-beside, passed-reads}
 use borrow.Author.Needs.{needs}
 use Rattle.terminal.proofs.bytes.run_beside.Statement.{statement}
@@ -96,7 +96,7 @@ on e k =
     run-on (now (s .args .page)) (s .args .state) (s .pre .0) (r .resume .ensures) (heard (passed-room r)) (s .args .stop) (sym (all (e .before)) ∙ e .if2 .left) k
 
 -- ---- back from the answer of the inner step: that step, the test that its byte is there, the core behind the awaited bytes, the list after the
--- run of text, the core after it, that run, the turn of the loop, the send before it, the function's start
+-- fast path, the core after it, that path, the turn of the loop, the send before it, the function's start
 
 abbrev Moved : Type 0
 Moved = tie.After-moved Inv-loop μ-loop
@@ -116,13 +116,13 @@ present i = i .before .before .before .before .before .before
 abbrev waiting : Inner → Waiting
 waiting i = present i .before
 
-abbrev followed : Waiting → tie.After-follow-text Inv-loop μ-loop
+abbrev followed : Waiting → tie.After-follow-path Inv-loop μ-loop
 followed w = w .before .before .before .before .before
 
-abbrev moved : tie.After-follow-text Inv-loop μ-loop → Moved
+abbrev moved : tie.After-follow-path Inv-loop μ-loop → Moved
 moved f = f .before .before .before .before
 
-abbrev text : Moved → tie.After-text Inv-loop μ-loop
+abbrev text : Moved → tie.After-fast-path Inv-loop μ-loop
 text m = m .before .before .before .before
 
 abbrev turn : Moved → tie.In-loop Inv-loop μ-loop
@@ -151,33 +151,33 @@ answered n = n .before .before .before .before .before .before .before
 abbrev changed : tie.After-or2 Inv-loop μ-loop → tie.After-is-nothing Inv-loop μ-loop
 changed a = a .before .before .before .before .before .before
 
--- the loop after the run of text
+-- the loop after the fast path
 run : (m : Moved)
-    → let x = start m .args in let l = turn m .before .loop in let r = text m .text in
+    → let x = start m .args in let l = turn m .before .loop in let r = text m .fast-path in
     Resumed (x .stop) (now (x .page)) (whole (behind m)) (now (x .input)) (room (behind m)) (r .last .0) (l .reply) (m .moved .result)
     (l .g) (l .u) (r .result .taken) (l .replied) (l .refused + r .result .refused) (l .taken)
 run m =
-    let t = text m .text .ensures in
+    let t = text m .fast-path .ensures in
     resumed (turn m .before .loop .inv .0) (omega (arith, turn m .loop-test .taken)) (t .0) (t .1) (m .moved .ensures)
 
 -- and behind the awaited bytes
 past : (w : Waiting)
     → let m = moved (followed w) in let x = start m .args in let l = turn m .before .loop in
-    Resumed (x .stop) (now (x .page)) (whole (behind m)) (now (x .input)) (room (behind m)) (text m .text .last .0) (l .reply)
-    (w .awaiting .result) (l .g) (l .u) (w .before .awaited .result .taken) (l .replied) (l .refused + text m .text .result .refused) (l .taken)
+    Resumed (x .stop) (now (x .page)) (whole (behind m)) (now (x .input)) (room (behind m)) (text m .fast-path .last .0) (l .reply)
+    (w .awaiting .result) (l .g) (l .u) (w .before .awaited .result .taken) (l .replied) (l .refused + text m .fast-path .result .refused) (l .taken)
 past w = passed (run (moved (followed w))) (w .before .awaited .ensures .0) (w .awaiting .ensures)
 
 -- the list there
 beside : (w : Waiting)
     → let d = w .awaiting .result in
-    Beside (widthOf (d .screen)) (guardedAt (d .modes .protect) (text (moved (followed w)) .text .last .0)) (followed w .follow-text .last .0)
+    Beside (widthOf (d .screen)) (guardedAt (d .modes .protect) (text (moved (followed w)) .fast-path .last .0)) (followed w .follow-path .last .0)
 beside w =
     let m = moved (followed w) in
-    passed-beside (m .moved .result) (text m .text .last .0) (w .awaiting .ensures) (followed w .follow-text .ensures)
+    passed-beside (m .moved .result) (text m .fast-path .last .0) (w .awaiting .ensures) (followed w .follow-path .ensures)
 
 -- it has its length
-listed : (f : tie.After-follow-text Inv-loop μ-loop) → length (f .follow-text .last .0) ≡ length (now (start (moved f) .args .rows))
-listed f = f .follow-text .kept .0 ∙ turn (moved f) .before .loop .inv .1 .1
+listed : (f : tie.After-follow-path Inv-loop μ-loop) → length (f .follow-path .last .0) ≡ length (now (start (moved f) .args .rows))
+listed f = f .follow-path .kept .0 ∙ turn (moved f) .before .loop .inv .1 .1
 
 sized : (i : Inner) → length (i .inner .last .1 .0) ≡ length (now (first i .args .rows))
 sized i = i .inner .kept .1 .0 ∙ listed (followed (waiting i))
@@ -251,29 +251,29 @@ run-beside-spec =
     let r = sent (c .before) in
     let s = asked r in
     (begin _ _ _ _ _ _ _ _ (good-quiet (now (s .args .page)) (s .args .state) (s .pre .0)) (fitting r), (s .pre .1, refl)))
-    -- text-requires
+    -- fast-path-requires
     (λ c κs. let g = ready (c .before .before .loop .inv .0) in (g .0, (g .1 .0, (c .before .loop-test .taken, g .1 .1 .1))))
     -- moved-requires
     (λ c κs.
     let t = c .before .before .before in
-    text-fits (t .before .before .before .loop .inv .0) (omega (arith, t .before .before .loop-test .taken)) (t .text .ensures .0))
+    path-fits (t .before .before .before .loop .inv .0) (omega (arith, t .before .before .loop-test .taken)) (t .fast-path .ensures .0))
     -- add-refused
     (λ c. let r = run (c .before) in omega (arith, r .running .few, r .left, start (c .before) .good))
-    -- follow-text-requires
+    -- follow-path-requires
     (λ c κs.
     let m = c .before .before .before in
     let t = turn m in
     let l = t .before .loop in
     let g = ready (l .inv .0) in
-    let same = eqb (text m .text .result .taken) (l .taken) in (
+    let same = eqb (text m .fast-path .result .taken) (l .taken) in (
       ready (run m .running) .0,
-      moved-behind (l .c) same (text m .text .result .at) same (text m .text .last .0) (m .moved .ensures)
-          (text-behind (l .c) (g .1 .0) (omega (arith, t .loop-test .taken)) (text m .text .ensures .0) (l .inv .1 .0)),
+      moved-behind (l .c) same (text m .fast-path .result .at) same (text m .fast-path .last .0) (m .moved .ensures)
+          (path-behind (l .c) (g .1 .0) (omega (arith, t .loop-test .taken)) (text m .fast-path .ensures .0) (l .inv .1 .0)),
     ))
     -- loop-less
     (λ c. let m = moved (c .before .before .before) in omega (arith, c .if3 .taken, turn m .loop-test .taken))
     -- loop-again
-    (λ c. let f = c .before .before .before in (run (moved f) .running, (f .follow-text .ensures, listed f)))
+    (λ c. let f = c .before .before .before in (run (moved f) .running, (f .follow-path .ensures, listed f)))
     -- awaited-requires
     (λ c κs. let r = run (moved (c .before .before .before)) in (ready (r .running) .1 .1 .0, r .left))
     -- awaiting-requires
