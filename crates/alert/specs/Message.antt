@@ -8,7 +8,7 @@ use lib.ListN.{length}
 use Rattle.rules.specs.declared.State.{State}
 use Rattle.rules.specs.Cell.{pick, both}
 use Rattle.rules.specs.Possible.{good}
-use Rattle.rules.specs.Noninterference.{Alike}
+use Rattle.rules.specs.theorems.Noninterference.{Alike}
 use Rattle.counter.specs.declared.Counted.{Counted}
 use Rattle.counter.specs.declared.Counted.the-variants as Counted
 use Rattle.counter.specs.declared.Told.{Told}

@@ -16,32 +16,32 @@ use Rattle.rules.specs.declared.Write.{Write}
 use Rattle.rules.specs.declared.Write.the-variants as Write
 use Rattle.rules.specs.Cell.{pick, both, guarded}
 use Rattle.rules.specs.Row.{rowEnd}
-use Rattle.rules.specs.Search.{guardedAt, marksBy, firstMark, firstIn, editEnd}
+use Rattle.rules.specs.Search.{guardedAt, whichCells, firstTrue, firstIn, editEnd}
 use Rattle.rules.specs.Change.{within, fillCell, filled, shiftLeft, shiftRight, shifted, editShifted, columnFilled}
 use Rattle.rules.specs.Carry.{applied}
 use Rattle.rules.proofs.Tests.{both-parts}
-use Rattle.rules.proofs.Marks.{length-guards}
+use Rattle.rules.proofs.Searching.{length-guards}
 use Rattle.rules.proofs.Lengths.{length-applied}
 use Rattle.page.proofs.RowList.{guards-take, guards-drop, guards-part}
 use Rattle.carry.specs.Rows.{keepsGuards}
 
 -- with protect mode off none is
 off-guards : (p q : List ℕ) → length p ≡ length q → guardedAt false p ≡ guardedAt false q
-unfolding marksBy
+unfolding whichCells
 off-guards [] [] e = refl
 off-guards [] (v ∷ q) e = absurd (suc-ne-zero (length q) (sym e))
 off-guards (v ∷ p) [] e = absurd (suc-ne-zero (length p) e)
 off-guards (v ∷ p) (u ∷ q) e = ap (λ (t : List Bool). false ∷ t) (off-guards p q (suc-inj e))
 
 pub guards-set : (on : Bool) (p : List ℕ) (i v : ℕ) → guarded on v ≡ guarded on (getD p i 0) → guardedAt on (set p i v) ≡ guardedAt on p
-unfolding marksBy
+unfolding whichCells
 guards-set on [] i v e = refl
 guards-set on (x ∷ p) zero v e = ap (λ (b : Bool). b ∷ guardedAt on p) e
 guards-set on (x ∷ p) (suc i) v e = ap (λ (t : List Bool). guarded on x ∷ t) (guards-set on p i v e)
 
 module _ (on : Bool) where
   guards-append : (x y : List ℕ) → guardedAt on (x ++ y) ≡ guardedAt on x ++ guardedAt on y
-  unfolding marksBy
+  unfolding whichCells
   guards-append [] y = refl
   guards-append (v ∷ x) y = ap (λ (t : List Bool). guarded on v ∷ t) (guards-append x y)
 
@@ -66,7 +66,7 @@ module _ (on : Bool) where
         by false e = free
 
     guards-filled : (p : List ℕ) → guardedAt on (filled on v p) ≡ guardedAt on p
-    unfolding marksBy filled
+    unfolding whichCells filled
     guards-filled [] = refl
     guards-filled (x ∷ p) = ap₂ (λ (b : Bool) (t : List Bool). b ∷ t) (guards-fill x) (guards-filled p)
 
@@ -83,7 +83,7 @@ module _ (on : Bool) where
     more-open (suc n) = ap (λ (t : List Bool). false ∷ t) (more-open n)
 
     guards-shifted : (right : Bool) (l : List ℕ) (n : ℕ) → guardedAt on l ≡ replicate n false → guardedAt on (shifted right 1 v l) ≡ guardedAt on l
-    unfolding marksBy shiftLeft shiftRight
+    unfolding whichCells shiftLeft shiftRight
     guards-shifted true l n e =
         let size : length l ≡ n = sym (length-guards on l) ∙ ap length e ∙ length-replicate n false in
         guards-take on (length l) (v ∷ l) ∙ ap₂ take size (ap₂ (λ (b : Bool) (t : List Bool). b ∷ t) free e) ∙ more-open n ∙ sym e
@@ -93,13 +93,13 @@ module _ (on : Bool) where
         ∙ ap (λ (k : ℕ). replicate k false) (add-one n))
         ∙ sym e
 
--- how many come before the first mark
+-- how many come before the first cell sought
 abbrev before : List Bool → ℕ
 before [] = 0
 before (true ∷ m) = 0
 before (false ∷ m) = suc (before m)
 
-before-is : (at : ℕ) (m : List Bool) → firstMark at m ≡ at + before m
+before-is : (at : ℕ) (m : List Bool) → firstTrue at m ≡ at + before m
 before-is at [] = omega arith
 before-is at (true ∷ m) = omega arith
 before-is at (false ∷ m) = omega (arith, before-is (suc at) m)

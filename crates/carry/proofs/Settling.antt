@@ -16,9 +16,9 @@ use Rattle.rules.specs.RowList.{rowList}
 use Rattle.rules.specs.Search.{guardedAt, settled}
 use Rattle.rules.specs.State.{widthOf, pageLength, segmentBottom, segmentStart, segmentEnd}
 use Rattle.rules.specs.Possible.{screenOk}
-use Rattle.rules.specs.Good.{GoodLand}
+use Rattle.rules.specs.theorems.Good.{GoodLand}
 use Rattle.rules.proofs.Rows.{by-width, columns-width}
-use Rattle.rules.proofs.Marks.{length-guards}
+use Rattle.rules.proofs.Searching.{length-guards}
 use Rattle.rules.proofs.Screens.{screen-inside}
 use Rattle.rules.proofs.Places.{in-settled}
 

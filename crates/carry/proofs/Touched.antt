@@ -18,11 +18,11 @@ use Rattle.rules.specs.declared.Write.the-variants as Write
 use Rattle.rules.specs.Row.{Width, rowEnd}
 use Rattle.rules.specs.Search.{guardedAt, editEnd}
 use Rattle.rules.specs.Change.{within, filled, shifted, editShifted}
-use Rattle.rules.specs.Good.{GoodWrite}
+use Rattle.rules.specs.theorems.Good.{GoodWrite}
 use Rattle.rules.specs.Carry.{applied}
 use Rattle.rules.specs.RowList.{openCount, firstColumn, rowList}
 use Rattle.rules.proofs.Rows.{by-width}
-use Rattle.rules.proofs.Marks.{length-guards, first-range}
+use Rattle.rules.proofs.Searching.{length-guards, first-range}
 use Rattle.rules.proofs.Lengths.{length-filled, length-shifted, length-applied}
 use Rattle.page.specs.RowList.{rowAt, RowAt, AllBut}
 use Rattle.page.proofs.RowList.{guards-part, numbers-at}

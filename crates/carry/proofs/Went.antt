@@ -22,7 +22,7 @@ use Rattle.rules.specs.declared.Sending.the-variants as Sending
 use Rattle.rules.specs.Row.{Width}
 use Rattle.rules.specs.State.{widthOf, pageLength, cursorOf, cursorRow, cursorColumn}
 use Rattle.rules.specs.Possible.{screenOk, shortLength}
-use Rattle.rules.specs.Good.{GoodPlace, GoodSend}
+use Rattle.rules.specs.theorems.Good.{GoodPlace, GoodSend}
 use Rattle.rules.specs.Send.{openCell, decimal, shortReply, each, textAt, places, bytesOf, sentFrom, leftFrom}
 use Rattle.rules.proofs.Rows.{columns-width}
 use Rattle.rules.proofs.Screens.{screen-inside}

@@ -6,7 +6,7 @@ ghost use Rattle.rules.specs.Search.{guardedAt, settled};
 ghost use Rattle.rules.specs.RowList.{Beside};
 ghost use Rattle.rules.specs.State.{pageLength, widthOf, segmentStart, segmentEnd};
 ghost use Rattle.rules.specs.Possible.{screenOk};
-ghost use Rattle.rules.specs.Good.{GoodLand};
+ghost use Rattle.rules.specs.theorems.Good.{GoodLand};
 ghost use Rattle.rules.specs.Carry.{landed};
 use page::rows::settle_rows;
 use page::search::settle;

@@ -4,7 +4,7 @@ ghost use mathlib.Core.Path.{_≡_};
 ghost use mathlib.Core.Bool.{true};
 ghost use lib.ListN.{length};
 ghost use Rattle.rules.specs.State.{pageLength, sends};
-ghost use Rattle.rules.specs.Good.{GoodPlan};
+ghost use Rattle.rules.specs.theorems.Good.{GoodPlan};
 ghost use Rattle.rules.specs.Search.{guardedAt};
 ghost use Rattle.rules.specs.RowList.{Beside};
 ghost use Rattle.rules.specs.Carry.{planWidth, carried};

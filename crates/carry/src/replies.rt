@@ -6,7 +6,7 @@ ghost use Prim.Native.Nat.{_+_, _<_, _≤_};
 ghost use lib.ListN.{length, drop};
 ghost use Rattle.rules.specs.State.{Inside, pageLength, cursorRow, cursorColumn};
 ghost use Rattle.rules.specs.Possible.{screenOk, shortLength};
-ghost use Rattle.rules.specs.Good.{GoodSend};
+ghost use Rattle.rules.specs.theorems.Good.{GoodSend};
 ghost use Rattle.rules.specs.Send.{model, digit as digitOf, decimal, each, places};
 ghost use Rattle.page.specs.Room.{stands, gone};
 ghost use Rattle.carry.specs.Went.{Went};

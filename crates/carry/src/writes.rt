@@ -5,7 +5,7 @@ ghost use Prim.Native.Nat.{_*_};
 ghost use lib.ListN.{length};
 ghost use Rattle.rules.specs.Row.{Width};
 ghost use Rattle.rules.specs.declared.Write.the-variants as Write;
-ghost use Rattle.rules.specs.Good.{GoodWrite};
+ghost use Rattle.rules.specs.theorems.Good.{GoodWrite};
 ghost use Rattle.rules.specs.Carry.{applied};
 ghost use Rattle.rules.specs.Search.{guardedAt};
 ghost use Rattle.rules.specs.RowList.{Beside};

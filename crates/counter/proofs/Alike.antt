@@ -5,7 +5,7 @@ use mathlib.Core.Path.{_≡_, refl, subst}
 use mathlib.Core.List.{List}
 use Prim.Native.Nat.{ℕ}
 use Rattle.rules.specs.declared.State.{State}
-use Rattle.rules.specs.Noninterference.{Alike}
+use Rattle.rules.specs.theorems.Noninterference.{Alike}
 use Rattle.counter.specs.Ask.{isCut, askRule, AlikeCount, Unrevealed, LabelsUncounted}
 use Rattle.counter.proofs.Replies.{same-asking}
 
@@ -13,7 +13,7 @@ unrevealed : (p q : List ℕ) (s : State) (room : ℕ) → Alike p q s s → Unr
 unfolding askRule isCut
 unrevealed p q s room a =
     let x = same-asking p q s room a in
-    record { reply = x .reply; told = λ first last. rw (x .answer, x .state, x .reply, a .pages .length) }
+    record { reply = x .reply; told = λ first last. rw (x .answer, x .state, x .reply, a .pages .size) }
 
 pub labels-uncounted : LabelsUncounted
 labels-uncounted p q s t room a =

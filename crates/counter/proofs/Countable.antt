@@ -10,7 +10,7 @@ use lib.Dec.{leb, ltb, eqb}
 use lib.ListN.{length, getD, take, drop, length-append}
 use lib.Seq.{take-append-seam, getD-append-seam}
 use borrow.Author.Tests.{eqb-true, not-false, ltb-true}
-use Rattle.rules.specs.Cell.{pick, either, among}
+use Rattle.rules.specs.Cell.{pick, either, between}
 use Rattle.counter.specs.declared.Counted.{Counted}
 use Rattle.counter.specs.declared.Counted.the-variants as Counted
 use Rattle.counter.specs.Alphabet.{space, backquote, inAlphabet, units, firstOutside}
@@ -24,7 +24,7 @@ use Rattle.counter.specs.Ask.{isSent, AllSent, none, more, Replies, Repl
 
 data AllText : List ℕ → Type 0 where
   nothing : AllText []
-  byte : {b : ℕ} {l : List ℕ} → among 0x20 95 b ≡ true → AllText l → AllText (b ∷ l)
+  byte : {b : ℕ} {l : List ℕ} → between 0x20 0x7e b ≡ true → AllText l → AllText (b ∷ l)
 
 data EachText : List (List ℕ) → Type 0 where
   empty : EachText []
@@ -34,7 +34,7 @@ text-append : {a b : List ℕ} → AllText a → AllText b → AllText (a ++ b)
 text-append nothing y = y
 text-append (byte h x) y = byte h (text-append x y)
 
-each-onto : {ts : List (List ℕ)} (b : ℕ) → among 0x20 95 b ≡ true → EachText ts → EachText (onto b ts)
+each-onto : {ts : List (List ℕ)} (b : ℕ) → between 0x20 0x7e b ≡ true → EachText ts → EachText (onto b ts)
 unfolding onto
 each-onto b h empty = piece (byte h nothing) empty
 each-onto b h (piece x y) = piece (byte h x) y
@@ -59,13 +59,13 @@ unfolding cutAtMarks isSent
 each-cut none = piece nothing empty
 each-cut (more {b = b} {l = l} h x) = by-mark b (isMark b) h (each-cut x)
   where
-    by-mark : {ts : List (List ℕ)} (b : ℕ) (m : Bool) → either m (among 0x20 95 b) ≡ true → EachText ts → EachText (pick m ([] ∷ ts) (onto b ts))
+    by-mark : {ts : List (List ℕ)} (b : ℕ) (m : Bool) → either m (between 0x20 0x7e b) ≡ true → EachText ts → EachText (pick m ([] ∷ ts) (onto b ts))
     by-mark b true h y = piece nothing y
     by-mark b false h y = each-onto b h y
 
 -- ---- what is refused of such a text is a backquote
 
-text-kept : {l : List ℕ} (b : ℕ) → among 0x20 95 b ≡ true → AllText l → AllText (kept b l)
+text-kept : {l : List ℕ} (b : ℕ) → between 0x20 0x7e b ≡ true → AllText l → AllText (kept b l)
 unfolding kept
 text-kept b h nothing = by-test (eqb b space)
   where
@@ -79,7 +79,7 @@ unfolding trimmed
 text-trimmed nothing = nothing
 text-trimmed (byte {b = b} h x) = text-kept b h (text-trimmed x)
 
-is-backquote : (b : ℕ) → among 0x20 95 b ≡ true → inAlphabet b ≡ false → b ≡ backquote
+is-backquote : (b : ℕ) → between 0x20 0x7e b ≡ true → inAlphabet b ≡ false → b ≡ backquote
 unfolding inAlphabet
 is-backquote b h e =
     let k : not (eqb b backquote) ≡ false = rw h at e in
@@ -90,7 +90,7 @@ unfolding firstOutside
 first-refused nothing h = absurd (omega arith)
 first-refused (byte {b = b} {l = l} k x) h = by-letter b l k (first-refused x) (inAlphabet b) refl h
   where
-    by-letter : (b : ℕ) (l : List ℕ) → among 0x20 95 b ≡ true → (firstOutside l < length l → getD l (firstOutside l) 0 ≡ backquote)
+    by-letter : (b : ℕ) (l : List ℕ) → between 0x20 0x7e b ≡ true → (firstOutside l < length l → getD l (firstOutside l) 0 ≡ backquote)
         → (t : Bool) → inAlphabet b ≡ t → pick t (suc (firstOutside l)) 0 < suc (length l)
         → getD (b ∷ l) (pick t (suc (firstOutside l)) 0) 0 ≡ backquote
     by-letter b l k y true e h = y (omega arith)

@@ -13,7 +13,7 @@ use lib.Dec.{leb, eqb}
 use lib.ListN.{length}
 use borrow.Author.Tests.{leb-true, leb-false, le-leb, lt-leb, eqb-true, eqb-false, eq-eqb, ne-eqb}
 use Rattle.rules.specs.Cell.{pick}
-use Rattle.rules.specs.Noninterference.{anyOf}
+use Rattle.rules.specs.theorems.Noninterference.{anyOf}
 use Rattle.counter.specs.Alphabet.{twoUnitCharacters, cost, units}
 use Rattle.counter.specs.Pieces.{onto, joined}
 use Rattle.counter.specs.Parts.{alone, ofSeveral, filling, parts, Small, none, more, Allowed, single, several, Cutting, Fewest}

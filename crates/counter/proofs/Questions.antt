@@ -21,7 +21,7 @@ use Rattle.rules.specs.State.{number, pageLength, isIdle, sends}
 use Rattle.rules.specs.Possible.{possible, good}
 use Rattle.rules.specs.Calls.{Ran, runRule}
 use Rattle.rules.specs.Room.{over}
-use Rattle.terminal.specs.Promise.{Completed}
+use Rattle.terminal.specs.Promise.{RunDone}
 use Rattle.counter.specs.declared.Counted.{Counted}
 use Rattle.counter.specs.declared.Told.{Told}
 use Rattle.counter.specs.declared.Told.the-variants as Told
@@ -101,8 +101,8 @@ lent-back (b ∷ r) [] m h k = absurd (omega arith)
 lent-back (b ∷ r) (x ∷ w) zero h k = absurd (omega arith)
 lent-back (b ∷ r) (x ∷ w) (suc m) h k = ap (λ (l : List ℕ). b ∷ l) (lent-back r w m (omega arith) (omega arith))
 
-back-whole : {o : Ran} {r : RunResult} {l p′ w q : List ℕ} {m : ℕ} → m ≤ length w → Completed o r l p′ (take m w) q
-    → Completed o r l p′ w (q ++ drop m w)
+back-whole : {o : Ran} {r : RunResult} {l p′ w q : List ℕ} {m : ℕ} → m ≤ length w → RunDone o r l p′ (take m w) q
+    → RunDone o r l p′ w (q ++ drop m w)
 back-whole {o} {r} {l} {p′} {w} {q} {m} k h =
     let n : length (take m w) ≡ m = length-take-le m w k in
     record {
@@ -119,8 +119,8 @@ back-whole {o} {r} {l} {p′} {w} {q} {m} k h =
     }
 
 pub lends : (p : List ℕ) (s : State) (ready : Bool) {n m : ℕ} {r : RunResult} {p′ w q : List ℕ} → n ≡ pick ready 2 0 → m ≡ lent ready (length w)
-    → Completed (runRule p s (take n (0x1b ∷ 0x35 ∷ [])) (length (take m w))) r (take n (0x1b ∷ 0x35 ∷ [])) p′ (take m w) q
-    → Completed (runRule p s (question ready) (lent ready (length w))) r (question ready) p′ w (q ++ drop m w)
+    → RunDone (runRule p s (take n (0x1b ∷ 0x35 ∷ [])) (length (take m w))) r (take n (0x1b ∷ 0x35 ∷ [])) p′ (take m w) q
+    → RunDone (runRule p s (question ready) (lent ready (length w))) r (question ready) p′ w (q ++ drop m w)
 lends p s ready {m = m} {w = w} en em h =
     let k = room-most ready w em in
     let l : length (take m w) ≡ lent ready (length w) = length-take-le m w k ∙ em in
@@ -131,13 +131,13 @@ front : (l w w′ : List ℕ) (n : ℕ) → n ≡ length l → w′ ≡ over l w
 unfolding over
 front l w w′ n e h = rw (e, h) (take-append-seam l _)
 
-pub replied-within : {o : Ran} {r : RunResult} {l p w w′ : List ℕ} → Completed o r l p w w′ → r .replied ≤ length w′
+pub replied-within : {o : Ran} {r : RunResult} {l p w w′ : List ℕ} → RunDone o r l p w w′ → r .replied ≤ length w′
 unfolding over
 replied-within {o} {r} {l} {p} {w} {w′} h =
     omega (arith, h .replied, ap length (h .room), length-append (o .reply) (drop (length (o .reply)) w))
 
 module _ (p : List ℕ) (s : State) (first last : ℕ) (p′ w w′ : List ℕ) where
-  asked : {r : RunResult} {x : Told} → Completed (asking p s (length w)) r (question (isReady s)) p′ w w′
+  asked : {r : RunResult} {x : Told} → RunDone (asking p s (length w)) r (question (isReady s)) p′ w w′
       → x ≡ toldRule (number (r .answer)) (eqb (length p) (pageLength (s .core .screen))) (isReady s)
       (either (eqb (number (r .answer)) 6) (sends (r .state .sending))) (countRule (take (r .replied) w′) first last)
       → Asks p s first last (record { told = x; replied = r .replied }) p′ w w′
@@ -151,7 +151,7 @@ module _ (p : List ℕ) (s : State) (first last : ℕ) (p′ w w′ : List ℕ) 
   }
 
   pub asks : (c : Counted) {r : RunResult} {full ready cut : Bool} {a : ℕ} {x : Told} → full ≡ eqb (length p) (pageLength (s .core .screen))
-      → ready ≡ isReady s → Completed (runRule p s (question ready) (lent ready (length w))) r (question ready) p′ w w′
+      → ready ≡ isReady s → RunDone (runRule p s (question ready) (lent ready (length w))) r (question ready) p′ w w′
       → numbers c ≡ numbers (countRule (take (r .replied) w′) first last) → a ≡ number (r .answer) → cut ≡ either (eqb a 6) (sends (r .state .sending))
       → x ≡ toldRule a full ready cut c → Asks p s first last (record { told = x; replied = r .replied }) p′ w w′
   unfolding asking

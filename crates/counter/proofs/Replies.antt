@@ -27,18 +27,18 @@ use Rattle.rules.specs.declared.Send.the-variants as Send
 use Rattle.rules.specs.declared.Place.the-variants as Place
 use Rattle.rules.specs.declared.Sending.{Sending}
 use Rattle.rules.specs.declared.Sending.the-variants as Sending
-use Rattle.rules.specs.Cell.{pick, either, among, code, kind, sent}
+use Rattle.rules.specs.Cell.{pick, either, between, code, kind, sent}
 use Rattle.rules.specs.State.{widthOf, segmentStart, awaiting, idle, isIdle, sends, withSending, changed, sendingAfter, gatheredAfter, setupAfter, Inside}
 use Rattle.rules.specs.Possible.{good}
-use Rattle.rules.specs.Good.{GoodSend}
+use Rattle.rules.specs.theorems.Good.{GoodSend}
 use Rattle.rules.specs.Decode.{lookup, idleRule, escapeRule, decodeRule}
 use Rattle.rules.specs.Plan.{sendPlan, planRule}
 use Rattle.rules.specs.Send.{Spot, leavesOut, leftOut, cellPlace, textPlaces, textAt, places, bytesOf, sentFrom, leftFrom}
 use Rattle.rules.specs.Carry.{Effect, begun, carried}
 use Rattle.rules.specs.Step.{Outcome, unheard, outcomeOf, obeyed, innerRule, stepRule}
-use Rattle.rules.specs.Steps.{Refused}
+use Rattle.rules.specs.theorems.Steps.{Refused}
 use Rattle.rules.specs.Calls.{Ran, ended, joined, repeated, runInside, runRule}
-use Rattle.rules.specs.Noninterference.{Alike}
+use Rattle.rules.specs.theorems.Noninterference.{Alike}
 use Rattle.rules.proofs.Tests.{both-true, both-parts}
 use Rattle.rules.proofs.Screens.{screen-inside}
 use Rattle.rules.proofs.Sends.{places-small, bytes-beyond, places-left, left-ok, some-left, idle-is, not-sending, sent-fits, sent-full, sent-bound}
@@ -58,10 +58,10 @@ sent-code : (c : ℕ) (s t : Bool) → leb 0x20 c ≡ s → leb c 0x7e ≡ t →
 unfolding isSent
 sent-code c true true e f = by-mark (isMark c)
   where
-    inside : among 0x20 95 c ≡ true
+    inside : between 0x20 0x7e c ≡ true
     inside = let k : c ≤ 0x7e = leb-true _ _ f in both-true e (lt-ltb c 127 (omega arith))
 
-    by-mark : (m : Bool) → either m (among 0x20 95 c) ≡ true
+    by-mark : (m : Bool) → either m (between 0x20 0x7e c) ≡ true
     by-mark true = refl
     by-mark false = inside
 sent-code c true false e f = sent-space
@@ -364,7 +364,7 @@ pub record Same (a b : Ran) : Type 0 where
 
 good-alike : {p q : List ℕ} {s : State} → Alike p q s s → good p s ≡ good q s
 unfolding good
-good-alike a = rw (a .pages .length)
+good-alike a = rw (a .pages .size)
 
 module _ (p q : List ℕ) (s : State) (room : ℕ) (a : Alike p q s s) where
   -- the byte 5 after ESC

@@ -9,7 +9,7 @@ use borrow.Author.Tests.{lt-leb}
 use Rattle.rules.specs.declared.State.{State}
 use Rattle.rules.specs.Cell.{pick}
 use Rattle.rules.specs.Row.{columns, rowEnd}
-use Rattle.rules.specs.Search.{marksBy, others, startsFrom, firstIn, lastIn, around, aroundBack}
+use Rattle.rules.specs.Search.{whichCells, others, startsFrom, firstIn, lastIn, around, aroundBack}
 use Rattle.rules.specs.State.{segmentTop, segmentBottom, cursorOf, withCursor, changed, sendingAfter, gatheredAfter, setupAfter}
 use Rattle.rules.specs.Possible.{powerOn, blank, unsplitOk, splitOk, screenOk, attributesOk, featuresOk, pendingOk, rememberedOk, placeOk, sendingOk}
 use Rattle.rules.specs.Possible.{noStops, coreOk, setupOk, possible, good}
@@ -22,8 +22,8 @@ use Rattle.rules.specs.Carry.{applied, landed, done, begun, carried}
 use Rattle.rules.specs.Step.{obeyed, innerRule, goesOn, stepInside, stepRule}
 use Rattle.rules.specs.Calls.{joined, repeated, behind, runInside, runRule}
 use Rattle.rules.specs.Fields.{kept, trimmed}
-use Rattle.rules.specs.Noninterference.{AlikePages}
-use Rattle.rules.specs.Inputs.{pageOf, threeLetters, cursorAt}
+use Rattle.rules.specs.theorems.Noninterference.{AlikePages}
+use Rattle.rules.specs.cases.Inputs.{pageOf, threeLetters, cursorAt}
 use Rattle.counter.specs.Alphabet.{inAlphabet, cost, units, firstOutside}
 use Rattle.counter.specs.Pieces.{returns, isMark, onto, cutAtMarks, pieces, whole}
 use Rattle.counter.specs.Pieces as Pieces
@@ -71,7 +71,7 @@ labels : (p q : List ℕ) → AlikePages p q → Labels p q
 labels p q h = record { off = unrevealed p q _ h; other = unrevealed p q _ h; impossible = unrevealed p q _ h }
 
 asked : Asking
-unfolding columns rowEnd marksBy others startsFrom firstIn lastIn around aroundBack segmentTop segmentBottom cursorOf withCursor changed
+unfolding columns rowEnd whichCells others startsFrom firstIn lastIn around aroundBack segmentTop segmentBottom cursorOf withCursor changed
     sendingAfter gatheredAfter setupAfter powerOn blank unsplitOk splitOk screenOk attributesOk featuresOk pendingOk rememberedOk placeOk sendingOk
     noStops coreOk setupOk possible good isAttribute featurePlace isText allText textOk textsOk lookup idleRule escapeRule decodeRule sendPlan
     planRule openCell each cellPlace textPlaces followsLeftOut textAt places bytesOf beyond standing sentFrom leftFrom applied landed done begun

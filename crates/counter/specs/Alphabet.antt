@@ -3,8 +3,8 @@ use mathlib.Core.Bool.{Bool, not}
 use mathlib.Core.List.{List, [], _∷_}
 use Prim.Native.Nat.{ℕ, suc, _+_}
 use lib.Dec.{eqb}
-use Rattle.rules.specs.Cell.{pick, both, among}
-use Rattle.rules.specs.Noninterference.{anyOf}
+use Rattle.rules.specs.Cell.{pick, both, between}
+use Rattle.rules.specs.theorems.Noninterference.{anyOf}
 use Rattle.counter.specs.Words.{words}
 
 abbrev pub space : ℕ
@@ -15,7 +15,7 @@ backquote = 0x60
 
 -- 20h to 7Eh but the backquote
 unfoldable pub inAlphabet : ℕ → Bool
-inAlphabet b = both (among 0x20 95 b) (not (eqb b backquote))
+inAlphabet b = both (between 0x20 0x7e b) (not (eqb b backquote))
 
 -- the characters that cost two units; every other costs one
 abbrev pub twoUnitCharacters : List ℕ

@@ -6,11 +6,11 @@ use Prim.Native.Nat.{ℕ, _+_, _*_, _≤_}
 use lib.Dec.{eqb}
 use lib.ListN.{length, getD}
 use Rattle.rules.specs.declared.State.{State}
-use Rattle.rules.specs.Cell.{pick, both, either, among}
+use Rattle.rules.specs.Cell.{pick, both, either, between}
 use Rattle.rules.specs.State.{widthOf, pageLength, isIdle, sends}
 use Rattle.rules.specs.Possible.{possible, good}
 use Rattle.rules.specs.Calls.{Ran, runRule}
-use Rattle.rules.specs.Noninterference.{Alike}
+use Rattle.rules.specs.theorems.Noninterference.{Alike}
 use Rattle.rules.specs.Room.{over}
 use Rattle.counter.specs.declared.Counted.{Counted}
 use Rattle.counter.specs.declared.Counted.the-variants as Counted
@@ -109,7 +109,7 @@ AskingPage = (p : List ℕ) (s : State) (room : ℕ) → (asking p s room) .page
 
 -- FS, US, or a byte from 20h to 7Eh
 unfoldable pub isSent : ℕ → Bool
-isSent b = either (isMark b) (among 0x20 95 b)
+isSent b = either (isMark b) (between 0x20 0x7e b)
 
 pub data AllSent : List ℕ → Type 0 where
   none : AllSent []

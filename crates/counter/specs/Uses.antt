@@ -4,9 +4,9 @@ use mathlib.Core.List.{List, [], _∷_, _++_}
 use Prim.Native.Nat.{ℕ, _+_, _≤_, _<_}
 use lib.ListN.{length, replicate}
 use Rattle.rules.specs.Fields.{trimmed}
-use Rattle.rules.specs.Noninterference.{AlikePages}
-use Rattle.rules.specs.Bench.{wy50, wy60}
-use Rattle.rules.specs.Inputs.{pageOf, threeLetters, cursorAt}
+use Rattle.rules.specs.theorems.Noninterference.{AlikePages}
+use Rattle.rules.specs.cases.Bench.{wy50, wy60}
+use Rattle.rules.specs.cases.Inputs.{pageOf, threeLetters, cursorAt}
 use Rattle.counter.specs.declared.Counted.the-variants as Counted
 use Rattle.counter.specs.declared.Told.the-variants as Told
 use Rattle.counter.specs.Alphabet.{units}

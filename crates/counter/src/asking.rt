@@ -7,7 +7,7 @@ ghost use Rattle.rules.specs.Cell.{pick, either};
 ghost use Rattle.rules.specs.Row.{height, columns};
 ghost use Rattle.rules.specs.State.{sends};
 ghost use Rattle.rules.specs.Calls.{runRule};
-ghost use Rattle.terminal.specs.Promise.{Completed};
+ghost use Rattle.terminal.specs.Promise.{RunDone};
 ghost use Rattle.counter.specs.Ask.{isReady, question, lent, toldRule};
 use crate::Counted;
 use crate::Told;
@@ -55,7 +55,7 @@ fn room_length(ready: bool, room: usize) -> usize
 
 // Asks a terminal that is ready; of another it asks nothing and lends it no room.
 pub(crate) fn ask(page: &mut [u16], state: State, ready: bool, room: &mut [u8]) -> RunResult
-    ensures { λ r. ⌜ Completed (runRule (now (page .entry)) state (question ready) (lent ready (length (now (room .entry))))) r (question ready) (now (page .exit)) (now (room .entry)) (now (room .exit)) ⌝ }
+    ensures { λ r. ⌜ RunDone (runRule (now (page .entry)) state (question ready) (lent ready (length (now (room .entry))))) r (question ready) (now (page .exit)) (now (room .entry)) (now (room .exit)) ⌝ }
 {
     let question = [0x1b, 0x35];
     let n = question_length(ready);

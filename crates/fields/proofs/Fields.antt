@@ -13,35 +13,35 @@ use lib.ListN.{length, getD, take}
 use lib.Seq.{slice, length-slice, getD-drop, getD-take}
 use borrow.Author.Tests.{eqb-true}
 use Rattle.rules.specs.Row.{Width, rowOf, columnOf, rowEnd}
-use Rattle.rules.specs.Search.{firstMark, firstIn}
+use Rattle.rules.specs.Search.{firstTrue, firstIn}
 use Rattle.rules.specs.Send.{leftOut}
-use Rattle.rules.specs.Fields.{pageWidth, markedAt, fieldStarts, isFieldStart, fieldEnd, position}
+use Rattle.rules.specs.Fields.{pageWidth, protectedAt, fieldStarts, isFieldStart, fieldEnd, position}
 use Rattle.rules.proofs.Tests.{either-way}
 use Rattle.rules.proofs.Rows.{by-width, row-after, row-inside, cell-inside}
-use Rattle.rules.proofs.Marks.{length-by, guard-at, miss, first-range}
-use Rattle.rules.proofs.Fields.{page-of, length-starts, marked-start, row-start, inner-start}
-use Rattle.fields.specs.Theorems.{marked, LongestStretch, FieldsAreStretches, InField, CellsAreInFields, NextIsFirst, PlacesGoRound}
+use Rattle.rules.proofs.Searching.{length-by, guard-at, miss, first-range}
+use Rattle.rules.proofs.Fields.{page-of, length-starts, protected-start, row-start, inner-start}
+use Rattle.fields.specs.Theorems.{protectedIn, LongestStretch, FieldsAreStretches, InField, CellsAreInFields, NextIsFirst, PlacesGoRound}
 use Rattle.fields.proofs.Reading.{inside, a-cell}
 
--- ---- a search: no mark before what it finds, and a mark there
+-- ---- a search: nothing that is sought before what it finds, and such a cell there
 
-first-misses : (at : ℕ) (m : List Bool) (j : ℕ) → at + j < firstMark at m → getD m j false ≡ false
+first-misses : (at : ℕ) (m : List Bool) (j : ℕ) → at + j < firstTrue at m → getD m j false ≡ false
 first-misses at [] j h = refl
 first-misses at (true ∷ m) j h = absurd (omega arith)
 first-misses at (false ∷ m) zero h = refl
 first-misses at (false ∷ m) (suc j) h = first-misses (suc at) m j (omega arith)
 
-first-least : (at : ℕ) (m : List Bool) → (at ≤ firstMark at m) × (firstMark at m ≤ at + length m)
+first-least : (at : ℕ) (m : List Bool) → (at ≤ firstTrue at m) × (firstTrue at m ≤ at + length m)
 first-least at [] = omega arith
 first-least at (true ∷ m) = omega arith
 first-least at (false ∷ m) = let r = first-least (suc at) m in omega arith
 
-first-hits : (at : ℕ) (m : List Bool) → firstMark at m < at + length m → getD m (firstMark at m - at) false ≡ true
+first-hits : (at : ℕ) (m : List Bool) → firstTrue at m < at + length m → getD m (firstTrue at m - at) false ≡ true
 first-hits at [] h = absurd (omega arith)
 first-hits at (true ∷ m) h = let e : at - at ≡ 0 = omega arith in rw e
 first-hits at (false ∷ m) h =
     let r = first-least (suc at) m in
-    let e : firstMark (suc at) m - at ≡ suc (firstMark (suc at) m - suc at) = omega arith in
+    let e : firstTrue (suc at) m - at ≡ suc (firstTrue (suc at) m - suc at) = omega arith in
     rw e (first-hits (suc at) m (omega arith))
 
 module _ (m : List Bool) (a e : ℕ) (k : e ≤ length m) where
@@ -63,7 +63,7 @@ module _ (m : List Bool) (a e : ℕ) (k : e ≤ length m) where
   first-hit l =
       let r = first-least a (slice a e m) in
       let n = length-slice a e m k in
-      sym (in-slice (firstMark a (slice a e m)) (r .0) l) ∙ first-hits a (slice a e m) (omega arith)
+      sym (in-slice (firstTrue a (slice a e m)) (r .0) l) ∙ first-hits a (slice a e m) (omega arith)
 
   pub first-behind : a ≤ firstIn m a e
   unfolding firstIn
@@ -88,53 +88,53 @@ within-list [] i e = absurd (false≢true e)
 within-list (b ∷ m) zero e = omega arith
 within-list (b ∷ m) (suc i) e = let r = within-list m i e in omega arith
 
-pub mark-at : (p : List ℕ) (i : ℕ) → i < length p → getD (markedAt p) i false ≡ marked p i
-mark-at p i h = guard-at true p i h
+pub protected-at : (p : List ℕ) (i : ℕ) → i < length p → getD (protectedAt p) i false ≡ protectedIn p i
+protected-at p i h = guard-at true p i h
 
 module _ {w : ℕ} (k : Width w) (p : List ℕ) (n : length p ≡ 24 * w) where
-  marks : length (markedAt p) ≡ length p
-  marks = length-by (leftOut true) p
+  as-long : length (protectedAt p) ≡ length p
+  as-long = length-by (leftOut true) p
 
-  -- the first cell of a field is on the page, is not marked, and is first of its row or follows a marked one
+  -- the first cell of a field is on the page, is not protected, and is first of its row or follows a protected one
   module _ (a : ℕ) (s : isFieldStart w p a ≡ true) where
     on-page : a < length p
     on-page = rw (length-starts w p) at (within-list (fieldStarts w p) a s)
 
-    start-unmarked : getD (markedAt p) a false ≡ false
-    start-unmarked =
-        ⊎-elim (λ m. absurd (false≢true (sym (marked-start k p a on-page m) ∙ s))) (λ m. m) (either-way (getD (markedAt p) a false))
+    start-open : getD (protectedAt p) a false ≡ false
+    start-open =
+        ⊎-elim (λ m. absurd (false≢true (sym (protected-start k p a on-page m) ∙ s))) (λ m. m) (either-way (getD (protectedAt p) a false))
 
-    start-first : (columnOf w a ≡ 0) ⊎ (marked p (a - 1) ≡ true)
+    start-first : (columnOf w a ≡ 0) ⊎ (protectedIn p (a - 1) ≡ true)
     start-first =
         ⊎-elim
         (λ c. inl (eqb-true (columnOf w a) 0 c))
         (λ c.
         let d : columnOf w a ≡ 0 → ⊥ = λ z. false≢true (sym c ∙ rw z) in
-        inr (sym (mark-at p (a - 1) (omega (arith, on-page))) ∙ sym (inner-start k p a on-page start-unmarked d) ∙ s))
+        inr (sym (protected-at p (a - 1) (omega (arith, on-page))) ∙ sym (inner-start k p a on-page start-open d) ∙ s))
         (either-way (eqb (columnOf w a) 0))
 
-    inside-row : rowEnd w a ≤ length (markedAt p)
-    inside-row = omega (arith, marks, row-inside k a (omega (arith, on-page, n)), n)
+    inside-row : rowEnd w a ≤ length (protectedAt p)
+    inside-row = omega (arith, as-long, row-inside k a (omega (arith, on-page, n)), n)
 
     reaches : (a < fieldEnd w p a) × (fieldEnd w p a ≤ rowEnd w a)
     reaches =
-        let m = miss (markedAt p) a (rowEnd w a) (row-after k a) inside-row refl start-unmarked in
-        let r = first-range (markedAt p) (a + 1) (rowEnd w a) (omega (arith, row-after k a)) inside-row in
+        let m = miss (protectedAt p) a (rowEnd w a) (row-after k a) inside-row refl start-open in
+        let r = first-range (protectedAt p) (a + 1) (rowEnd w a) (omega (arith, row-after k a)) inside-row in
         rw m (omega arith)
 
     stretch : LongestStretch w p a (fieldEnd w p a)
     stretch = record {
       some = reaches .0;
       within = reaches .1;
-      unmarked = λ i h l. sym (mark-at p i (omega (arith, l, reaches .1, inside-row, marks))) ∙ first-missed (markedAt p) a (rowEnd w a) inside-row i h l;
+      unprotected = λ i h l. sym (protected-at p i (omega (arith, l, reaches .1, inside-row, as-long))) ∙ first-missed (protectedAt p) a (rowEnd w a) inside-row i h l;
       first = start-first;
       last = ⊎-elim
           (λ z. inl z)
-          (λ l. inr (sym (mark-at p (fieldEnd w p a) (omega (arith, l, inside-row, marks))) ∙ first-hit (markedAt p) a (rowEnd w a) inside-row l))
+          (λ l. inr (sym (protected-at p (fieldEnd w p a) (omega (arith, l, inside-row, as-long))) ∙ first-hit (protectedAt p) a (rowEnd w a) inside-row l))
           (eq-or-lt-of-le {n = fieldEnd w p a} {m = rowEnd w a} (reaches .1));
     }
 
-  -- ---- each cell that is not marked is in a field
+  -- ---- each cell that is not protected is in a field
 
   row-ends : (a : ℕ) → columnOf w (rowEnd w a) ≡ 0
   unfolding rowEnd
@@ -143,8 +143,8 @@ module _ {w : ℕ} (k : Width w) (p : List ℕ) (n : length p ≡ 24 * w) where
   starting : (i : ℕ) → isFieldStart w p i ≡ true → InField w p i
   starting i s = record { start = i; starts = s; from = omega arith; below = stretch i s .some }
 
-  -- a field that holds a cell holds the next one too, if that is in the row and not marked
-  going-on : (j : ℕ) → marked p (suc j) ≡ false → (columnOf w (suc j) ≡ 0 → ⊥) → InField w p j → InField w p (suc j)
+  -- a field that holds a cell holds the next one too, if that is in the row and not protected
+  going-on : (j : ℕ) → protectedIn p (suc j) ≡ false → (columnOf w (suc j) ≡ 0 → ⊥) → InField w p j → InField w p (suc j)
   going-on j u c x =
       let a = x .start in
       record {
@@ -154,28 +154,28 @@ module _ {w : ℕ} (k : Width w) (p : List ℕ) (n : length p ≡ 24 * w) where
         below = ⊎-elim
             (λ z. absurd (⊎-elim
             (λ r. c (ap (columnOf w) (z ∙ r) ∙ row-ends a))
-            (λ m. false≢true (sym u ∙ ap (marked p) z ∙ m))
+            (λ m. false≢true (sym u ∙ ap (protectedIn p) z ∙ m))
             (stretch a (x .starts) .last)))
             (λ l. l)
             (eq-or-lt-of-le {n = suc j} {m = fieldEnd w p a} (x .below));
       }
 
-  next-cell : (j : ℕ) → suc j < length p → marked p (suc j) ≡ false → (marked p j ≡ false → InField w p j) → InField w p (suc j)
+  next-cell : (j : ℕ) → suc j < length p → protectedIn p (suc j) ≡ false → (protectedIn p j ≡ false → InField w p j) → InField w p (suc j)
   next-cell j h u r =
-      let m = mark-at p (suc j) h ∙ u in
+      let m = protected-at p (suc j) h ∙ u in
       ⊎-elim
       (λ s. starting (suc j) s)
       (λ s.
       let c : columnOf w (suc j) ≡ 0 → ⊥ = λ z. false≢true (sym s ∙ row-start k p (suc j) h m z) in
       let e : suc j - 1 ≡ j = omega arith in
-      let v : marked p j ≡ false = sym (mark-at p j (omega arith)) ∙ rw e at (sym (inner-start k p (suc j) h m c)) ∙ s in
+      let v : protectedIn p j ≡ false = sym (protected-at p j (omega arith)) ∙ rw e at (sym (inner-start k p (suc j) h m c)) ∙ s in
       going-on j u c (r v))
       (either-way (isFieldStart w p (suc j)))
 
-  held : (i : ℕ) → i < length p → marked p i ≡ false → InField w p i
+  held : (i : ℕ) → i < length p → protectedIn p i ≡ false → InField w p i
   held zero h u =
       let z : columnOf w 0 ≡ 0 = by-width (λ (w : ℕ). 0 % w ≡ 0) (omega arith) (omega arith) k in
-      starting 0 (row-start k p 0 h (mark-at p 0 h ∙ u) z)
+      starting 0 (row-start k p 0 h (protected-at p 0 h ∙ u) z)
   held (suc j) h u = next-cell j h u (λ v. held j (omega arith) v)
 
 pub fields-are-stretches : FieldsAreStretches

@@ -19,14 +19,14 @@ use Rattle.rules.specs.Cell.{kind, sent}
 use Rattle.rules.specs.Row.{Width, columnOf, rowEnd}
 use Rattle.rules.specs.Send.{leftOut, cellPlace, textPlaces, followsLeftOut, textAt, bytesOf}
 use Rattle.rules.specs.Search.{firstIn}
-use Rattle.rules.specs.Fields.{markedAt, fieldStarts, isFieldStart, fieldEnd}
+use Rattle.rules.specs.Fields.{protectedAt, fieldStarts, isFieldStart, fieldEnd}
 use Rattle.rules.proofs.Tests.{either-way, pick-if}
 use Rattle.rules.proofs.Rows.{by-width, row-after, row-inside}
-use Rattle.rules.proofs.Marks.{length-by, hit, miss, first-none, first-range}
+use Rattle.rules.proofs.Searching.{length-by, hit, miss, first-none, first-range}
 use Rattle.rules.proofs.Sends.{nextPlace, at-cell, at-break}
-use Rattle.rules.proofs.Fields.{length-starts, marked-start, row-start, inner-start}
-use Rattle.fields.proofs.Fields.{mark-at}
-use Rattle.fields.specs.Theorems.{marked, onto, cutUp, filled, textsFrom, PiecesAreFields}
+use Rattle.rules.proofs.Fields.{length-starts, protected-start, row-start, inner-start}
+use Rattle.fields.proofs.Fields.{protected-at}
+use Rattle.fields.specs.Theorems.{protectedIn, onto, cutUp, filled, textsFrom, PiecesAreFields}
 
 -- ---- what one byte does to the pieces
 
@@ -85,18 +85,18 @@ record Opened (s : List (List ℕ)) (h : List ℕ) (t : List (List ℕ)) : Type 
   is : s ≡ h ∷ rest
   left : filled rest ≡ t
 
--- the pieces s from a cell on, by whether it is marked, and follows a marked one: it gives b, u is the text from there to the field's end, t are the texts of the
--- fields that start behind it
-record Holds (s : List (List ℕ)) (b : ℕ) (u : List ℕ) (t : List (List ℕ)) (mark follows : Bool) : Type 0 where
-  some : mark ≡ false → (h : List ℕ) × (u ≡ b ∷ h)
-  unmarked : mark ≡ false → Opened s u t
-  parted : mark ≡ true → follows ≡ false → Opened s [] t
-  closed : mark ≡ true → filled s ≡ t
+-- the pieces s from a cell on, by whether it is protected, and follows a protected one: it gives b, u is the text from there to the field's end, t
+-- are the texts of the fields that start behind it
+record Holds (s : List (List ℕ)) (b : ℕ) (u : List ℕ) (t : List (List ℕ)) (hidden follows : Bool) : Type 0 where
+  some : hidden ≡ false → (h : List ℕ) × (u ≡ b ∷ h)
+  unprotected : hidden ≡ false → Opened s u t
+  parted : hidden ≡ true → follows ≡ false → Opened s [] t
+  closed : hidden ≡ true → filled s ≡ t
 
 -- the pieces s behind a cell that gives b
-record Behind (s : List (List ℕ)) (b : ℕ) (u : List ℕ) (t : List (List ℕ)) (mark : Bool) : Type 0 where
-  unmarked : mark ≡ false → (h : List ℕ) × ((u ≡ b ∷ h) × Opened s h t)
-  closed : mark ≡ true → filled s ≡ t
+record Behind (s : List (List ℕ)) (b : ℕ) (u : List ℕ) (t : List (List ℕ)) (hidden : Bool) : Type 0 where
+  unprotected : hidden ≡ false → (h : List ℕ) × ((u ≡ b ∷ h) × Opened s h t)
+  closed : hidden ≡ true → filled s ≡ t
 
 module _ {w : ℕ} (k : Width w) (p : List ℕ) (n : length p ≡ 24 * w) (e : ℕ) (m : e ≤ length p) (z : columnOf w e ≡ 0) (segment : Bool) where
   abbrev pieces : Place → List (List ℕ)
@@ -112,23 +112,23 @@ module _ {w : ℕ} (k : Width w) (p : List ℕ) (n : length p ≡ 24 * w) (e : �
   texts i = textsFrom w p i (slice i e (fieldStarts w p))
 
   abbrev HoldsAt : ℕ → Type 0
-  HoldsAt i = Holds (pieces (Place.Cell i)) (byte i) (text i) (texts (suc i)) (marked p i) (followsLeftOut w false p i)
+  HoldsAt i = Holds (pieces (Place.Cell i)) (byte i) (text i) (texts (suc i)) (protectedIn p i) (followsLeftOut w false p i)
 
   abbrev BehindAt : ℕ → Type 0
-  BehindAt i = Behind (pieces (nextPlace w e i)) (byte i) (text i) (texts (suc i)) (marked p i)
+  BehindAt i = Behind (pieces (nextPlace w e i)) (byte i) (text i) (texts (suc i)) (protectedIn p i)
 
   -- ---- the places
 
-  open-cell : (i : ℕ) → i < e → marked p i ≡ false → pieces (Place.Cell i) ≡ onto (byte i) (pieces (nextPlace w e i))
+  open-cell : (i : ℕ) → i < e → protectedIn p i ≡ false → pieces (Place.Cell i) ≡ onto (byte i) (pieces (nextPlace w e i))
   unfolding bytesOf cellPlace
   open-cell i h u = rw (at-cell k p e m false segment i h, u) (cut-text (getD p i 0) (bytesOf (textAt w p e false segment (nextPlace w e i))))
 
-  parted-cell : (i : ℕ) → i < e → marked p i ≡ true → followsLeftOut w false p i ≡ false
+  parted-cell : (i : ℕ) → i < e → protectedIn p i ≡ true → followsLeftOut w false p i ≡ false
       → pieces (Place.Cell i) ≡ [] ∷ pieces (nextPlace w e i)
   unfolding bytesOf cellPlace cutUp
   parted-cell i h u f = rw (at-cell k p e m false segment i h, u, f)
 
-  silent-cell : (i : ℕ) → i < e → marked p i ≡ true → followsLeftOut w false p i ≡ true → pieces (Place.Cell i) ≡ pieces (nextPlace w e i)
+  silent-cell : (i : ℕ) → i < e → protectedIn p i ≡ true → followsLeftOut w false p i ≡ true → pieces (Place.Cell i) ≡ pieces (nextPlace w e i)
   unfolding bytesOf cellPlace
   silent-cell i h u f = rw (at-cell k p e m false segment i h, u, f)
 
@@ -152,7 +152,7 @@ module _ {w : ℕ} (k : Width w) (p : List ℕ) (n : length p ≡ 24 * w) (e : �
   unfolding nextPlace
   next-in-row i h c = rw (ne-eqb (suc i) e h, ne-eqb (columnOf w (suc i)) 0 c)
 
-  follows-is : (i : ℕ) → (columnOf w (suc i) ≡ 0 → ⊥) → followsLeftOut w false p (suc i) ≡ marked p i
+  follows-is : (i : ℕ) → (columnOf w (suc i) ≡ 0 → ⊥) → followsLeftOut w false p (suc i) ≡ protectedIn p i
   unfolding followsLeftOut
   follows-is i c = let y : suc i - 1 ≡ i = omega arith in rw (ne-eqb (columnOf w (suc i)) 0 c, y)
 
@@ -170,65 +170,65 @@ module _ {w : ℕ} (k : Width w) (p : List ℕ) (n : length p ≡ 24 * w) (e : �
   unfolding textsFrom
   no-texts = rw (slice-empty e (fieldStarts w p))
 
-  module _ (i : ℕ) (h : i < length p) (u : marked p i ≡ false) where
-    inside-row : rowEnd w i ≤ length (markedAt p)
+  module _ (i : ℕ) (h : i < length p) (u : protectedIn p i ≡ false) where
+    inside-row : rowEnd w i ≤ length (protectedAt p)
     inside-row = omega (arith, length-by (leftOut true) p, row-inside k i (omega (arith, n)), n)
 
-    end-behind : fieldEnd w p i ≡ firstIn (markedAt p) (suc i) (rowEnd w i)
-    end-behind = rw (add-one i) at (miss (markedAt p) i (rowEnd w i) (row-after k i) inside-row refl (mark-at p i h ∙ u))
+    end-behind : fieldEnd w p i ≡ firstIn (protectedAt p) (suc i) (rowEnd w i)
+    end-behind = rw (add-one i) at (miss (protectedAt p) i (rowEnd w i) (row-after k i) inside-row refl (protected-at p i h ∙ u))
 
     -- a text of one byte
     last-text : fieldEnd w p i ≡ suc i → text i ≡ byte i ∷ []
     last-text f = rw (f, slice-cons i (suc i) p 0 (omega arith) h, slice-empty (suc i) p)
 
     row-text-ends : columnOf w (suc i) ≡ 0 → text i ≡ byte i ∷ []
-    row-text-ends c = last-text (end-behind ∙ rw (row-ends-here k i c, first-none (markedAt p) (suc i)))
+    row-text-ends c = last-text (end-behind ∙ rw (row-ends-here k i c, first-none (protectedAt p) (suc i)))
 
     module _ (c : columnOf w (suc i) ≡ 0 → ⊥) (l : suc i < length p) where
-      mark-text-ends : marked p (suc i) ≡ true → text i ≡ byte i ∷ []
-      mark-text-ends v =
-          last-text (end-behind ∙ hit (markedAt p) (suc i) (rowEnd w i) (row-goes-on k i c) inside-row refl (mark-at p (suc i) l ∙ v))
+      hidden-text-ends : protectedIn p (suc i) ≡ true → text i ≡ byte i ∷ []
+      hidden-text-ends v =
+          last-text (end-behind ∙ hit (protectedAt p) (suc i) (rowEnd w i) (row-goes-on k i c) inside-row refl (protected-at p (suc i) l ∙ v))
 
       text-goes-on : text i ≡ byte i ∷ text (suc i)
       text-goes-on =
           let r : rowEnd w (suc i) ≡ rowEnd w i = same-row k i c in
-          let x = first-range (markedAt p) (suc i) (rowEnd w i) (omega (arith, row-goes-on k i c)) inside-row in
+          let x = first-range (protectedAt p) (suc i) (rowEnd w i) (omega (arith, row-goes-on k i c)) inside-row in
           let f : fieldEnd w p i ≡ fieldEnd w p (suc i) = end-behind ∙ rw r in
           rw f (ap (map sent) (slice-cons i (fieldEnd w p (suc i)) p 0 (rw r (omega arith)) (rw r (omega (arith, x, inside-row, length-by (leftOut true) p)))))
 
   -- ---- going back from the last cell
 
-  -- at a cell that starts a field or is marked, the pieces are the fields from there
-  begin : (i : ℕ) → i < e → isFieldStart w p i ≡ not (marked p i) → HoldsAt i → filled (pieces (Place.Cell i)) ≡ texts i
+  -- at a cell that starts a field or is protected, the pieces are the fields from there
+  begin : (i : ℕ) → i < e → isFieldStart w p i ≡ not (protectedIn p i) → HoldsAt i → filled (pieces (Place.Cell i)) ≡ texts i
   begin i h s x =
       ⊎-elim
       (λ v. x .closed v ∙ sym (texts-none i h (s ∙ rw v)))
       (λ v.
-      let o = x .unmarked v in
+      let o = x .unprotected v in
       ap filled (o .is) ∙ filled-some (o .rest) (x .some v .1) ∙ ap {B = List (List ℕ)} (λ t. text i ∷ t) (o .left) ∙ sym (texts-start i h (s ∙ rw v)))
-      (either-way (marked p i))
+      (either-way (protectedIn p i))
 
-  fresh : (i : ℕ) → i < length p → (marked p i ≡ false → isFieldStart w p i ≡ true) → isFieldStart w p i ≡ not (marked p i)
+  fresh : (i : ℕ) → i < length p → (protectedIn p i ≡ false → isFieldStart w p i ≡ true) → isFieldStart w p i ≡ not (protectedIn p i)
   fresh i h f =
       ⊎-elim
-      (λ v. marked-start k p i h (mark-at p i h ∙ v) ∙ sym (ap not v))
+      (λ v. protected-start k p i h (protected-at p i h ∙ v) ∙ sym (ap not v))
       (λ v. f v ∙ sym (ap not v))
-      (either-way (marked p i))
+      (either-way (protectedIn p i))
 
-  fresh-row : (i : ℕ) → i < length p → columnOf w i ≡ 0 → isFieldStart w p i ≡ not (marked p i)
-  fresh-row i h c = fresh i h (λ v. row-start k p i h (mark-at p i h ∙ v) c)
+  fresh-row : (i : ℕ) → i < length p → columnOf w i ≡ 0 → isFieldStart w p i ≡ not (protectedIn p i)
+  fresh-row i h c = fresh i h (λ v. row-start k p i h (protected-at p i h ∙ v) c)
 
-  inner-is : (i : ℕ) → suc i < length p → (columnOf w (suc i) ≡ 0 → ⊥) → marked p (suc i) ≡ false → isFieldStart w p (suc i) ≡ marked p i
+  inner-is : (i : ℕ) → suc i < length p → (columnOf w (suc i) ≡ 0 → ⊥) → protectedIn p (suc i) ≡ false → isFieldStart w p (suc i) ≡ protectedIn p i
   inner-is i h c v =
       let y : suc i - 1 ≡ i = omega arith in
-      inner-start k p (suc i) h (mark-at p (suc i) h ∙ v) c ∙ rw y (mark-at p i (omega arith))
+      inner-start k p (suc i) h (protected-at p (suc i) h ∙ v) c ∙ rw y (protected-at p i (omega arith))
 
   behind-last : (i : ℕ) → i < e → suc i ≡ e → BehindAt i
   behind-last i h q =
       let s : pieces (nextPlace w e i) ≡ [] ∷ [] ∷ [] = ap pieces (next-end i q) ∙ return-pieces in
       let t : texts (suc i) ≡ [] = ap texts q ∙ no-texts in
       record {
-        unmarked = λ u. ([], (row-text-ends i (omega arith) u (ap (columnOf w) q ∙ z), record { rest = [] ∷ []; is = s; left = filled-empty [] ∙ filled-nil ∙ sym t }));
+        unprotected = λ u. ([], (row-text-ends i (omega arith) u (ap (columnOf w) q ∙ z), record { rest = [] ∷ []; is = s; left = filled-empty [] ∙ filled-nil ∙ sym t }));
         closed = λ u. ap filled s ∙ filled-none ∙ sym t;
       }
 
@@ -237,7 +237,7 @@ module _ {w : ℕ} (k : Width w) (p : List ℕ) (n : length p ≡ 24 * w) (e : �
       let s : pieces (nextPlace w e i) ≡ [] ∷ pieces (Place.Cell (suc i)) = ap pieces (next-row i (λ q. omega arith) c) ∙ break-pieces (suc i) l c in
       let f = begin (suc i) l (fresh-row (suc i) (omega arith) c) x in
       record {
-        unmarked = λ u. ([], (row-text-ends i (omega arith) u c, record { rest = pieces (Place.Cell (suc i)); is = s; left = f }));
+        unprotected = λ u. ([], (row-text-ends i (omega arith) u c, record { rest = pieces (Place.Cell (suc i)); is = s; left = f }));
         closed = λ u. ap filled s ∙ filled-empty (pieces (Place.Cell (suc i))) ∙ f;
       }
 
@@ -245,21 +245,21 @@ module _ {w : ℕ} (k : Width w) (p : List ℕ) (n : length p ≡ 24 * w) (e : �
   behind-inner i l c x =
       let s : pieces (nextPlace w e i) ≡ pieces (Place.Cell (suc i)) = ap pieces (next-in-row i (λ q. omega arith) c) in
       record {
-        unmarked = λ u. ⊎-elim
+        unprotected = λ u. ⊎-elim
             (λ v.
             let o = x .parted v (follows-is i c ∙ u) in (
               [],
               (
-                mark-text-ends i (omega arith) u c (omega arith) v,
+                hidden-text-ends i (omega arith) u c (omega arith) v,
                 record {
                   rest = o .rest;
                   is = s ∙ o .is;
-                  left = o .left ∙ sym (texts-none (suc i) l (marked-start k p (suc i) (omega arith) (mark-at p (suc i) (omega arith) ∙ v)));
+                  left = o .left ∙ sym (texts-none (suc i) l (protected-start k p (suc i) (omega arith) (protected-at p (suc i) (omega arith) ∙ v)));
                 },
               ),
             ))
             (λ v.
-            let o = x .unmarked v in (
+            let o = x .unprotected v in (
               text (suc i),
               (
                 text-goes-on i (omega arith) u c (omega arith),
@@ -270,7 +270,7 @@ module _ {w : ℕ} (k : Width w) (p : List ℕ) (n : length p ≡ 24 * w) (e : �
                 },
               ),
             ))
-            (either-way (marked p (suc i)));
+            (either-way (protectedIn p (suc i)));
         closed = λ u. ap filled s ∙ begin (suc i) l (fresh (suc i) (omega arith) (λ v. inner-is i (omega arith) c v ∙ u)) x;
       }
 
@@ -286,12 +286,12 @@ module _ {w : ℕ} (k : Width w) (p : List ℕ) (n : length p ≡ 24 * w) (e : �
 
   holds-at : (i : ℕ) → i < e → BehindAt i → HoldsAt i
   holds-at i h x = record {
-    some = λ u. (x .unmarked u .0, x .unmarked u .1 .0);
-    unmarked = λ u.
-        let o = x .unmarked u .1 .1 in
+    some = λ u. (x .unprotected u .0, x .unprotected u .1 .0);
+    unprotected = λ u.
+        let o = x .unprotected u .1 .1 in
         record {
           rest = o .rest;
-          is = open-cell i h u ∙ ap (onto (byte i)) (o .is) ∙ onto-first (byte i) (x .unmarked u .0) (o .rest) ∙ ap {B = List (List ℕ)} (λ t. t ∷ o .rest) (sym (x .unmarked u .1 .0));
+          is = open-cell i h u ∙ ap (onto (byte i)) (o .is) ∙ onto-first (byte i) (x .unprotected u .0) (o .rest) ∙ ap {B = List (List ℕ)} (λ t. t ∷ o .rest) (sym (x .unprotected u .1 .0));
           left = o .left;
         };
     parted = λ u f. record { rest = pieces (nextPlace w e i); is = parted-cell i h u f; left = x .closed u };

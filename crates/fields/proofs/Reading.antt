@@ -28,12 +28,12 @@ unfolding fitting
 no-room t room h = rw (lt-leb (length t) room h)
 
 pub made : (w : ℕ) (p : List ℕ) (at : ℕ) {end row column : ℕ} → end ≡ fieldEnd w p at → row ≡ at / w → column ≡ at % w
-    → _≡_ {A = Field} (record { start = at; length = end - at; row = row; column = column }) (fieldAt w p at)
+    → _≡_ {A = Field} (record { start = at; size = end - at; row = row; column = column }) (fieldAt w p at)
 made w p at e r c = rw (e, r, c)
 
 -- the text that was put is the one that was asked for
 pub whole : {t u w w′ : List ℕ} {n : ℕ} → u ≡ t → length u ≡ n → n ≤ length w → w′ ≡ over u w
-    → Read (fitting t (length w)) (record { answer = 0; length = n }) w w′
+    → Read (fitting t (length w)) (record { answer = 0; size = n }) w w′
 whole {t} {u} {w} e s h f = read-as (ap (told 0) e ∙ fits t (length w) (rw (← e, s) h)) (record { answer = refl; counts = sym s; room = f })
 
 pub row-fits : {w n : ℕ} → Width w → n ≡ 24 * w → (row : ℕ) → row < 24 → row * w + w ≤ n

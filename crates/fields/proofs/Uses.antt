@@ -8,7 +8,7 @@ use Prim.Native.Nat.{ℕ, _*_, _<_}
 use native.Mathlib.Omega.{arith}
 use lib.ListN.{length}
 use Rattle.rules.specs.Row.{Width}
-use Rattle.rules.specs.Search.{marksBy, firstIn}
+use Rattle.rules.specs.Search.{whichCells, firstIn}
 use Rattle.rules.specs.Fields.{pageWidth, startsAt, nextFieldRule}
 use Rattle.fields.specs.Theorems.{RoundTrip}
 use Rattle.fields.specs.Uses.{NoFields, OfWidth, Uses}
@@ -16,7 +16,7 @@ use Rattle.fields.proofs.Fields.{fields-are-stretches, cells-are-in-fie
 use Rattle.fields.proofs.Pieces.{pieces-are-fields}
 
 none : NoFields
-unfolding pageWidth marksBy firstIn startsAt nextFieldRule
+unfolding pageWidth whichCells firstIn startsAt nextFieldRule
 none = record { labels = refl; behind = refl; no-page = refl }
 
 -- places at a width, by the page's length

@@ -13,23 +13,23 @@ use Rattle.rules.specs.Row.{Width, height, rowOf, columnOf, rowEnd}
 use Rattle.rules.specs.Send.{leftOut, bytesOf, textAt}
 use Rattle.rules.specs.Fields.{pageWidth, fieldStarts, isFieldStart, fieldEnd, nextStart, position, positionRule, cellRule}
 
-abbrev pub marked : List ℕ → ℕ → Bool
-marked p i = leftOut true (getD p i 0)
+abbrev pub protectedIn : List ℕ → ℕ → Bool
+protectedIn p i = leftOut true (getD p i 0)
 
--- the cells a up to, not including, e are a longest stretch within one row that are not marked
+-- the cells a up to, not including, e are a longest stretch within one row that are not protected
 pub record LongestStretch (w : ℕ) (p : List ℕ) (a e : ℕ) : Type 0 where
   pub some : a < e
   pub within : e ≤ rowEnd w a
-  pub unmarked : (i : ℕ) → a ≤ i → i < e → marked p i ≡ false
-  pub first : (columnOf w a ≡ 0) ⊎ (marked p (a - 1) ≡ true)
-  pub last : (e ≡ rowEnd w a) ⊎ (marked p e ≡ true)
+  pub unprotected : (i : ℕ) → a ≤ i → i < e → protectedIn p i ≡ false
+  pub first : (columnOf w a ≡ 0) ⊎ (protectedIn p (a - 1) ≡ true)
+  pub last : (e ≡ rowEnd w a) ⊎ (protectedIn p e ≡ true)
 
 -- each field is one
 abbrev pub FieldsAreStretches : Type 0
 FieldsAreStretches =
     (w : ℕ) (p : List ℕ) → Width w → length p ≡ 24 * w → (a : ℕ) → isFieldStart w p a ≡ true → LongestStretch w p a (fieldEnd w p a)
 
--- each cell that is not marked is in one
+-- each cell that is not protected is in one
 pub record InField (w : ℕ) (p : List ℕ) (i : ℕ) : Type 0 where
   pub start : ℕ
   pub starts : isFieldStart w p start ≡ true
@@ -37,7 +37,7 @@ pub record InField (w : ℕ) (p : List ℕ) (i : ℕ) : Type 0 where
   pub below : i < fieldEnd w p start
 
 abbrev pub CellsAreInFields : Type 0
-CellsAreInFields = (w : ℕ) (p : List ℕ) → Width w → length p ≡ 24 * w → (i : ℕ) → i < length p → marked p i ≡ false → InField w p i
+CellsAreInFields = (w : ℕ) (p : List ℕ) → Width w → length p ≡ 24 * w → (i : ℕ) → i < length p → protectedIn p i ≡ false → InField w p i
 
 -- the next field is the first that starts at the place or behind it
 pub record FirstFrom (w : ℕ) (p : List ℕ) (from at : ℕ) : Type 0 where

@@ -71,13 +71,13 @@ fn no_field() -> Field
 {
     Field {
         start: 0,
-        length: 0,
+        size: 0,
         row: 0,
         column: 0,
     }
 }
 
-// The first field that starts at or behind `from`. Ruled out: one that takes a marked cell, or runs on over a row's end.
+// The first field that starts at or behind `from`. Ruled out: one that takes a protected cell, or runs on over a row's end.
 pub fn next_field(page: &[u16], from: usize) -> Field
     ensures { λ r. ⌜ r ≡ nextFieldRule (now (page .entry)) from ⌝ }
 {
@@ -92,7 +92,7 @@ pub fn next_field(page: &[u16], from: usize) -> Field
     let end = edit_end(page, width, true, start);
     Field {
         start: start,
-        length: end - start,
+        size: end - start,
         row: row_of(width, start),
         column: column_of(width, start),
     }
@@ -148,7 +148,7 @@ fn put_text(room: &mut [u8], page: &[u16], from: usize, end: usize, trim: bool) 
     put(room, page, from, to);
     TextResult {
         answer: 0,
-        length: to - from,
+        size: to - from,
     }
 }
 
@@ -157,11 +157,11 @@ fn refused(answer: u8) -> TextResult
 {
     TextResult {
         answer: answer,
-        length: 0,
+        size: 0,
     }
 }
 
-// The text of the field that starts there. Ruled out: one with a marked cell in it, one that drops leading spaces, one that is cut.
+// The text of the field that starts there. Ruled out: one with a protected cell in it, one that drops leading spaces, one that is cut.
 pub fn field_text(room: &mut [u8], page: &[u16], start: usize, trim: bool) -> TextResult
     ensures { λ r. ⌜ Read (fieldTextRule (now (page .entry)) start trim (length (now (room .entry)))) r (now (room .entry)) (now (room .exit)) ⌝ }
 {

@@ -7,7 +7,7 @@ use lib.Dec.{eqb}
 use borrow.Author.Tests.{lt-ltb, le-ltb, ne-eqb}
 use Rattle.rules.specs.declared.Personality.{Personality}
 use Rattle.rules.specs.declared.Personality.the-variants as Personality
-use Rattle.rules.specs.Cell.{both, either, among, code, attribute}
+use Rattle.rules.specs.Cell.{both, either, between, code, attribute}
 use Rattle.rules.specs.Arguments.{isFlags}
 use Rattle.rules.specs.Possible.{rememberedOk}
 use Rattle.rules.specs.Writable.{isStored, isAttributeCell}
@@ -35,11 +35,11 @@ module _ (m : Personality) (v : ℕ) where
     not-remembered e = rw (lt-ltb v 32768 l, e)
 
     module _ (h : rememberedOk m (attribute v) ≡ true) where
-      pub is-text : {r : Bool} → v / 256 % 4 ≡ 0 → r ≡ among 0x20 95 (code v) → r ≡ isStored m v
+      pub is-text : {r : Bool} → v / 256 % 4 ≡ 0 → r ≡ between 0x20 0x7e (code v) → r ≡ isStored m v
       unfolding isStored
-      is-text e f = rw (lt-ltb v 32768 l, h, e) (f ∙ sym (either-false (among 0x20 95 (code v))))
+      is-text e f = rw (lt-ltb v 32768 l, h, e) (f ∙ sym (either-false (between 0x20 0x7e (code v))))
 
-      pub is-graphic : {r : Bool} → v / 256 % 4 ≡ 2 → r ≡ among 0x30 16 (code v) → r ≡ isStored m v
+      pub is-graphic : {r : Bool} → v / 256 % 4 ≡ 2 → r ≡ between 0x30 0x3f (code v) → r ≡ isStored m v
       unfolding isStored
       is-graphic e f = rw (lt-ltb v 32768 l, h, e) f
 

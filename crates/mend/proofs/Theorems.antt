@@ -16,7 +16,7 @@ use Rattle.rules.specs.Row.{height, columns}
 use Rattle.rules.specs.Room.{over}
 use Rattle.rules.specs.Fields.{pageWidth, isPage}
 use Rattle.rules.specs.Writable.{writable, AllWritable, none, more}
-use Rattle.rules.specs.CellReach.{Reached}
+use Rattle.rules.specs.theorems.CellReach.{Reached}
 use Rattle.rules.proofs.Tests.{pick-if}
 use Rattle.rules.proofs.Kept.{good-parts}
 use Rattle.rules.proofs.Numbers.{null-ok}

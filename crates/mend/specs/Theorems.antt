@@ -8,7 +8,7 @@ use Rattle.rules.specs.declared.Personality.{Personality}
 use Rattle.rules.specs.declared.State.{State}
 use Rattle.rules.specs.Cell.{null}
 use Rattle.rules.specs.Writable.{writable, AllWritable}
-use Rattle.rules.specs.CellReach.{Reached}
+use Rattle.rules.specs.theorems.CellReach.{Reached}
 use Rattle.mend.specs.Mend.{mended, damaged, outcome, mendRule}
 
 -- old numbers put back at their places

@@ -29,7 +29,7 @@ use Rattle.page.proofs.Loop.{Joined, step-up, step-down}
 use Rattle.rules.specs.Row.{Width}
 use Rattle.rules.specs.Change.{within, fillCell, filled, shiftLeft, shiftRight, shifted, columnFilled}
 use Rattle.rules.specs.Search.{guardedAt, editEnd}
-use Rattle.rules.proofs.Marks.{length-guards, edit-range}
+use Rattle.rules.proofs.Searching.{length-guards, edit-range}
 use Rattle.rules.proofs.Rows.{rows-le}
 
 -- a part was lent, `&mut page[a..e]`, and came back as q, which f makes of it

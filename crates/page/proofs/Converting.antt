@@ -15,7 +15,7 @@ use lib.Seq.{drop-cons, set-at, append-snoc}
 use borrow.Author.Tests.{lt-ltb, le-ltb, le-leb, lt-leb, ne-eqb, eq-eqb}
 use Rattle.rules.specs.Cell.{both, either, null}
 use Rattle.rules.specs.Row.{columns, columnOf}
-use Rattle.rules.specs.Convert.{listed, cellFor, otherWidth, converted, loses}
+use Rattle.rules.specs.Convert.{tabulated, cellFor, otherWidth, converted, loses}
 use Rattle.rules.proofs.Convert.{listed-length}
 
 -- ---- a cell
@@ -43,25 +43,25 @@ wide-place p wide i e n h k = let a : length p ≡ 1920 = n ∙ rw e in let b : 
 
 -- ---- the target
 
-listed-snoc : (f : ℕ → ℕ) (a n : ℕ) → listed f a (suc n) ≡ listed f a n ++ (f (a + n) ∷ [])
-unfolding listed
+listed-snoc : (f : ℕ → ℕ) (a n : ℕ) → tabulated f a (suc n) ≡ tabulated f a n ++ (f (a + n) ∷ [])
+unfolding tabulated
 listed-snoc f a zero = let e : a + 0 ≡ a = omega arith in rw e
 listed-snoc f a (suc n) = let e : a + suc n ≡ suc a + n = omega arith in rw e (ap (λ (l : List ℕ). f a ∷ l) (listed-snoc f (suc a) n))
 
 -- i cells are put, the others are as they were
 abbrev pub putTo : (ℕ → ℕ) → ℕ → List ℕ → List ℕ
-putTo f i t = listed f 0 i ++ drop i t
+putTo f i t = tabulated f 0 i ++ drop i t
 
 pub put-none : (f : ℕ → ℕ) (t : List ℕ) → t ≡ putTo f 0 t
-unfolding listed
+unfolding tabulated
 put-none f t = refl
 
 pub put-next : (f : ℕ → ℕ) (i : ℕ) (t : List ℕ) {v : ℕ} → i < length t → v ≡ f i → set (putTo f i t) i v ≡ putTo f (i + 1) t
 put-next f i t {v} h e =
     let z : 0 + i ≡ i = omega arith in
-    ap (λ (l : List ℕ). set (listed f 0 i ++ l) i v) (drop-cons t i 0 h)
-    ∙ set-at (listed f 0 i) (getD t i 0) (drop (suc i) t) v i (listed-length f 0 i)
-    ∙ (ap (λ (x : ℕ). listed f 0 i ++ (x ∷ drop (suc i) t)) (e ∙ ap f (sym z)) ∙ sym (append-snoc (listed f 0 i) (f (0 + i)) (drop (suc i) t)))
+    ap (λ (l : List ℕ). set (tabulated f 0 i ++ l) i v) (drop-cons t i 0 h)
+    ∙ set-at (tabulated f 0 i) (getD t i 0) (drop (suc i) t) v i (listed-length f 0 i)
+    ∙ (ap (λ (x : ℕ). tabulated f 0 i ++ (x ∷ drop (suc i) t)) (e ∙ ap f (sym z)) ∙ sym (append-snoc (tabulated f 0 i) (f (0 + i)) (drop (suc i) t)))
     ∙ ap (λ (l : List ℕ). l ++ drop (suc i) t) (sym (listed-snoc f 0 i)) ∙ rw (add-one i)
 
 pub put-all : (wide : Bool) (p : List ℕ) (i : ℕ) (t : List ℕ) → length t ≡ 24 * otherWidth wide → length t ≤ i → i ≤ length t
@@ -69,8 +69,8 @@ pub put-all : (wide : Bool) (p : List ℕ) (i : ℕ) (t : List ℕ) → length t
 unfolding converted
 put-all wide p i t n h k =
     let e : i ≡ 24 * otherWidth wide = omega arith in
-    ap (λ (l : List ℕ). listed (cellFor (columns wide) (otherWidth wide) p) 0 i ++ l) (drop-of-length-le t h)
-    ∙ append-nil _ ∙ ap (listed (cellFor (columns wide) (otherWidth wide) p) 0) e
+    ap (λ (l : List ℕ). tabulated (cellFor (columns wide) (otherWidth wide) p) 0 i ++ l) (drop-of-length-le t h)
+    ∙ append-nil _ ∙ ap (tabulated (cellFor (columns wide) (otherWidth wide) p) 0) e
 
 -- ---- whether a cell is lost
 

@@ -1,7 +1,7 @@
 -- Searches for an open cell, by eights and with protect mode off.
---     past               a stretch without a mark is passed
---     none-open          guarded cells have no mark of an open one
---     around-from        a search that wraps begins anywhere before its first mark
+--     past               a stretch without an open cell is passed
+--     none-open          no guarded cell is an open one
+--     around-from        a search that wraps begins anywhere before the first cell sought
 --     off-here, off-end  with protect mode off every cell is open
 -- Assumes nothing.
 use mathlib.Core.Path.{_≡_, refl, sym, ap, _∙_}
@@ -13,7 +13,7 @@ use native.Mathlib.Nat.{add-zero, eq-or-lt-of-le}
 use native.Mathlib.Omega.{arith}
 use lib.ListN.{length, getD}
 use Rattle.rules.specs.Search.{guardedAt, others, firstIn, around}
-use Rattle.rules.proofs.Marks.{hit, miss, first-none, around-here, around-wrapped, around-none, guard-at, open-at, length-guards, length-others}
+use Rattle.rules.proofs.Searching.{hit, miss, first-none, around-here, around-wrapped, around-none, guard-at, open-at, length-guards, length-others}
 
 pub past : (m : List Bool) (n a e : ℕ) → a + n ≤ e → e ≤ length m → ((j : ℕ) → j < n → getD m (a + j) false ≡ false) → firstIn m a e ≡ firstIn m (a + n) e
 past m zero a e h k none = rw add-zero
@@ -27,7 +27,7 @@ pub around-from : (m : List Bool) (first end from near : ℕ) → firstIn m from
 unfolding around
 around-from m first end from near e = rw e
 
--- the cells a up to a + n of a page are guarded, so none is marked as open
+-- the cells a up to a + n of a page are guarded, so none is open
 pub none-open : (g : List Bool) (a n : ℕ) → a + n ≤ length g → ((j : ℕ) → j < n → getD g (a + j) false ≡ true)
     → (j : ℕ) → j < n → getD (others g) (a + j) false ≡ false
 none-open g a n h all j b = open-at g (a + j) (omega arith) ∙ ap not (all j b)

@@ -18,7 +18,7 @@ use lib.ListN.{length, getD, take, drop, set, length-set, drop-of-length-le}
 use lib.Seq.{drop-cons, drop-drop, getD-set-same, getD-set-other, ext-getD}
 use borrow.Author.Tests.{ltb-true, ltb-false}
 use Rattle.rules.specs.Cell.{both, guarded, same}
-use Rattle.rules.specs.Search.{guardedAt, marksBy}
+use Rattle.rules.specs.Search.{guardedAt, whichCells}
 use Rattle.rules.specs.RowList.{openCount, firstColumn, rowNumbers, rowList, Beside}
 use Rattle.page.specs.RowList.{rowAt, RowAt, AllBut}
 use Rattle.rules.proofs.RowSteps.{same-is, length-list}
@@ -54,13 +54,13 @@ row-same {l = l} {l′ = l′} j a b =
 -- ---- the cells of a row
 
 pub guards-take : (on : Bool) (n : ℕ) (p : List ℕ) → guardedAt on (take n p) ≡ take n (guardedAt on p)
-unfolding marksBy
+unfolding whichCells
 guards-take on zero p = refl
 guards-take on (suc n) [] = refl
 guards-take on (suc n) (v ∷ p) = ap (λ (t : List Bool). guarded on v ∷ t) (guards-take on n p)
 
 pub guards-drop : (on : Bool) (n : ℕ) (p : List ℕ) → guardedAt on (drop n p) ≡ drop n (guardedAt on p)
-unfolding marksBy
+unfolding whichCells
 guards-drop on zero p = refl
 guards-drop on (suc n) [] = refl
 guards-drop on (suc n) (v ∷ p) = guards-drop on n p
@@ -76,11 +76,11 @@ more-open false g = omega arith
 
 pub count-step : (on : Bool) (p : List ℕ) (i : ℕ) → i < length p
     → openCount (guardedAt on (drop i p)) ≡ openCount (guardedAt on (getD p i 0 ∷ [])) + openCount (guardedAt on (drop (i + 1) p))
-unfolding marksBy
+unfolding whichCells
 count-step on p i h = rw (drop-cons p i 0 h, add-one) (more-open (guarded on (getD p i 0)) (guardedAt on (drop (suc i) p)))
 
 pub count-none : (on : Bool) (p : List ℕ) (i : ℕ) → length p ≤ i → openCount (guardedAt on (drop i p)) ≡ 0
-unfolding marksBy
+unfolding whichCells
 count-none on p i h = rw (drop-of-length-le p {i = i} h)
 
 pub count-most : (g : List Bool) → openCount g ≤ length g

@@ -19,17 +19,17 @@ use lib.Seq.{slice, length-take-le, take-all, take-add, drop-at, drop-append-le,
 use borrow.Author.Tests.{lt-ltb, le-ltb, eq-eqb, ne-eqb}
 use Rattle.rules.specs.Cell.{pick}
 use Rattle.rules.specs.Row.{Width, rowEnd}
-use Rattle.rules.specs.Search.{others, firstMark, firstIn}
+use Rattle.rules.specs.Search.{others, firstTrue, firstIn}
 use Rattle.rules.specs.RowList.{openCount, firstColumn, rowList}
 use Rattle.page.specs.RowList.{rowAt, RowAt, FirstRow}
 use Rattle.rules.proofs.Rows.{by-width, page-small}
-use Rattle.rules.proofs.Marks.{length-others, first-none}
+use Rattle.rules.proofs.Searching.{length-others, first-none}
 use Rattle.page.proofs.RowList.{numbers-at, below-or-not}
 
 -- ---- a search in two parts
 
 first-append : (at : ℕ) (x y : List Bool)
-    → firstMark at (x ++ y) ≡ pick (ltb (firstMark at x) (at + length x)) (firstMark at x) (firstMark (at + length x) y)
+    → firstTrue at (x ++ y) ≡ pick (ltb (firstTrue at x) (at + length x)) (firstTrue at x) (firstTrue (at + length x) y)
 first-append at [] y = rw (add-zero, le-ltb at at (omega arith))
 first-append at (true ∷ x) y = rw (lt-ltb at (at + suc (length x)) (omega arith))
 first-append at (false ∷ x) y =
@@ -49,7 +49,7 @@ module _ (m : List Bool) (a b e : ℕ) (h : a ≤ b) (i : b ≤ e) (k : e ≤ le
   unfolding firstIn
   first-parts =
       let n : a + length (slice a b m) ≡ b = omega (arith, length-slice a b m (omega arith)) in
-      ap (firstMark a) (slice-append m a b e h i k) ∙ first-append a (slice a b m) (slice b e m) ∙ rw n
+      ap (firstTrue a) (slice-append m a b e h i k) ∙ first-append a (slice a b m) (slice b e m) ∙ rw n
 
   pub first-here : firstIn m a b < b → firstIn m a e ≡ firstIn m a b
   first-here l = first-parts ∙ rw (lt-ltb (firstIn m a b) b l)
@@ -59,26 +59,26 @@ module _ (m : List Bool) (a b e : ℕ) (h : a ≤ b) (i : b ≤ e) (k : e ≤ le
 
 -- ---- a search in one row
 
-none-open : (at : ℕ) (r : List Bool) → openCount r ≡ 0 → firstMark at (others r) ≡ at + length r
+none-open : (at : ℕ) (r : List Bool) → openCount r ≡ 0 → firstTrue at (others r) ≡ at + length r
 unfolding others
 none-open at [] e = omega arith
 none-open at (true ∷ r) e = omega (arith, none-open (suc at) r e)
 none-open at (false ∷ r) e = absurd (omega (arith, e))
 
-some-open : (at : ℕ) (r : List Bool) → (openCount r ≡ 0 → ⊥) → firstMark at (others r) < at + length r
+some-open : (at : ℕ) (r : List Bool) → (openCount r ≡ 0 → ⊥) → firstTrue at (others r) < at + length r
 unfolding others
 some-open at [] n = absurd (n refl)
 some-open at (true ∷ r) n = omega (arith, some-open (suc at) r n)
 some-open at (false ∷ r) n = omega arith
 
 -- counted from another number
-pub first-shift : (at : ℕ) (m : List Bool) → firstMark at m ≡ at + firstMark 0 m
-first-shift at m = ap (λ (i : ℕ). firstMark i m) (sym (add-zero at)) ∙ by at 0 m
+pub first-shift : (at : ℕ) (m : List Bool) → firstTrue at m ≡ at + firstTrue 0 m
+first-shift at m = ap (λ (i : ℕ). firstTrue i m) (sym (add-zero at)) ∙ by at 0 m
   where
-    by : (at n : ℕ) (m : List Bool) → firstMark (at + n) m ≡ at + firstMark n m
+    by : (at n : ℕ) (m : List Bool) → firstTrue (at + n) m ≡ at + firstTrue n m
     by at n [] = refl
     by at n (true ∷ m) = refl
-    by at n (false ∷ m) = let e : suc (at + n) ≡ at + suc n = omega arith in ap (λ (i : ℕ). firstMark i m) e ∙ by at (suc n) m
+    by at n (false ∷ m) = let e : suc (at + n) ≡ at + suc n = omega arith in ap (λ (i : ℕ). firstTrue i m) e ∙ by at (suc n) m
 
 others-take : (n : ℕ) (g : List Bool) → take n (others g) ≡ others (take n g)
 unfolding others
@@ -97,12 +97,12 @@ module _ (w : ℕ) (g : List Bool) (k : ℕ) (fits : k * w + w ≤ length g) whe
   row-length : length (rowAt w g k) ≡ w
   row-length = length-take-le w (drop (k * w) g) (omega (arith, length-drop (k * w) g))
 
-  row-first : firstIn (others g) (k * w) (k * w + w) ≡ firstMark (k * w) (others (rowAt w g k))
+  row-first : firstIn (others g) (k * w) (k * w + w) ≡ firstTrue (k * w) (others (rowAt w g k))
   unfolding firstIn
   row-first =
       let m = others g in
       let size : length (take (k * w) m) ≡ k * w = length-take-le (k * w) m (omega (arith, length-others g)) in
-      ap (firstMark (k * w))
+      ap (firstTrue (k * w))
       (ap (drop (k * w)) (take-add (k * w) w m) ∙ drop-at (take (k * w) m) _ (k * w) size
       ∙ ap (take w) (others-drop (k * w) g) ∙ others-take w (drop (k * w) g))
 
@@ -116,7 +116,7 @@ module _ (w : ℕ) (g : List Bool) (k : ℕ) (fits : k * w + w ≤ length g) whe
     row-some n =
         let x = rowAt w g k in
         let c : openCount x ≡ 0 → ⊥ = λ e. n (r .count ∙ e) in
-        let f : getD l (2 * k + 1) 0 ≡ firstMark 1 (others x) = r .first ∙ rw (ne-eqb (openCount x) 0 c) in
+        let f : getD l (2 * k + 1) 0 ≡ firstTrue 1 (others x) = r .first ∙ rw (ne-eqb (openCount x) 0 c) in
         let s = some-open (k * w) x c in
         omega (arith, row-first, row-length, first-shift 1 (others x), first-shift (k * w) (others x))
 
@@ -129,7 +129,7 @@ column-none g e = rw (eq-eqb (openCount g) 0 e)
 pub column-some : (g : List Bool) (e : ℕ) → length g ≡ e → (openCount g ≡ 0 → ⊥) → {n : ℕ} → n ≡ firstIn (others g) 0 e → n + 1 ≡ firstColumn g
 unfolding firstColumn firstIn
 column-some g e k c {n} h =
-    let t : firstIn (others g) 0 e ≡ firstMark 0 (others g) = ap (firstMark 0) (take-all e (others g) (omega (arith, length-others g))) in
+    let t : firstIn (others g) 0 e ≡ firstTrue 0 (others g) = ap (firstTrue 0) (take-all e (others g) (omega (arith, length-others g))) in
     rw (ne-eqb (openCount g) 0 c) (omega (arith, h, t, first-shift 1 (others g)))
 
 -- ---- settling by the list

@@ -9,10 +9,10 @@ ghost use Rattle.rules.specs.Cell.{same as sameList};
 ghost use Rattle.rules.specs.RowList.{openCount, firstColumn, rowList};
 ghost use Rattle.page.specs.RowList.{rowAt, AllBut, FirstRow};
 use crate::cell::is_guarded;
-use crate::search::first_marked;
+use crate::search::first_sought;
 use crate::search::row_end;
 use crate::search::row_of;
-use rules::Mark;
+use rules::Sought;
 
 fn open_cell(protect: bool, v: u16) -> u16
     ensures { λ r. ⌜ r ≡ openCount (guardedAt protect (v ∷ [])) ⌝ }
@@ -41,7 +41,7 @@ fn first_column(part: &[u16], protect: bool, count: u16) -> u16
     if count == 0 {
         return 0;
     }
-    first_marked(part, protect, Mark::Open, 0, part.len()) as u16 + 1
+    first_sought(part, protect, Sought::Open, 0, part.len()) as u16 + 1
 }
 
 // The numbers of one row.
@@ -143,7 +143,7 @@ fn first_in_row(page: &[u16], rows: &[u16], width: usize, protect: bool, from: u
     if from <= first {
         return first;
     }
-    first_marked(page, protect, Mark::Open, from, stop)
+    first_sought(page, protect, Sought::Open, from, stop)
 }
 
 // The first open cell from `from` up to the end of the row before `bottom`, or that end.

@@ -1,4 +1,4 @@
-// Searches: one loop up and one down over the marks of the cells, and the same over the tab stops.
+// Searches: one loop up and one down over the cells, and the same over the tab stops.
 ghost use mathlib.Core.Path.{_≡_};
 ghost use mathlib.Core.Bool.{true, false};
 ghost use Prim.Native.Nat.{ℕ, _+_, _-_, _*_, _/_, _<_, _≤_};
@@ -6,9 +6,9 @@ ghost use lib.Dec.{eqb};
 ghost use lib.ListN.{length, getD};
 ghost use Rattle.rules.specs.Cell.{either};
 ghost use Rattle.rules.specs.Row.{Width, rowEnd};
-ghost use Rattle.rules.specs.Search.{guardedAt, marksOf, firstIn, lastIn, around, aroundBack, settled, previousOpen, nextField, previousField, nextTab, previousTab, editEnd};
+ghost use Rattle.rules.specs.Search.{guardedAt, soughtAt, firstIn, lastIn, around, aroundBack, settled, previousOpen, nextField, previousField, nextTab, previousTab, editEnd};
 use crate::cell::is_guarded;
-use rules::Mark;
+use rules::Sought;
 
 pub fn is_guarded_at(page: &[u16], protect: bool, at: usize) -> bool
     requires { ⌜ at < length (now page) ⌝ }
@@ -33,7 +33,7 @@ fn is_start(page: &[u16], protect: bool, first: usize, at: usize) -> bool
 
 fn is_field_start(page: &[u16], protect: bool, first: usize, at: usize) -> bool
     requires { ⌜ at < length (now page) ⌝ }
-    ensures { λ r. ⌜ r ≡ getD (marksOf (Mark.FieldStart first) (guardedAt protect (now (page .entry)))) at false ⌝ }
+    ensures { λ r. ⌜ r ≡ getD (soughtAt (Sought.FieldStart first) (guardedAt protect (now (page .entry)))) at false ⌝ }
 {
     if is_guarded_at(page, protect, at) {
         false
@@ -43,25 +43,25 @@ fn is_field_start(page: &[u16], protect: bool, first: usize, at: usize) -> bool
 }
 
 // Whether the cell is what is looked for.
-fn is_marked(page: &[u16], protect: bool, mark: Mark, at: usize) -> bool
+fn is_sought(page: &[u16], protect: bool, sought: Sought, at: usize) -> bool
     requires { ⌜ at < length (now page) ⌝ }
-    ensures { λ r. ⌜ r ≡ getD (marksOf mark (guardedAt protect (now (page .entry)))) at false ⌝ }
+    ensures { λ r. ⌜ r ≡ getD (soughtAt sought (guardedAt protect (now (page .entry)))) at false ⌝ }
 {
-    match mark {
-        Mark::Open => !is_guarded_at(page, protect, at),
-        Mark::Guarded => is_guarded_at(page, protect, at),
-        Mark::FieldStart(first) => is_field_start(page, protect, first, at),
+    match sought {
+        Sought::Open => !is_guarded_at(page, protect, at),
+        Sought::Guarded => is_guarded_at(page, protect, at),
+        Sought::FieldStart(first) => is_field_start(page, protect, first, at),
     }
 }
 
-// The first marked cell from `from` up to `end`, or `end`.
-pub fn first_marked(page: &[u16], protect: bool, mark: Mark, from: usize, end: usize) -> usize
+// The first cell sought from `from` up to `end`, or `end`.
+pub fn first_sought(page: &[u16], protect: bool, sought: Sought, from: usize, end: usize) -> usize
     requires { ⌜ (from ≤ end) × (end ≤ length (now page)) ⌝ }
-    ensures { λ r. ⌜ r ≡ firstIn (marksOf mark (guardedAt protect (now (page .entry)))) from end ⌝ }
+    ensures { λ r. ⌜ r ≡ firstIn (soughtAt sought (guardedAt protect (now (page .entry)))) from end ⌝ }
 {
     let mut at = from;
     while at < end {
-        if is_marked(page, protect, mark, at) {
+        if is_sought(page, protect, sought, at) {
             return at;
         }
         at += 1;
@@ -69,65 +69,65 @@ pub fn first_marked(page: &[u16], protect: bool, mark: Mark, from: usize, end: u
     at
 }
 
-// The last marked cell from `first` up to `end`, or `none`.
-fn last_marked(
+// The last cell sought from `first` up to `end`, or `none`.
+fn last_sought(
     page: &[u16],
     protect: bool,
-    mark: Mark,
+    sought: Sought,
     first: usize,
     end: usize,
     none: usize,
 ) -> usize
     requires { ⌜ (first ≤ end) × (end ≤ length (now page)) ⌝ }
-    ensures { λ r. ⌜ r ≡ lastIn none (marksOf mark (guardedAt protect (now (page .entry)))) first end ⌝ }
+    ensures { λ r. ⌜ r ≡ lastIn none (soughtAt sought (guardedAt protect (now (page .entry)))) first end ⌝ }
 {
     let mut at = end;
     while first < at {
         at -= 1;
-        if is_marked(page, protect, mark, at) {
+        if is_sought(page, protect, sought, at) {
             return at;
         }
     }
     none
 }
 
-// The first marked cell at or after `from`, wrapping at `end` to `first`; `first` where there is none.
-fn marked_around(
+// The first cell sought at or after `from`, wrapping at `end` to `first`; `first` where there is none.
+fn sought_around(
     page: &[u16],
     protect: bool,
-    mark: Mark,
+    sought: Sought,
     first: usize,
     end: usize,
     from: usize,
 ) -> usize
     requires { ⌜ (first ≤ end) × ((from ≤ end) × (end ≤ length (now page))) ⌝ }
-    ensures { λ r. ⌜ r ≡ around (marksOf mark (guardedAt protect (now (page .entry)))) first end from ⌝ }
+    ensures { λ r. ⌜ r ≡ around (soughtAt sought (guardedAt protect (now (page .entry)))) first end from ⌝ }
 {
-    let after = first_marked(page, protect, mark, from, end);
+    let after = first_sought(page, protect, sought, from, end);
     if after < end {
         return after;
     }
-    let wrapped = first_marked(page, protect, mark, first, end);
+    let wrapped = first_sought(page, protect, sought, first, end);
     if wrapped < end { wrapped } else { first }
 }
 
-// The last marked cell before `from`, wrapping at `first` to `end`; `first` where there is none.
-fn marked_back(
+// The last cell sought before `from`, wrapping at `first` to `end`; `first` where there is none.
+fn sought_back(
     page: &[u16],
     protect: bool,
-    mark: Mark,
+    sought: Sought,
     first: usize,
     end: usize,
     from: usize,
 ) -> usize
     requires { ⌜ (first ≤ from) × ((from ≤ end) × (end ≤ length (now page))) ⌝ }
-    ensures { λ r. ⌜ r ≡ aroundBack (marksOf mark (guardedAt protect (now (page .entry)))) first end from ⌝ }
+    ensures { λ r. ⌜ r ≡ aroundBack (soughtAt sought (guardedAt protect (now (page .entry)))) first end from ⌝ }
 {
-    let before = last_marked(page, protect, mark, first, from, end);
+    let before = last_sought(page, protect, sought, first, from, end);
     if before < end {
         return before;
     }
-    last_marked(page, protect, mark, first, end, first)
+    last_sought(page, protect, sought, first, end, first)
 }
 
 fn both(a: bool, b: bool) -> bool
@@ -153,7 +153,7 @@ fn are_guarded(page: &[u16], protect: bool, at: usize) -> bool
 // A cell near the first open one from `from` up to `end`: guarded cells are passed by eights.
 fn near_open(page: &[u16], protect: bool, from: usize, end: usize) -> usize
     requires { ⌜ (from ≤ end) × (end ≤ length (now page)) ⌝ }
-    ensures { λ r. ⌜ (r ≤ end) × (firstIn (marksOf Mark.Open (guardedAt protect (now (page .entry)))) from end ≡ firstIn (marksOf Mark.Open (guardedAt protect (now (page .entry)))) r end) ⌝ }
+    ensures { λ r. ⌜ (r ≤ end) × (firstIn (soughtAt Sought.Open (guardedAt protect (now (page .entry)))) from end ≡ firstIn (soughtAt Sought.Open (guardedAt protect (now (page .entry)))) r end) ⌝ }
 {
     let mut at = from;
     while at + 8 <= end {
@@ -172,7 +172,7 @@ pub fn settle(page: &[u16], protect: bool, first: usize, end: usize, from: usize
 {
     if protect {
         let near = near_open(page, protect, from, end);
-        return marked_around(page, protect, Mark::Open, first, end, near);
+        return sought_around(page, protect, Sought::Open, first, end, near);
     }
     if from < end { from } else { first }
 }
@@ -182,7 +182,7 @@ pub fn previous_open(page: &[u16], protect: bool, first: usize, at: usize) -> us
     requires { ⌜ (first ≤ at) × (at ≤ length (now page)) ⌝ }
     ensures { λ r. ⌜ r ≡ previousOpen (guardedAt protect (now (page .entry))) first at ⌝ }
 {
-    last_marked(page, protect, Mark::Open, first, at, at)
+    last_sought(page, protect, Sought::Open, first, at, at)
 }
 
 // 09h with protect on: the next field start, wrapping.
@@ -190,7 +190,7 @@ pub fn next_field(page: &[u16], protect: bool, first: usize, end: usize, at: usi
     requires { ⌜ (first ≤ at) × ((at < end) × (end ≤ length (now page))) ⌝ }
     ensures { λ r. ⌜ r ≡ nextField (guardedAt protect (now (page .entry))) first end at ⌝ }
 {
-    marked_around(page, protect, Mark::FieldStart(first), first, end, at + 1)
+    sought_around(page, protect, Sought::FieldStart(first), first, end, at + 1)
 }
 
 // ESC I with protect on: the previous field start, wrapping.
@@ -198,7 +198,7 @@ pub fn previous_field(page: &[u16], protect: bool, first: usize, end: usize, at:
     requires { ⌜ (first ≤ at) × ((at < end) × (end ≤ length (now page))) ⌝ }
     ensures { λ r. ⌜ r ≡ previousField (guardedAt protect (now (page .entry))) first end at ⌝ }
 {
-    marked_back(page, protect, Mark::FieldStart(first), first, end, at)
+    sought_back(page, protect, Sought::FieldStart(first), first, end, at)
 }
 
 // A cell's row. Each division is by a number that is known when the program is built: these are fast.
@@ -222,7 +222,7 @@ pub fn edit_end(page: &[u16], width: usize, protect: bool, at: usize) -> usize
     requires { ⌜ Width width × ((length (now page) ≡ 24 * width) × (at < 24 * width)) ⌝ }
     ensures { λ r. ⌜ r ≡ editEnd width (guardedAt protect (now (page .entry))) at ⌝ }
 {
-    first_marked(page, protect, Mark::Guarded, at, row_end(width, at))
+    first_sought(page, protect, Sought::Guarded, at, row_end(width, at))
 }
 
 // 09h with protect off: the next tab stop to the right, or `column`.

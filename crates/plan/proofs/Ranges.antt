@@ -16,7 +16,7 @@ use Rattle.rules.specs.Search.{guardedAt, previousOpen, nextField, previousFiel
 use Rattle.rules.specs.State.{widthOf, pageLength, segmentStart, segmentEnd, cursorOf, Inside}
 use Rattle.rules.specs.Possible.{screenOk}
 use Rattle.rules.specs.Plan.{atTop}
-use Rattle.rules.proofs.Marks.{length-guards}
+use Rattle.rules.proofs.Searching.{length-guards}
 use Rattle.rules.proofs.Screens.{screen-inside}
 use Rattle.rules.proofs.Places.{in-back, in-next-field, in-previous-field}
 

@@ -8,13 +8,13 @@ use super::forms::plain;
 use super::forms::refusing;
 use super::forms::settling;
 use super::moves::address_plan;
-use super::moves::among;
 use rules::Answer;
 use rules::Core;
 use rules::Plan;
 use rules::Screen;
 use rules::Window;
 use state::core::with_screen;
+use state::logic::between;
 use state::screen::activated;
 use state::screen::cursor_of;
 use state::width::ADDRESSED;
@@ -84,7 +84,7 @@ fn place(core: Core, n: u8, r: u8, k: u8) -> Plan
 fn split(core: Core, r: u8) -> Plan
     ensures { λ p. ⌜ p ≡ windowPlan core (Window.Split r) ⌝ }
 {
-    if among(0x21, 23, r as u16) {
+    if between(0x21, 0x37, r) {
         return settling(
             with_screen(core, split_screen(core.screen.wide, r - 0x1f)),
             0,

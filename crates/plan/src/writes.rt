@@ -94,7 +94,7 @@ pub fn plan_store(page: &[u16], core: Core, k: Contents, attribute: u8) -> Plan
     if guarded_at(page, core.modes.protect, at) {
         return refusing(core, Answer::Barred);
     }
-    let v = written_cell(k, core.modes.mark, attribute);
+    let v = written_cell(k, core.modes.writeprotect, attribute);
     advancing(core, storing(core.modes.insert, at, v))
 }
 

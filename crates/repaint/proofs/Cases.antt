@@ -3,7 +3,7 @@
 use mathlib.Core.Path.{refl}
 use Rattle.rules.specs.Cell.{same}
 use Rattle.rules.specs.Row.{columns, rowEnd}
-use Rattle.rules.specs.Search.{marksBy, others, startsFrom, firstIn, lastIn, around, aroundBack}
+use Rattle.rules.specs.Search.{whichCells, others, startsFrom, firstIn, lastIn, around, aroundBack}
 use Rattle.rules.specs.Change.{within, filled}
 use Rattle.rules.specs.State.{segmentTop, segmentBottom, cursorOf, withCursor, changed, sendingAfter, gatheredAfter, setupAfter}
 use Rattle.rules.specs.Possible.{powerOn, unsplitOk, splitOk, screenOk, attributesOk, featuresOk, pendingOk, rememberedOk, sendingOk, noStops, coreOk, setupOk, possible, good}
@@ -44,7 +44,7 @@ worked-proposals = record {
 }
 
 pub worked-bytes : WorkedBytes
-unfolding same columns rowEnd marksBy others startsFrom firstIn lastIn around aroundBack within filled segmentTop segmentBottom cursorOf withCursor changed
+unfolding same columns rowEnd whichCells others startsFrom firstIn lastIn around aroundBack within filled segmentTop segmentBottom cursorOf withCursor changed
     sendingAfter gatheredAfter setupAfter powerOn unsplitOk splitOk screenOk attributesOk featuresOk pendingOk rememberedOk sendingOk noStops coreOk setupOk
     possible good isAttribute attributeContents attributeOf featurePlace allTextOf textOk textsOk lookup idleRule escapeRule judged digitRule
     decimalRowRule decimalColumnRule argumentRule decodeRule unlessGuarded scrolls addressPlan movePlan storing advancing storePlan takesCell attributePlan

@@ -17,7 +17,7 @@ use borrow.Author.Tests.{leb-false, ltb-false, eqb-true, eqb-false, eq-eqb, ne-e
 use Rattle.rules.specs.declared.Core.{Core}
 use Rattle.rules.specs.declared.Personality.{Personality}
 use Rattle.rules.specs.declared.State.{State}
-use Rattle.rules.specs.Cell.{both, among, same}
+use Rattle.rules.specs.Cell.{both, between, same}
 use Rattle.rules.specs.Row.{columns}
 use Rattle.rules.specs.State.{withScreen, sends}
 use Rattle.rules.specs.Possible.{powerOn, possible, good}
@@ -80,7 +80,7 @@ module _ (b : ℕ) (bs p : List ℕ) (s : State) where
 
   -- an answer that is not counted and does not stop is 0
   zero-of : good p s ≡ true → sends (s .sending) ≡ false → eqb (o .answer) 6 ≡ false → refusal (o .answer) ≡ 0 → o .answer ≡ 0
-  zero-of g u n r = by (either-way (among 1 4 (o .answer)))
+  zero-of g u n r = by (either-way (between 1 4 (o .answer)))
     where
       most : o .answer ≤ 6
       most = step-good-most p s b 0 g u
@@ -91,7 +91,7 @@ module _ (b : ℕ) (bs p : List ℕ) (s : State) where
       six : o .answer ≡ 6 → ⊥
       six = eqb-false (o .answer) 6 n
 
-      by : (among 1 4 (o .answer) ≡ true) ⊎ (among 1 4 (o .answer) ≡ false) → o .answer ≡ 0
+      by : (between 1 4 (o .answer) ≡ true) ⊎ (between 1 4 (o .answer) ≡ false) → o .answer ≡ 0
       by (inl t) = absurd (one (rw t at r))
         where
           one : _≡_ {A = ℕ} 1 0 → ⊥

@@ -32,7 +32,7 @@ module _ (a b : List ℕ) (size : length a ≡ 1920) where
   Left s = (s .column ≡ 1) ⊎ ((k : ℕ) → k + 1 ≡ first 80 s → Same k)
 
   abbrev Right : Span → Type 0
-  Right s = (s .column + s .length ≡ 81) ⊎ Same (after 80 s)
+  Right s = (s .column + s .size ≡ 81) ⊎ Same (after 80 s)
 
   record Ends (s : Span) : Type 0 where
     differs : (k : ℕ) → Covers 80 s k → Same k → ⊥

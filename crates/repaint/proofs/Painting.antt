@@ -35,7 +35,7 @@ use Rattle.rules.specs.declared.Setup.{Setup}
 use Rattle.rules.specs.declared.State.{State}
 use Rattle.rules.specs.declared.Write.{Write}
 use Rattle.rules.specs.declared.Write.the-variants as Write
-use Rattle.rules.specs.Cell.{pick, both, either, among, code, written}
+use Rattle.rules.specs.Cell.{pick, both, either, among, between, code, written}
 use Rattle.rules.specs.Row.{columns, rowOf, columnOf}
 use Rattle.rules.specs.State.{segmentTop, segmentBottom, cursorOf, withCursor, changed, sends, sendingAfter, gatheredAfter, setupAfter}
 use Rattle.rules.specs.Search.{guardedAt, others, settled}
@@ -48,7 +48,7 @@ use Rattle.rules.specs.Carry.{quiet, applied, landed, done, carried}
 use Rattle.rules.specs.Step.{Outcome, outcomeOf, obeyed, innerRule, stepRule}
 use Rattle.rules.proofs.Tests.{pick-if, both-parts, both-true, either-way, either-second}
 use Rattle.rules.proofs.Kept.{step-good}
-use Rattle.rules.proofs.Marks.{hit, around-here, length-guards, length-others, guard-at, open-at}
+use Rattle.rules.proofs.Searching.{hit, around-here, length-guards, length-others, guard-at, open-at}
 use Rattle.repaint.specs.Bytes.{powerOnAt, Leads, end, byte, AcceptsBytes}
 use Rattle.repaint.specs.Proposal.{Stretch, stretch, endsRow, lengthened, differing, shownAs, attributeCode, cellBytes, cellsBytes, lastShown, startBytes, stretchBytes, stretchesBytes, isText, allText, served, paintBytes}
 use Rattle.repaint.specs.Theorems.{Served}
@@ -84,7 +84,7 @@ fed-leads g (next {b} {bs} {p} {q} {r} {s} {t} u e x) =
 -- ---- the states on the way: as at power-on, but for the cursor, the attribute remembered and the sequence
 
 abbrev modesOn : Modes
-modesOn = record { protect = false; mark = false; insert = false; autoscroll = true; locked = false; local = false }
+modesOn = record { protect = false; writeprotect = false; insert = false; autoscroll = true; locked = false; local = false }
 
 abbrev screenAt : ℕ → Screen
 screenAt i = record { wide = false; active = 0; split = 0; cursor0 = i; cursor1 = 0 }
@@ -158,21 +158,21 @@ module _ (g : List ℕ) (u : Setup) where
   attribute-code a h = by (either-way (ltb a 16))
     where
       by : (ltb a 16 ≡ true) ⊎ (ltb a 16 ≡ false)
-          → (either (eqb (pick (ltb a 16) (0x30 + a) (0x70 + (a - 16))) 0x20) (either (among 0x30 16 (pick (ltb a 16) (0x30 + a) (0x70 + (a - 16)))) (among 0x70 15 (pick (ltb a 16) (0x30 + a) (0x70 + (a - 16))))) ≡ true)
+          → (either (eqb (pick (ltb a 16) (0x30 + a) (0x70 + (a - 16))) 0x20) (either (between 0x30 0x3f (pick (ltb a 16) (0x30 + a) (0x70 + (a - 16)))) (between 0x70 0x7e (pick (ltb a 16) (0x30 + a) (0x70 + (a - 16))))) ≡ true)
           × (((pick (ltb a 16) (0x30 + a) (0x70 + (a - 16))) % 16 + pick (ltb (pick (ltb a 16) (0x30 + a) (0x70 + (a - 16))) 0x70) 0 16 ≡ a)
           × ((pick (ltb a 16) (0x30 + a) (0x70 + (a - 16)) < 128) × (eqb (pick (ltb a 16) (0x30 + a) (0x70 + (a - 16))) 0x20 ≡ false)))
       by (inl e) =
           let l = ltb-true a 16 e in
-          let t : among 0x30 16 (0x30 + a) ≡ true = both-true (le-leb 0x30 (0x30 + a) (omega arith)) (lt-ltb (0x30 + a) 0x40 (omega arith)) in
+          let t : between 0x30 0x3f (0x30 + a) ≡ true = both-true (le-leb 0x30 (0x30 + a) (omega arith)) (lt-ltb (0x30 + a) 0x40 (omega arith)) in
           let s : ltb (0x30 + a) 0x70 ≡ true = lt-ltb (0x30 + a) 0x70 (omega arith) in
           let n : eqb (0x30 + a) 0x20 ≡ false = ne-eqb (0x30 + a) 0x20 (λ z. omega (arith, z)) in
           rw (e, n, t, s) (refl, (omega arith, (omega arith, refl)))
       by (inr e) =
           let l = ltb-false a 16 e in
-          let t : among 0x70 15 (0x70 + (a - 16)) ≡ true = both-true (le-leb 0x70 (0x70 + (a - 16)) (omega arith)) (lt-ltb (0x70 + (a - 16)) 0x7f (omega arith)) in
+          let t : between 0x70 0x7e (0x70 + (a - 16)) ≡ true = both-true (le-leb 0x70 (0x70 + (a - 16)) (omega arith)) (lt-ltb (0x70 + (a - 16)) 0x7f (omega arith)) in
           let s : ltb (0x70 + (a - 16)) 0x70 ≡ false = le-ltb (0x70 + (a - 16)) 0x70 (omega arith) in
           let n : eqb (0x70 + (a - 16)) 0x20 ≡ false = ne-eqb (0x70 + (a - 16)) 0x20 (λ z. omega (arith, z)) in
-          rw (e, n, t, s) (either-second (among 0x30 16 (0x70 + (a - 16))) refl, (omega arith, (omega arith, refl)))
+          rw (e, n, t, s) (either-second (between 0x30 0x3f (0x70 + (a - 16))) refl, (omega arith, (omega arith, refl)))
 
   module _ (a i b : ℕ) (p : List ℕ) (h : b < 31) where
     remembers : Fed (attributeCode b ∷ []) p (stateAt g u Personality.Wy60 a i (Pending.Awaits Argument.Attribute)) p (stateAt g u Personality.Wy60 b i Pending.Idle)

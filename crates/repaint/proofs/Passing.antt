@@ -69,20 +69,20 @@ all-not {p = true} {q = true} {r = true} {s = true} {t = false} f g h i j n = re
 all-not {p = true} {q = true} {r = true} {s = true} {t = true} f g h i j n = absurd (n (f refl) (g refl) (h refl) (i refl) (j refl))
 
 module _ (w : ℕ) (s : Span) where
-  pub fits-not : (1 ≤ s .row → s .row ≤ 24 → 1 ≤ s .column → 1 ≤ s .length → s .column + s .length ≤ w + 1 → ⊥) → false ≡ fits w s
+  pub fits-not : (1 ≤ s .row → s .row ≤ 24 → 1 ≤ s .column → 1 ≤ s .size → s .column + s .size ≤ w + 1 → ⊥) → false ≡ fits w s
   unfolding fits
-  fits-not n = all-not (leb-true 1 (s .row)) (leb-true (s .row) 24) (leb-true 1 (s .column)) (leb-true 1 (s .length)) (leb-true (s .column + s .length) (w + 1)) n
+  fits-not n = all-not (leb-true 1 (s .row)) (leb-true (s .row) 24) (leb-true 1 (s .column)) (leb-true 1 (s .size)) (leb-true (s .column + s .size) (w + 1)) n
 
-  pub fits-is : 1 ≤ s .row → s .row ≤ 24 → 1 ≤ s .column → 1 ≤ s .length → leb (s .column + s .length) (w + 1) ≡ fits w s
+  pub fits-is : 1 ≤ s .row → s .row ≤ 24 → 1 ≤ s .column → 1 ≤ s .size → leb (s .column + s .size) (w + 1) ≡ fits w s
   unfolding fits
-  fits-is f g h i = rw (le-leb 1 (s .row) f, le-leb (s .row) 24 g, le-leb 1 (s .column) h, le-leb 1 (s .length) i)
+  fits-is f g h i = rw (le-leb 1 (s .row) f, le-leb (s .row) 24 g, le-leb 1 (s .column) h, le-leb 1 (s .size) i)
 
 pub record Fits (w : ℕ) (s : Span) : Type 0 where
   pub top : 1 ≤ s .row
   pub bottom : s .row ≤ 24
   pub left : 1 ≤ s .column
-  pub some : 1 ≤ s .length
-  pub right : s .column + s .length ≤ w + 1
+  pub some : 1 ≤ s .size
+  pub right : s .column + s .size ≤ w + 1
 
 pub fits-parts : (w : ℕ) (s : Span) → fits w s ≡ true → Fits w s
 unfolding fits
@@ -90,11 +90,11 @@ fits-parts w s e =
     let p = both-parts (leb 1 (s .row)) _ e in
     let q = both-parts (leb (s .row) 24) _ (p .1) in
     let r = both-parts (leb 1 (s .column)) _ (q .1) in
-    let t = both-parts (leb 1 (s .length)) _ (r .1) in
+    let t = both-parts (leb 1 (s .size)) _ (r .1) in
     record { top = leb-true _ _ (p .0); bottom = leb-true _ _ (q .0); left = leb-true _ _ (r .0); some = leb-true _ _ (t .0); right = leb-true _ _ (t .1) }
 
 pub fits-whole : (w : ℕ) (s : Span) → Fits w s → true ≡ fits w s
-fits-whole w s f = sym (le-leb (s .column + s .length) (w + 1) (f .right)) ∙ fits-is w s (f .top) (f .bottom) (f .left) (f .some)
+fits-whole w s f = sym (le-leb (s .column + s .size) (w + 1) (f .right)) ∙ fits-is w s (f .top) (f .bottom) (f .left) (f .some)
 
 -- ---- which width
 pub eq-or-not : (m n : ℕ) → (m ≡ n) ⊎ (m ≡ n → ⊥)
@@ -159,13 +159,13 @@ lies-in : (m n w r c l : ℕ) → ((w ≡ 80) × (m ≡ 1920)) ⊎ ((w ≡ 132) 
 lies-in m n w r c l (inl x) e f g h i j = rw (x .0) (record { top = f; left = h; before = omega arith; column = omega (arith, x .0); short = omega (arith, x .0); ends = omega (arith, x .0, x .1); alike = e; most = omega (arith, x .1) })
 lies-in m n w r c l (inr x) e f g h i j = rw (x .0) (record { top = f; left = h; before = omega arith; column = omega (arith, x .0); short = omega (arith, x .0); ends = omega (arith, x .0, x .1); alike = e; most = omega (arith, x .1) })
 
-pub lies : (a b : List ℕ) (s : Span) (w r c : ℕ) → w ≡ pagesWidth a b → r ≡ s .row → c ≡ s .column → fits w s ≡ true → Lies (length a) (length b) w r c (s .length)
+pub lies : (a b : List ℕ) (s : Span) (w r c : ℕ) → w ≡ pagesWidth a b → r ≡ s .row → c ≡ s .column → fits w s ≡ true → Lies (length a) (length b) w r c (s .size)
 lies a b s w r c ew er ec f = rw (ew, er, ec) (by-case (widths a b))
   where
     fit : Fits (pagesWidth a b) s
     fit = rw ew at (fits-parts w s f)
 
-    by-case : ((pagesWidth a b ≡ 0) × ((w : ℕ) → Pages w a b → ⊥)) ⊎ Pages (pagesWidth a b) a b → Lies (length a) (length b) (pagesWidth a b) (s .row) (s .column) (s .length)
+    by-case : ((pagesWidth a b ≡ 0) × ((w : ℕ) → Pages w a b → ⊥)) ⊎ Pages (pagesWidth a b) a b → Lies (length a) (length b) (pagesWidth a b) (s .row) (s .column) (s .size)
     by-case (inl z) = absurd (omega (arith, z .0, fit .right, fit .left, fit .some))
     by-case (inr p) = lies-in _ _ _ _ _ _ (p .width) (p .alike) (fit .top) (fit .bottom) (fit .left) (fit .some) (fit .right)
 
@@ -188,7 +188,7 @@ module _ (a b : List ℕ) (next : ℕ) (s : Span) (w r c : ℕ) (f g : Bool) (ew
   pub turn-stops : g ≡ false → 4000 ≡ turned a b next s
   turn-stops gf = turn-differs a b next s (rw ew at (sym ef ∙ ft)) (rw (ew, er, ec) at (sym eg ∙ gf))
 
-  pub turn-goes : (l : ℕ) → l ≡ s .length → g ≡ true → (r - 1) * w + (c - 1) + l ≡ turned a b next s
+  pub turn-goes : (l : ℕ) → l ≡ s .size → g ≡ true → (r - 1) * w + (c - 1) + l ≡ turned a b next s
   turn-goes l el gt = rw (ew, er, ec, el) (turn-moves a b next s (rw ew at (sym ef ∙ ft)) (rw (ew, er, ec) at (sym eg ∙ gt)))
 
 -- ---- the end

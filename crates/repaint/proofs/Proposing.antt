@@ -22,7 +22,7 @@ use Rattle.rules.specs.Fields.{pageWidth, isPage}
 use Rattle.rules.specs.Carry.{landed}
 use Rattle.rules.specs.Convert.{Turned, converted, loses, stateOn, convertRule}
 use Rattle.rules.proofs.Tests.{both-parts, both-true, either-way}
-use Rattle.rules.proofs.Marks.{length-guards, guard-at}
+use Rattle.rules.proofs.Searching.{length-guards, guard-at}
 use Rattle.rules.proofs.Kept.{good-whole, powerOn-possible}
 use Rattle.rules.proofs.Convert.{converts, converted-length}
 use Rattle.repaint.specs.Spans.{Accepts, Pages}

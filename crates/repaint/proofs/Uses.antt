@@ -11,7 +11,7 @@ use Rattle.rules.specs.declared.Personality.{Personality}
 use Rattle.rules.specs.declared.Personality.the-variants as Personality
 use Rattle.rules.specs.Cell.{same}
 use Rattle.rules.specs.Row.{columns, rowEnd}
-use Rattle.rules.specs.Search.{marksBy, others, startsFrom, firstIn, lastIn, around, aroundBack}
+use Rattle.rules.specs.Search.{whichCells, others, startsFrom, firstIn, lastIn, around, aroundBack}
 use Rattle.rules.specs.Change.{within, filled}
 use Rattle.rules.specs.State.{segmentTop, segmentBottom, cursorOf, withCursor, changed, sendingAfter, gatheredAfter, setupAfter}
 use Rattle.rules.specs.Possible.{powerOn, unsplitOk, splitOk, screenOk, attributesOk, featuresOk, pendingOk, rememberedOk, sendingOk, noStops, coreOk}
@@ -95,7 +95,7 @@ unfolding pageWidth pagesWidth alike equal fits turned passed finished
 judged-alone = record { one = verdict normal-a reverse-a _; none = verdict normal-a reverse-a _ }
 
 painted-alone : PaintedAlone
-unfolding same columns rowEnd marksBy others startsFrom firstIn lastIn around aroundBack within filled segmentTop segmentBottom cursorOf withCursor
+unfolding same columns rowEnd whichCells others startsFrom firstIn lastIn around aroundBack within filled segmentTop segmentBottom cursorOf withCursor
     changed sendingAfter gatheredAfter setupAfter powerOn unsplitOk splitOk screenOk attributesOk featuresOk pendingOk rememberedOk sendingOk
     noStops coreOk setupOk possible good isAttribute attributeContents attributeOf featurePlace allTextOf textOk textsOk lookup idleRule escapeRule
     judged digitRule decimalRowRule decimalColumnRule argumentRule decodeRule unlessGuarded scrolls addressPlan movePlan storing advancing storePlan

@@ -120,7 +120,7 @@ module _ (a b : List ℕ) (pages : Pages (pagesWidth a b) a b) where
     in-order : (i j : ℕ) → i < j → j < length ss → first w (spanAt ss i) < first w (spanAt ss j)
     apart : (i j c : ℕ) → i < j → j < length ss → Covers w (spanAt ss i) c → Covers w (spanAt ss j) c → ⊥
     within : (i : ℕ) → i < length ss → Within w (spanAt ss i)
-    not-empty : (i : ℕ) → i < length ss → 1 ≤ spanAt ss i .length
+    not-empty : (i : ℕ) → i < length ss → 1 ≤ spanAt ss i .size
     covering : (c : ℕ) → k ≤ c → c < length a → (getD a c 0 ≡ getD b c 0 → ⊥) → (i : ℕ) × ((i < length ss) × Covers w (spanAt ss i) c)
 
   le-or-lt : (m n : ℕ) → (m ≤ n) ⊎ (n < m)
@@ -171,7 +171,7 @@ module _ (a b : List ℕ) (pages : Pages (pagesWidth a b) a b) where
         within′ zero x = record { top = f .top; bottom = f .bottom; left = f .left; right = f .right }
         within′ (suc i) x = r .within i (omega arith)
 
-        not-empty′ : (i : ℕ) → i < length (s ∷ ss) → 1 ≤ spanAt (s ∷ ss) i .length
+        not-empty′ : (i : ℕ) → i < length (s ∷ ss) → 1 ≤ spanAt (s ∷ ss) i .size
         not-empty′ zero x = f .some
         not-empty′ (suc i) x = r .not-empty i (omega arith)
 
@@ -300,7 +300,7 @@ spans-length (r ∷ rs) [] ls e f = absurd (omega arith)
 spans-length (r ∷ rs) (c ∷ cs) [] e f = absurd (omega arith)
 spans-length (r ∷ rs) (c ∷ cs) (l ∷ ls) e f = ap suc (spans-length rs cs ls (omega arith) (omega arith))
 
-pub spans-at : (rs cs ls : List ℕ) (i : ℕ) → i < length rs → length rs ≡ length cs → length rs ≡ length ls → record { row = getD rs i 0; column = getD cs i 0; length = getD ls i 0 } ≡ spanAt (spansOf rs cs ls) i
+pub spans-at : (rs cs ls : List ℕ) (i : ℕ) → i < length rs → length rs ≡ length cs → length rs ≡ length ls → record { row = getD rs i 0; column = getD cs i 0; size = getD ls i 0 } ≡ spanAt (spansOf rs cs ls) i
 spans-at [] cs ls i h e f = absurd (omega arith)
 spans-at (r ∷ rs) [] ls i h e f = absurd (omega arith)
 spans-at (r ∷ rs) (c ∷ cs) [] i h e f = absurd (omega arith)
@@ -308,7 +308,7 @@ spans-at (r ∷ rs) (c ∷ cs) (l ∷ ls) zero h e f = refl
 spans-at (r ∷ rs) (c ∷ cs) (l ∷ ls) (suc i) h e f = spans-at rs cs ls i (omega arith) (omega arith) (omega arith)
 
 module _ (a b rs cs ls : List ℕ) (next i : ℕ) (e : length rs ≡ length cs) (f : length rs ≡ length ls) (inv : passed a b next (drop i (spansOf rs cs ls)) ≡ passed a b 0 (spansOf rs cs ls)) where
-  pub lists-step : i < length rs → (next′ : ℕ) → next′ ≡ turned a b next (record { row = getD rs i 0; column = getD cs i 0; length = getD ls i 0 }) → passed a b next′ (drop (i + 1) (spansOf rs cs ls)) ≡ passed a b 0 (spansOf rs cs ls)
+  pub lists-step : i < length rs → (next′ : ℕ) → next′ ≡ turned a b next (record { row = getD rs i 0; column = getD cs i 0; size = getD ls i 0 }) → passed a b next′ (drop (i + 1) (spansOf rs cs ls)) ≡ passed a b 0 (spansOf rs cs ls)
   lists-step l next′ t = rw (t, spans-at rs cs ls i l e f, pass-step a b (spansOf rs cs ls) next i (omega (arith, spans-length rs cs ls e f))) inv
 
   pub lists-verdict : length rs ≤ i → (r : Verdict) → r ≡ finished a b next → ListsVerdict a b rs cs ls (verdictNumber r)

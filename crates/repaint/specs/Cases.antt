@@ -99,7 +99,7 @@ pub record WorkedBytes : Type 0 where
 
 -- the judge of spans, from all spaces to the page with attributes: it differs in the cells 0, 1, 3, 4 and 80
 abbrev pub span : ℕ → ℕ → ℕ → Span
-span row column length = record { row = row; column = column; length = length }
+span row column length = record { row = row; column = column; size = length }
 
 -- n rows from one on, each a span
 unfoldable pub rowsFrom : ℕ → ℕ → List Span

@@ -29,7 +29,7 @@ equal a b k e = both (leb k e) (alike a b k (e - k))
 -- a span that is not empty and lies within its row; none does at the width 0
 unfoldable pub fits : ℕ → Span → Bool
 fits w s = both (leb 1 (s .row)) (both (leb (s .row) height) (both (leb 1 (s .column))
-    (both (leb 1 (s .length)) (leb (s .column + s .length) (w + 1)))))
+    (both (leb 1 (s .size)) (leb (s .column + s .size) (w + 1)))))
 
 -- beyond every page: the place of a list that is refused
 abbrev pub beyond : ℕ

@@ -6,7 +6,7 @@ use Prim.Native.Nat.{ℕ, suc, _+_, _-_, _/_, _%_}
 use lib.Dec.{leb, ltb, eqb}
 use lib.ListN.{length, getD}
 use Rattle.rules.specs.declared.Personality.{Personality}
-use Rattle.rules.specs.Cell.{pick, both, among, code, normal}
+use Rattle.rules.specs.Cell.{pick, both, between, code, normal}
 use Rattle.rules.specs.Row.{addressed, narrowCells, rowOf, columnOf}
 use Rattle.rules.specs.Room.{over}
 use Rattle.rules.specs.Fields.{isPage}
@@ -41,7 +41,7 @@ differing at (x ∷ a) (y ∷ b) = let t = differing (suc at) a b in pick (eqb x
 
 -- "each a row, first column and length"
 abbrev pub spanOf : Stretch → Span
-spanOf s = record { row = rowOf addressed (s .start) + 1; column = columnOf addressed (s .start) + 1; length = length (s .cells) }
+spanOf s = record { row = rowOf addressed (s .start) + 1; column = columnOf addressed (s .start) + 1; size = length (s .cells) }
 
 -- ---- "its bytes ESC = to each start, then the cells, ESC G just before each whose attribute is not the remembered one"
 
@@ -80,7 +80,7 @@ stretchesBytes a (s ∷ l) = stretchBytes a s ++ stretchesBytes (lastShown a (s 
 
 -- "unprotected text of code 20h to 7Eh written by that personality"
 unfoldable pub isText : Personality → ℕ → Bool
-isText m v = both (rememberedOk m (shownAs v)) (among 0x20 95 (v % 1024))
+isText m v = both (rememberedOk m (shownAs v)) (between 0x20 0x7e (v % 1024))
 
 unfoldable pub allText : Personality → List ℕ → Bool
 allText m [] = true
@@ -105,7 +105,7 @@ abbrev pub columnsOf : List Stretch → List ℕ
 columnsOf l = map (λ s. spanOf s .column) l
 
 abbrev pub lengthsOf : List Stretch → List ℕ
-lengthsOf l = map (λ s. spanOf s .length) l
+lengthsOf l = map (λ s. spanOf s .size) l
 
 abbrev pub paintBytes : List ℕ → List ℕ → List ℕ
 paintBytes a b = stretchesBytes normal (stretches a b)

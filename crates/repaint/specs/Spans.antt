@@ -16,7 +16,7 @@ abbrev pub first : ℕ → Span → ℕ
 first w s = (s .row - 1) * w + (s .column - 1)
 
 abbrev pub after : ℕ → Span → ℕ
-after w s = first w s + s .length
+after w s = first w s + s .size
 
 -- the cells that a span covers
 abbrev pub Covers : ℕ → Span → ℕ → Type 0
@@ -27,11 +27,11 @@ pub record Within (w : ℕ) (s : Span) : Type 0 where
   pub top : 1 ≤ s .row
   pub bottom : s .row ≤ height
   pub left : 1 ≤ s .column
-  pub right : s .column + s .length ≤ w + 1
+  pub right : s .column + s .size ≤ w + 1
 
 -- the i-th of a list of spans, counted from 0; past the end a span that is never looked at
 abbrev pub none : Span
-none = record { row = 0; column = 0; length = 0 }
+none = record { row = 0; column = 0; size = 0 }
 
 abbrev pub spanAt : List Span → ℕ → Span
 spanAt spans i = getD spans i none
@@ -41,7 +41,7 @@ pub record Accepts (w : ℕ) (a b : List ℕ) (spans : List Span) : Type 0 where
   pub in-order : (i j : ℕ) → i < j → j < length spans → first w (spanAt spans i) < first w (spanAt spans j)
   pub apart : (i j k : ℕ) → i < j → j < length spans → Covers w (spanAt spans i) k → Covers w (spanAt spans j) k → ⊥
   pub within : (i : ℕ) → i < length spans → Within w (spanAt spans i)
-  pub not-empty : (i : ℕ) → i < length spans → 1 ≤ spanAt spans i .length
+  pub not-empty : (i : ℕ) → i < length spans → 1 ≤ spanAt spans i .size
   pub covering : (k : ℕ) → k < length a → (getD a k 0 ≡ getD b k 0 → ⊥) → (i : ℕ) × ((i < length spans) × Covers w (spanAt spans i) k)
 
 -- both pages have the length of a page of width w
@@ -66,7 +66,7 @@ abbrev pub spansOf : List ℕ → List ℕ → List ℕ → List Span
 spansOf [] cs ls = []
 spansOf (r ∷ rs) [] ls = []
 spansOf (r ∷ rs) (c ∷ cs) [] = []
-spansOf (r ∷ rs) (c ∷ cs) (l ∷ ls) = record { row = r; column = c; length = l } ∷ spansOf rs cs ls
+spansOf (r ∷ rs) (c ∷ cs) (l ∷ ls) = record { row = r; column = c; size = l } ∷ spansOf rs cs ls
 
 pub data ListsVerdict (a b rows columns lengths : List ℕ) : ℕ → Type 0 where
   parallel : {r : ℕ} → length rows ≡ length columns → length rows ≡ length lengths → SpansVerdict a b (spansOf rows columns lengths) r

@@ -22,7 +22,7 @@ spansFor a b = map spanOf (stretches a b)
 pub record Longest (a b : List ℕ) (s : Span) : Type 0 where
   pub differs : (k : ℕ) → Covers addressed s k → getD a k 0 ≡ getD b k 0 → ⊥
   pub left : (s .column ≡ 1) ⊎ ((k : ℕ) → k + 1 ≡ first addressed s → getD a k 0 ≡ getD b k 0)
-  pub right : (s .column + s .length ≡ addressed + 1) ⊎ (getD a (after addressed s) 0 ≡ getD b (after addressed s) 0)
+  pub right : (s .column + s .size ≡ addressed + 1) ⊎ (getD a (after addressed s) 0 ≡ getD b (after addressed s) 0)
 
 -- "both pages are 80 wide, hold only unprotected text of code 20h to 7Eh written by that personality, and end in equal cells"
 pub record Served (m : Personality) (a b : List ℕ) : Type 0 where

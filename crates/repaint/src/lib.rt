@@ -15,7 +15,7 @@ pub use painter::propose;
 pub struct Span {
     pub row: u16,
     pub column: u16,
-    pub length: u16,
+    pub size: u16,
 }
 
 // What a judge answers.
@@ -81,7 +81,7 @@ fn fits_row(width: usize, s: Span) -> bool
 {
     let row = wide(s.row);
     let column = wide(s.column);
-    let length = wide(s.length);
+    let length = wide(s.size);
     if row < 1 {
         return false;
     }
@@ -109,7 +109,7 @@ fn turn(before: &[u16], after: &[u16], next: usize, s: Span) -> usize
     if !same_cells(before, after, next, start) {
         return 4000;
     }
-    start + wide(s.length)
+    start + wide(s.size)
 }
 
 // After the last span: the cells that are left must be equal.
@@ -150,7 +150,7 @@ pub fn judge_lists(
         let s = Span {
             row: rows[i],
             column: columns[i],
-            length: lengths[i],
+            size: lengths[i],
         };
         next = turn(before, after, next, s);
         i += 1;

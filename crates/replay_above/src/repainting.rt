@@ -29,7 +29,7 @@ struct Reading {
     good: bool,
     row: u16,
     column: u16,
-    length: u16,
+    size: u16,
 }
 
 fn unread() -> Reading {
@@ -37,7 +37,7 @@ fn unread() -> Reading {
         good: false,
         row: 0,
         column: 0,
-        length: 0,
+        size: 0,
     }
 }
 
@@ -55,7 +55,7 @@ fn found(row: usize, column: usize, length: usize) -> Reading {
         good: true,
         row: row as u16,
         column: column as u16,
-        length: length as u16,
+        size: length as u16,
     }
 }
 
@@ -90,11 +90,11 @@ fn put_number(list: &mut [u16], n: usize, v: u16) {
 fn put_span(rows: &mut [u16], columns: &mut [u16], lengths: &mut [u16], n: usize, s: Reading) {
     put_number(rows, n, s.row);
     put_number(columns, n, s.column);
-    put_number(lengths, n, s.length);
+    put_number(lengths, n, s.size);
 }
 
-// Puts the spans that a word spells, parted by commas, to the front of three lists, and answers how many there are, also where the lists are too short;
-// NONE where it spells none.
+// Puts the spans that a word spells, parted by commas, to the front of three lists, and answers how many there are, also where the lists are too
+// short; NONE where it spells none.
 fn read_spans(word: &[u8], rows: &mut [u16], columns: &mut [u16], lengths: &mut [u16]) -> usize {
     let mut n = 0;
     let mut at = 0;

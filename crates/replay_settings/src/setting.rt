@@ -223,7 +223,7 @@ fn with_mode(m: Modes, i: usize, b: bool) -> Modes {
     let mut t = m;
     match i {
         0 => t.protect = b,
-        1 => t.mark = b,
+        1 => t.writeprotect = b,
         2 => t.insert = b,
         3 => t.autoscroll = b,
         4 => t.locked = b,

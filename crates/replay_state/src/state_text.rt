@@ -59,7 +59,7 @@ fn screen(out: &mut [u8], at: usize, s: Screen) -> usize {
 fn modes(out: &mut [u8], at: usize, m: Modes) -> usize {
     let numbers = [
         bit(m.protect),
-        bit(m.mark),
+        bit(m.writeprotect),
         bit(m.insert),
         bit(m.autoscroll),
         bit(m.locked),

@@ -6,7 +6,7 @@ use replay_text::trace::named_room;
 // The next field at or behind a cell.
 pub fn field(from: usize, page: &[u16], out: &mut [u8], at: usize) -> usize {
     let f = fields::next_field(page, from);
-    let numbers = [f.start, f.length, f.row, f.column];
+    let numbers = [f.start, f.size, f.row, f.column];
     form(out, at, b" start=# length=# row=# column=#", &numbers)
 }
 
@@ -26,7 +26,7 @@ pub fn field_text(
     at: usize,
 ) -> usize {
     let r = fields::field_text(room, page, start, trim);
-    text_result(out, at, r.answer, r.length, room)
+    text_result(out, at, r.answer, r.size, room)
 }
 
 pub fn row_text(
@@ -38,7 +38,7 @@ pub fn row_text(
     at: usize,
 ) -> usize {
     let r = fields::row_text(room, page, row, trim);
-    text_result(out, at, r.answer, r.length, room)
+    text_result(out, at, r.answer, r.size, room)
 }
 
 // The row and column of a cell, and the cell at a row and column, of a page of this length.

@@ -5,7 +5,7 @@ use mathlib.Core.Bool.{Bool, true, false}
 use mathlib.Core.List.{List, [], _∷_}
 use lib.Dec.{leb, ltb, eqb}
 use lib.ListN.{length, take, drop}
-use Rattle.rules.specs.Cell.{pick, both, among}
+use Rattle.rules.specs.Cell.{pick, both, between}
 
 -- stands for no number and no byte string
 abbrev pub none : ℕ
@@ -36,7 +36,7 @@ wordCount (c ∷ l) = parting c + wordCount l
 
 -- a decimal digit, or 10
 abbrev pub decimalDigit : ℕ → ℕ
-decimalDigit c = pick (among 0x30 10 c) (c - 0x30) 10
+decimalDigit c = pick (between 0x30 0x39 c) (c - 0x30) 10
 
 unfoldable pub areDigits : List ℕ → Bool
 areDigits [] = true
@@ -56,7 +56,7 @@ numberOf w = pick (both (ltb 0 (length w)) (both (areDigits w) (ltb (value 0 w) 
 
 -- a hexadecimal digit in lower case, or 16; the byte that two of them spell, or 256
 abbrev pub hexDigit : ℕ → ℕ
-hexDigit c = pick (among 0x30 10 c) (c - 0x30) (pick (among 0x61 6 c) (c - 0x61 + 10) 16)
+hexDigit c = pick (between 0x30 0x39 c) (c - 0x30) (pick (between 0x61 0x66 c) (c - 0x61 + 10) 16)
 
 abbrev pub hexByte : ℕ → ℕ → ℕ
 hexByte h l = pick (both (ltb (hexDigit h) 16) (ltb (hexDigit l) 16)) (hexDigit h * 16 + hexDigit l) 256

@@ -28,17 +28,17 @@ use Rattle.rules.specs.Search.{guardedAt, editEnd}
 use Rattle.rules.specs.Change.{within, filled, shifted, editShifted, rowsShifted, columnFilled}
 use Rattle.rules.specs.State.{widthOf, pageLength, idle, sends}
 use Rattle.rules.specs.Possible.{good}
-use Rattle.rules.specs.Good.{GoodWrite}
+use Rattle.rules.specs.theorems.Good.{GoodWrite}
 use Rattle.rules.specs.Decode.{decodeRule}
 use Rattle.rules.specs.Plan.{planRule}
 use Rattle.rules.specs.Carry.{Effect, applied, planWidth, done, begun, carried}
 use Rattle.rules.specs.Step.{Outcome, obeyed, innerRule, goesOn, stepInside, stepRule}
-use Rattle.rules.specs.Areas.{Area, areaFrom, areaTo, oneColumn, outside}
-use Rattle.rules.specs.Parts.{areaOf}
-use Rattle.rules.specs.Frames.{changes}
+use Rattle.rules.specs.theorems.Areas.{Area, areaFrom, areaTo, oneColumn, outside}
+use Rattle.rules.specs.theorems.Parts.{areaOf}
+use Rattle.rules.specs.theorems.Frames.{changes}
 use Rattle.rules.proofs.Tests.{pick-if, both-parts, either-parts}
 use Rattle.rules.proofs.Rows.{by-width, columns-width, rows-le, cell-inside, row-after, row-inside}
-use Rattle.rules.proofs.Marks.{length-guards, first-range}
+use Rattle.rules.proofs.Searching.{length-guards, first-range}
 use Rattle.rules.proofs.Lengths.{length-within, length-filled, length-shifted, length-applied}
 use Rattle.rules.proofs.Screens.{screen-inside}
 use Rattle.rules.proofs.Commands.{Kind}

@@ -2,7 +2,7 @@
 use mathlib.Core.Path.{refl}
 use Rattle.rules.specs.Cell.{same}
 use Rattle.rules.specs.Row.{columns, rowEnd}
-use Rattle.rules.specs.Search.{marksBy, others, startsFrom, firstIn, lastIn, around, aroundBack}
+use Rattle.rules.specs.Search.{whichCells, others, startsFrom, firstIn, lastIn, around, aroundBack}
 use Rattle.rules.specs.Change.{within, filled, shiftLeft, shiftRight, editShifted, rowsShifted, columnFilled}
 use Rattle.rules.specs.State.{segmentTop, segmentBottom, cursorOf, withCursor, withMode, changed, stored, sendingAfter, gatheredAfter, setupAfter}
 use Rattle.rules.specs.Possible.{powerOn, blank, unsplitOk, splitOk, screenOk, attributesOk, featuresOk, pendingOk, rememberedOk, placeOk, sendingOk, noStops, coreOk, setupOk, possible, good}
@@ -14,10 +14,10 @@ use Rattle.rules.specs.Send.{model, openCell, shortReply, each, cellPlac
 use Rattle.rules.specs.Carry.{applied, landed, done, begun, carried}
 use Rattle.rules.specs.Step.{obeyed, innerRule, goesOn, stepInside, stepRule}
 use Rattle.rules.specs.Calls.{joined, repeated, behind, runInside, runRule, keySends, pressRule, ofStep, ofRun, ofPress, callRule, after, play}
-use Rattle.rules.specs.Bench.{replies, answers, holds, allHold, casesHold, host, label, rowsOfSpaces, wholePage, table, BenchList}
+use Rattle.rules.specs.cases.Bench.{replies, answers, holds, allHold, casesHold, host, label, rowsOfSpaces, wholePage, table, BenchList}
 
 pub bench : BenchList
-unfolding same replies answers holds allHold casesHold host label rowsOfSpaces wholePage table columns rowEnd marksBy others startsFrom firstIn lastIn around aroundBack
+unfolding same replies answers holds allHold casesHold host label rowsOfSpaces wholePage table columns rowEnd whichCells others startsFrom firstIn lastIn around aroundBack
     within filled shiftLeft shiftRight editShifted rowsShifted columnFilled segmentTop segmentBottom cursorOf withCursor withMode changed stored sendingAfter gatheredAfter setupAfter
     powerOn blank unsplitOk splitOk screenOk isLabel slotOk slotEnd slotMost slotLow isText allText textOk textsOk isAttribute attributesOk featurePlace featuresOk isKey pendingOk rememberedOk placeOk sendingOk
     noStops coreOk setupOk possible good lookup idleRule escapeRule judged attributeContents attributeOf featureRule fieldRule splitRule digitRule decimalRowRule

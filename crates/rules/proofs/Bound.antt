@@ -36,9 +36,9 @@ use Rattle.rules.specs.Send.{cellPlace, textPlaces, followsLeftOut, text
 use Rattle.rules.specs.Carry.{Effect, done, begun, carried}
 use Rattle.rules.specs.Step.{obeyed, innerRule, Outcome, goesOn, stepInside, stepRule}
 use Rattle.rules.specs.Calls.{keySends, keyAt, Pressed, pressRule}
-use Rattle.rules.specs.Bound.{longest, ReplyBound}
-use Rattle.rules.specs.Inputs.{placedOn}
-use Rattle.rules.proofs.Tests.{pick-if, among-parts}
+use Rattle.rules.specs.theorems.Bound.{longest, ReplyBound}
+use Rattle.rules.specs.cases.Inputs.{placedOn}
+use Rattle.rules.proofs.Tests.{pick-if, between-parts}
 use Rattle.rules.proofs.Screens.{screen-inside}
 use Rattle.rules.proofs.Sends.{ok-good, not-sending, sent-fits, sent-bound, left-bound, sent-some, sent-full}
 use Rattle.rules.proofs.Good.{PlanKept}
@@ -98,7 +98,7 @@ module _ (p : List ℕ) (c : Core) (n : length p ≡ pageLength (c .screen)) (g 
   obeyed-bounded tabs (Decoded.Wait q) room e = silent refl refl refl
   obeyed-bounded tabs (Decoded.Gather x i b) room e = silent refl refl refl
   obeyed-bounded tabs (Decoded.Take x i) room e = silent refl refl refl
-  obeyed-bounded tabs (Decoded.Reject a) room e = silent refl (ne-eqb (number a) 6 (omega (arith, among-parts 2 3 (number a) e))) refl
+  obeyed-bounded tabs (Decoded.Reject a) room e = silent refl (ne-eqb (number a) 6 (omega (arith, between-parts 2 4 (number a) e))) refl
   obeyed-bounded tabs (Decoded.Do d) room e = carried-bounded _ room (planned-kept p c n g h tabs d)
 
   pub inner-bounded : (tabs : List Bool) (b room : ℕ) → Bounded (c .screen) room (innerRule p c tabs b room)

@@ -2,7 +2,7 @@
 use mathlib.Core.Path.{refl}
 use Rattle.rules.specs.Cell.{same}
 use Rattle.rules.specs.Row.{columns, rowEnd}
-use Rattle.rules.specs.Search.{marksBy, others, startsFrom, firstIn, lastIn, around, aroundBack}
+use Rattle.rules.specs.Search.{whichCells, others, startsFrom, firstIn, lastIn, around, aroundBack}
 use Rattle.rules.specs.Change.{within, filled, shiftLeft, shiftRight, editShifted, rowsShifted, columnFilled}
 use Rattle.rules.specs.State.{segmentTop, segmentBottom, cursorOf, withCursor, withMode, changed, stored, sendingAfter, gatheredAfter, setupAfter}
 use Rattle.rules.specs.Possible.{powerOn, blank, unsplitOk, splitOk, screenOk, attributesOk, featuresOk, pendingOk, rememberedOk, placeOk, sendingOk, noStops, coreOk, setupOk, possible, good}
@@ -15,33 +15,33 @@ use Rattle.rules.specs.Carry.{applied, landed, done, begun, carried}
 use Rattle.rules.specs.Step.{obeyed, innerRule, goesOn, stepInside, stepRule}
 use Rattle.rules.specs.Calls.{powerOnRule, joined, repeated, behind, runInside, runRule, keySends, pressRule, ofStep, ofRun, ofPress, callRule, after, play}
 use Rattle.rules.specs.Room.{over}
-use Rattle.rules.specs.Noninterference.{completes, runCompletes, insideCompletes, callCompletes, anyCompleted}
-use Rattle.rules.specs.Completed.{completesFrom, stepCompletes}
-use Rattle.rules.specs.Bench.{replies, answers, countsOf, restsOf, segmentsOf, modesOf, stopsFrom, sendNumbers, heldBytes, holds, allHold, casesHold, host, noneHold, wrongClaims}
-use Rattle.rules.specs.Inputs.{esc, goTo, labelled, halves, lower, threeLetters, lettersBelow, pageOf, cursorAt, protectAt, upperAt, placedOn, lowerAt, belled, fullKeys, typed, obeys, refuses, obeysFrom, refusesFrom}
-use Rattle.rules.specs.MovingCases.{movingCases}
-use Rattle.rules.specs.WritingCases.{writingBytes, writingCases}
-use Rattle.rules.specs.ReplyCases.{replyCases}
-use Rattle.rules.specs.CallCases.{callCases}
-use Rattle.rules.specs.LabelCases.{message, labelling, labelCases}
-use Rattle.rules.specs.SendCases.{twoFields, twoLabelRows, labelOverRowEnd, sendCases}
-use Rattle.rules.specs.NarrowCases.{form, twoRows, narrowCases}
+use Rattle.rules.specs.theorems.Noninterference.{completes, runCompletes, insideCompletes, callCompletes, anyCompleted}
+use Rattle.rules.specs.theorems.Completed.{completesFrom, stepCompletes}
+use Rattle.rules.specs.cases.Bench.{replies, answers, countsOf, restsOf, segmentsOf, modesOf, stopsFrom, sendNumbers, heldBytes, holds, allHold, casesHold, host, noneHold, wrongClaims}
+use Rattle.rules.specs.cases.Inputs.{esc, goTo, labelled, halves, lower, threeLetters, lettersBelow, pageOf, cursorAt, protectAt, upperAt, placedOn, lowerAt, belled, fullKeys, typed, obeys, refuses, obeysFrom, refusesFrom}
+use Rattle.rules.specs.cases.MovingCases.{movingCases}
+use Rattle.rules.specs.cases.WritingCases.{writingBytes, writingCases}
+use Rattle.rules.specs.cases.ReplyCases.{replyCases}
+use Rattle.rules.specs.cases.CallCases.{callCases}
+use Rattle.rules.specs.cases.LabelCases.{message, labelling, labelCases}
+use Rattle.rules.specs.cases.SendCases.{twoFields, twoLabelRows, labelOverRowEnd, sendCases}
+use Rattle.rules.specs.cases.NarrowCases.{form, twoRows, narrowCases}
 use Rattle.rules.specs.Next.{atEvent, toEvent, nextInside, nextRule, replyCommand}
-use Rattle.rules.specs.NextCases.{nextHolds, nextCasesHold, inSend, nextCases, nextRefuses, impossible}
+use Rattle.rules.specs.cases.NextCases.{nextHolds, nextCasesHold, inSend, nextCases, nextRefuses, impossible}
 use Rattle.rules.specs.RowList.{firstColumn, rowNumbers}
 use Rattle.rules.specs.RowCalls.{stepRowsRule, runRowsRule, nextRowsRule, rowsAfter, canRebuild, rowCallRule, rowAfter, rowPlay}
-use Rattle.rules.specs.RowCases.{rowsWith, openRows, rowHolds, rowCasesHold, fromPowerOn, rowCases}
-use Rattle.rules.specs.PersonalityCases.{as60, obeys60, refuses60, attr, graphic, flaggedCells, personalityCases}
-use Rattle.rules.specs.ByteCases.{span, lastAnswer, triedHold, bytesHold, low, high, digitBytes, attributeBytes, escapeBytes, firstBytes, argumentBytes, addressBytes, decimalBytes}
-use Rattle.rules.specs.PossibleCases.{placed, placedWide, keyed, labelledAt, messaged, attributed, featured, stopped, shiftedOn, remembering, gathering, possibleStates, impossibleStates, allPossible, nonePossible}
-use Rattle.rules.specs.Cases.{CaseList}
+use Rattle.rules.specs.cases.RowCases.{rowsWith, openRows, rowHolds, rowCasesHold, fromPowerOn, rowCases}
+use Rattle.rules.specs.cases.PersonalityCases.{as60, obeys60, refuses60, attr, graphic, flaggedCells, personalityCases}
+use Rattle.rules.specs.cases.ByteCases.{span, lastAnswer, triedHold, bytesHold, low, high, digitBytes, attributeBytes, escapeBytes, firstBytes, argumentBytes, addressBytes, decimalBytes}
+use Rattle.rules.specs.cases.PossibleCases.{placed, placedWide, keyed, labelledAt, messaged, attributed, featured, stopped, shiftedOn, remembering, gathering, possibleStates, impossibleStates, allPossible, nonePossible}
+use Rattle.rules.specs.cases.Cases.{CaseList}
 
 pub cases : CaseList
 unfolding completes runCompletes insideCompletes callCompletes anyCompleted completesFrom stepCompletes same replies answers heldBytes holds allHold casesHold host noneHold wrongClaims
     esc goTo labelled halves lower threeLetters lettersBelow pageOf cursorAt protectAt upperAt placedOn lowerAt belled fullKeys typed obeys refuses
     obeysFrom refusesFrom countsOf restsOf segmentsOf modesOf stopsFrom sendNumbers movingCases writingCases replyCases callCases twoFields twoLabelRows labelOverRowEnd sendCases form twoRows narrowCases as60 obeys60 refuses60 attr graphic flaggedCells personalityCases span lastAnswer
     triedHold bytesHold low high digitBytes attributeBytes writingBytes escapeBytes firstBytes argumentBytes addressBytes decimalBytes placed placedWide keyed
-    labelledAt messaged shiftedOn remembering gathering message labelling labelCases attributed featured stopped possibleStates impossibleStates allPossible nonePossible over powerOnRule columns rowEnd marksBy others
+    labelledAt messaged shiftedOn remembering gathering message labelling labelCases attributed featured stopped possibleStates impossibleStates allPossible nonePossible over powerOnRule columns rowEnd whichCells others
     startsFrom firstIn lastIn around aroundBack within filled shiftLeft shiftRight editShifted rowsShifted columnFilled segmentTop
     segmentBottom cursorOf withCursor withMode changed stored sendingAfter gatheredAfter setupAfter powerOn blank unsplitOk splitOk screenOk isLabel slotOk slotEnd slotMost slotLow isText allText textOk textsOk isAttribute
     attributesOk featurePlace featuresOk isKey pendingOk rememberedOk placeOk sendingOk noStops coreOk setupOk possible good lookup idleRule escapeRule judged attributeContents attributeOf

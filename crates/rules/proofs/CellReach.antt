@@ -22,9 +22,9 @@ use Rattle.rules.specs.declared.Contents.the-variants as Contents
 use Rattle.rules.specs.declared.Clear.the-variants as Clear
 use Rattle.rules.specs.declared.Decoded.{Decoded}
 use Rattle.rules.specs.declared.Decoded.the-variants as Decoded
-use Rattle.rules.specs.Cell.{pick, both, among, code, protected, kind, attribute, cell, written}
+use Rattle.rules.specs.Cell.{pick, both, between, code, protected, kind, attribute, cell, written}
 use Rattle.rules.specs.Row.{height, columns, rowOf, columnOf}
-use Rattle.rules.specs.Search.{marksBy, guardedAt}
+use Rattle.rules.specs.Search.{whichCells, guardedAt}
 use Rattle.rules.specs.Change.{within, filled}
 use Rattle.rules.specs.State.{segmentTop, segmentBottom, cursorOf, withModes, withAttribute, withMode, awaiting, changed, sends, sendingAfter, gatheredAfter, setupAfter}
 use Rattle.rules.specs.Arguments.{isFlags, isAttribute, attributeContents, attributeOf, featurePlace}
@@ -35,23 +35,23 @@ use Rattle.rules.specs.Plan.{unlessGuarded, storing, advancing, storePla
 use Rattle.rules.specs.Carry.{applied, landed, done, carried}
 use Rattle.rules.specs.Step.{Outcome, obeyed, innerRule, stepRule}
 use Rattle.rules.specs.Calls.{powerOnRule, joined, repeated, runRule, Call, callRule, after, play}
-use Rattle.rules.specs.Convert.{listed, cellFor, otherWidth, converted, loses, stateOn, Turned, convertRule}
-use Rattle.rules.specs.Reach.{attributeBytes}
+use Rattle.rules.specs.Convert.{tabulated, cellFor, otherWidth, converted, loses, stateOn, Turned, convertRule}
+use Rattle.rules.specs.theorems.Reach.{attributeBytes}
 use Rattle.rules.specs.Writable.{writable, AllWritable, none, more}
-use Rattle.rules.specs.CellReach.{markBytes, rememberBytes, leadBytes, cellBytes, Reached, powered, called, turned, CellReach}
-use Rattle.rules.proofs.Tests.{pick-if, both-parts, among-parts}
+use Rattle.rules.specs.theorems.CellReach.{protectBytes, rememberBytes, leadBytes, cellBytes, Reached, powered, called, turned, CellReach}
+use Rattle.rules.proofs.Tests.{pick-if, both-parts, between-parts}
 use Rattle.rules.proofs.ExcludedBytes.{values, below}
 use Rattle.rules.proofs.Kept.{powerOn-good, call-good, call-keeps}
 use Rattle.rules.proofs.Convert.{conversion}
 use Rattle.rules.proofs.RowSteps.{equal-results}
-use Rattle.rules.proofs.Numbers.{bit, normal-remembered, null-ok, flags-code, Kinds, is-null, is-text, is-graphic, is-free, is-marked, kinds}
+use Rattle.rules.proofs.Numbers.{bit, normal-remembered, null-ok, flags-code, Kinds, is-null, is-text, is-graphic, is-free, is-protected, kinds}
 use Rattle.rules.proofs.PageNumbers.{each-replicate, call-numbers, powered-numbers}
 
 -- ---- the bytes of a number
 
 -- power-on with write-protect mode, a remembered attribute and a sequence under way
 abbrev core : Personality → Bool → ℕ → Pending → Core
-core m p a q = awaiting (withAttribute (withModes (powerOn m .core) (record { protect = false; mark = p; insert = false; autoscroll = true; locked = false; local = false })) a) q
+core m p a q = awaiting (withAttribute (withModes (powerOn m .core) (record { protect = false; writeprotect = p; insert = false; autoscroll = true; locked = false; local = false })) a) q
 
 abbrev ready : Personality → Bool → ℕ → Pending → State
 ready m p a q = record { core = core m p a q; sending = powerOn m .sending; gathered = powerOn m .gathered; setup = powerOn m .setup }
@@ -95,12 +95,12 @@ module _ (m : Personality) (p : Bool) (a : ℕ) (h : rememberedOk m a ≡ true) 
   -- a store, and a clearing of the whole page
   store-writes : (k : Contents) (q : Pending) (n : ℕ)
       → getD (carried blank (core m p a q) (storePlan (guardedAt false blank) (core m p a Pending.Idle) k n) 1944 .page) 0 0 ≡ written k p n
-  unfolding carried done applied within filled storePlan unlessGuarded advancing storing marksBy cursorOf segmentTop segmentBottom columns powerOn blank
+  unfolding carried done applied within filled storePlan unlessGuarded advancing storing whichCells cursorOf segmentTop segmentBottom columns powerOn blank
   store-writes k q n = refl
 
   store-answers : (k : Contents) (q : Pending) (n : ℕ)
       → eqb (carried blank (core m p a q) (storePlan (guardedAt false blank) (core m p a Pending.Idle) k n) 1944 .answer) 6 ≡ false
-  unfolding carried done storePlan unlessGuarded advancing marksBy cursorOf segmentTop segmentBottom columns powerOn blank
+  unfolding carried done storePlan unlessGuarded advancing whichCells cursorOf segmentTop segmentBottom columns powerOn blank
   store-answers k q n = refl
 
   clear-writes : (k : Contents) (q : Pending)
@@ -112,19 +112,19 @@ module _ (m : Personality) (p : Bool) (a : ℕ) (h : rememberedOk m a ≡ true) 
   unfolding carried done clearPlan powerOn
   clear-answers k q = refl
 
-  text-left : (c : ℕ) → among 0x20 95 c ≡ true → getD (repeated (c ∷ []) blank (ready m p a Pending.Idle) 1944 .page) 0 0 ≡ written (Contents.Text c) p a
+  text-left : (c : ℕ) → between 0x20 0x7e c ≡ true → getD (repeated (c ∷ []) blank (ready m p a Pending.Idle) 1944 .page) 0 0 ≡ written (Contents.Text c) p a
   unfolding obeyed planRule pendingOk decodeRule idleRule
   text-left c e =
-      let r = among-parts 0x20 95 c e in
+      let r = between-parts 0x20 0x7e c e in
       let u = le-ltb c 0x20 (r .0) in
       let v = lt-ltb c 0x7f (r .1) in
       writes c _ Pending.Idle (omega arith) refl (rw (u, v) (store-writes (Contents.Text c) Pending.Idle a)) (rw (u, v) (store-answers (Contents.Text c) Pending.Idle a))
 
-  graphic-left : (c : ℕ) → among 0x30 16 c ≡ true
+  graphic-left : (c : ℕ) → between 0x30 0x3f c ≡ true
       → getD (repeated (c ∷ []) blank (ready m p a (Pending.Awaits Argument.Graphic)) 1944 .page) 0 0 ≡ written (Contents.Graphic c) p a
   unfolding obeyed planRule pendingOk decodeRule argumentRule judged
   graphic-left c e =
-      let r = among-parts 0x30 16 c e in
+      let r = between-parts 0x30 0x3f c e in
       let q = Pending.Awaits Argument.Graphic in
       writes c _ q (omega arith) refl (rw e (store-writes (Contents.Graphic c) q a)) (rw e (store-answers (Contents.Graphic c) q a))
 
@@ -138,10 +138,10 @@ free-left m c e =
     writes m false 0 (normal-remembered m) c _ q (r .0) refl (rw (r .1, e) (clear-writes m false 0 (normal-remembered m) (Contents.Attribute c) q))
     (rw (r .1, e) (clear-answers m false 0 (normal-remembered m) (Contents.Attribute c) q))
 
-marked-left : (p : Bool) (c : ℕ) → isFlags c ≡ true
+protected-left : (p : Bool) (c : ℕ) → isFlags c ≡ true
     → getD (repeated (c ∷ []) blank (ready Personality.Wy50 p 0 (Pending.Awaits Argument.Attribute)) 1944 .page) 0 0 ≡ written (Contents.Attribute c) p 0
 unfolding obeyed planRule pendingOk decodeRule argumentRule judged isAttribute attributeContents attributePlan takesCell powerOn
-marked-left p c e =
+protected-left p c e =
     let r = flags-code c e in
     let q = Pending.Awaits Argument.Attribute in
     let n = normal-remembered Personality.Wy50 in
@@ -150,11 +150,11 @@ marked-left p c e =
 
 -- ---- what comes before: write-protect mode, and the attribute
 
-marks : (m : Personality) (a : ℕ) → rememberedOk m a ≡ true → (bs : List ℕ)
+protects : (m : Personality) (a : ℕ) → rememberedOk m a ≡ true → (bs : List ℕ)
     → repeated (0x1b ∷ 0x29 ∷ bs) blank (ready m false a Pending.Idle) 1944 .page ≡ repeated bs blank (ready m true a Pending.Idle) 1944 .page
 unfolding stepRule innerRule obeyed sendingAfter gatheredAfter setupAfter changed powerOn decodeRule idleRule escapeRule lookup planRule withMode carried done landed applied
     pendingOk
-marks m a h bs =
+protects m a h bs =
     let j : stepRule blank (ready m false a Pending.Escape) 0x29 1944 ≡ quietly (ready m true a Pending.Idle) =
     rw (good-ready m false a Pending.Escape h refl) in
     waits m false a h 0x1b (0x29 ∷ bs) Pending.Idle Pending.Escape (lit< tt) refl refl
@@ -195,9 +195,9 @@ remembered Personality.Wy60 p a h bs =
     remembers p (codeOf a) (t .0) bs ∙ ap (λ (n : ℕ). repeated bs blank (ready Personality.Wy60 p n Pending.Idle) 1944 .page) (eqb-true (attributeOf (codeOf a)) a (t .1)))
 
 prepared : (m : Personality) (p : Bool) (a : ℕ) → rememberedOk m a ≡ true → (bs : List ℕ)
-    → repeated (markBytes p ++ (rememberBytes a ++ bs)) blank (powerOn m) 1944 .page ≡ repeated bs blank (ready m p a Pending.Idle) 1944 .page
-unfolding markBytes powerOn
-prepared m true a h bs = marks m 0 (normal-remembered m) (rememberBytes a ++ bs) ∙ remembered m true a h bs
+    → repeated (protectBytes p ++ (rememberBytes a ++ bs)) blank (powerOn m) 1944 .page ≡ repeated bs blank (ready m p a Pending.Idle) 1944 .page
+unfolding protectBytes powerOn
+prepared m true a h bs = protects m 0 (normal-remembered m) (rememberBytes a ++ bs) ∙ remembered m true a h bs
 prepared m false a h bs = remembered m false a h bs
 
 -- ---- the number
@@ -247,22 +247,22 @@ free m v k c =
     left-by m v (ready m false 0 q) (λ z. omega arith) (rw a n)
     (rw (kind-1 v (omega arith), p, a) (escapes m false 0 n 0x21 (code v ∷ []) q (lit< tt) refl)) (free-left m (code v) c ∙ d)
 
-marked : (v : ℕ) → v / 128 ≡ 3 → isFlags (code v) ≡ true → getD (runRule blank (powerOn Personality.Wy50) (cellBytes v) 1944 .page) 0 0 ≡ v
+protected-attribute : (v : ℕ) → v / 128 ≡ 3 → isFlags (code v) ≡ true → getD (runRule blank (powerOn Personality.Wy50) (cellBytes v) 1944 .page) 0 0 ≡ v
 unfolding leadBytes escapeRule lookup
-marked v k c =
+protected-attribute v k c =
     let p : protected v ≡ true = eq-eqb (v / 128 % 2) 1 (omega arith) in
     let a : attribute v ≡ 0 = omega arith in
     let n = normal-remembered Personality.Wy50 in
     let q = Pending.Awaits Argument.Attribute in
     let d : v % 128 + 128 + 256 * 1 + 1024 * 0 ≡ v = omega arith in
     left-by Personality.Wy50 v (ready Personality.Wy50 true 0 q) (λ z. omega arith) (rw a n)
-    (rw (kind-1 v (omega arith), p, a) (escapes Personality.Wy50 true 0 n 0x47 (code v ∷ []) q (lit< tt) refl)) (marked-left true (code v) c ∙ d)
+    (rw (kind-1 v (omega arith), p, a) (escapes Personality.Wy50 true 0 n 0x47 (code v ∷ []) q (lit< tt) refl)) (protected-left true (code v) c ∙ d)
 
 by-kind : (m : Personality) (v : ℕ) → Kinds m v → getD (runRule blank (powerOn m) (cellBytes v) 1944 .page) 0 0 ≡ v
 unfolding leadBytes escapeRule lookup cellBytes repeated blank
 by-kind m v (is-null e) = rw e (ap (λ (p : List ℕ). getD p 0 0) (run-bytes m []))
 by-kind m v (is-text l h k c) =
-    let r = among-parts 0x20 95 (code v) c in
+    let r = between-parts 0x20 0x7e (code v) c in
     left-by m v (ready m (protected v) (attribute v) Pending.Idle) (λ z. omega arith) h (rw (kind-0 v k))
     (text-left m (protected v) (attribute v) h (code v) c ∙ whole v 0 l k)
 by-kind m v (is-graphic l h k c) =
@@ -270,14 +270,14 @@ by-kind m v (is-graphic l h k c) =
     (rw (kind-2 v k) (escapes m (protected v) (attribute v) h 0x48 (code v ∷ []) (Pending.Awaits Argument.Graphic) (lit< tt) refl))
     (graphic-left m (protected v) (attribute v) h (code v) c ∙ whole v 2 l k)
 by-kind m v (is-free k c) = free m v k c
-by-kind m v (is-marked e k c) =
-    subst (λ (m : Personality). getD (runRule blank (powerOn m) (cellBytes v) 1944 .page) 0 0 ≡ v) (sym e) (marked v k c)
+by-kind m v (is-protected e k c) =
+    subst (λ (m : Personality). getD (runRule blank (powerOn m) (cellBytes v) 1944 .page) 0 0 ≡ v) (sym e) (protected-attribute v k c)
 
 -- ---- and no other
 
 module _ {m : Personality} where
-  each-listed : (f : ℕ → ℕ) → ((i : ℕ) → writable m (f i) ≡ true) → (i n : ℕ) → AllWritable m (listed f i n)
-  unfolding listed
+  each-listed : (f : ℕ → ℕ) → ((i : ℕ) → writable m (f i) ≡ true) → (i n : ℕ) → AllWritable m (tabulated f i n)
+  unfolding tabulated
   each-listed f h i zero = none
   each-listed f h i (suc n) = more (h i) (each-listed f h (suc i) n)
 

@@ -21,15 +21,15 @@ use Rattle.rules.specs.declared.Write.{Write}
 use Rattle.rules.specs.declared.Write.the-variants as Write
 use Rattle.rules.specs.declared.SetupChange.{SetupChange}
 use Rattle.rules.specs.declared.SetupChange.the-variants as SetupChange
-use Rattle.rules.specs.Cell.{both, either, among, normal, space}
+use Rattle.rules.specs.Cell.{both, either, between, normal, space}
 use Rattle.rules.specs.Row.{columns}
 use Rattle.rules.specs.State.{cursorOf}
 use Rattle.rules.specs.Arguments.{isFlags, isAttribute, featurePlace}
 use Rattle.rules.specs.Plan.{unlessGuarded, unlessWide, clearPlan, settingPlan, sendPlan, excludedPlan}
 use Rattle.rules.specs.Send.{commandOf}
 use Rattle.rules.specs.Writable.{writable}
-use Rattle.rules.specs.Parts.{Part}
-use Rattle.rules.specs.Frames.{commandParts}
+use Rattle.rules.specs.theorems.Parts.{Part}
+use Rattle.rules.specs.theorems.Frames.{commandParts}
 
 -- ---- arguments
 
@@ -46,7 +46,7 @@ writeOk m (Write.Rows down top bottom) = writable m space
 abbrev pub atPowerOn : Core
 atPowerOn = record {
   screen = record { wide = false; active = 0; split = 0; cursor0 = 0; cursor1 = 0 };
-  modes = record { protect = false; mark = false; insert = false; autoscroll = true; locked = false; local = false };
+  modes = record { protect = false; writeprotect = false; insert = false; autoscroll = true; locked = false; local = false };
   bells = 0;
   pending = Pending.Idle;
   personality = Personality.Wy50;
@@ -70,12 +70,12 @@ settingOk x = changeOk 80 (settingPlan atPowerOn x .change)
 
 -- contents that are stored, text or a graphic, and such as clearing writes: text, nulls or attributes
 unfoldable pub storeOk : Contents → Bool
-storeOk (Contents.Text c) = among 0x20 95 c
+storeOk (Contents.Text c) = between 0x20 0x7e c
 storeOk (Contents.Attribute c) = false
-storeOk (Contents.Graphic c) = among 0x30 16 c
+storeOk (Contents.Graphic c) = between 0x30 0x3f c
 
 unfoldable pub fillOk : Contents → Bool
-fillOk (Contents.Text c) = either (eqb c 0) (among 0x20 95 c)
+fillOk (Contents.Text c) = either (eqb c 0) (between 0x20 0x7e c)
 fillOk (Contents.Attribute c) = isFlags c
 fillOk (Contents.Graphic c) = false
 

@@ -21,8 +21,8 @@ use Rattle.rules.specs.State.{isIdle, sends}
 use Rattle.rules.specs.Possible.{good}
 use Rattle.rules.specs.Step.{goesOn, stepRule}
 use Rattle.rules.specs.Calls.{Ran, ended, joined, repeated, behind, runInside, runRule, Call, Step, Run, Press, callRule, Given, Played, after, play}
-use Rattle.rules.specs.Noninterference.{afterEscape, anyOf, excludedBytes, completes, runCompletes, insideCompletes, callCompletes, anyCompleted}
-use Rattle.rules.specs.Completed.{OneOfSix, protect-off, clear-nulls, clear-spaces, clear-protected, send-row, send-segment, Completing, CompletedInRun, CompletedIn, in-step, in-run, Completed, Characterised, UnlessCompleted, NoneCompleted}
+use Rattle.rules.specs.theorems.Noninterference.{afterEscape, anyOf, excludedBytes, completes, runCompletes, insideCompletes, callCompletes, anyCompleted}
+use Rattle.rules.specs.theorems.Completed.{OneOfSix, protect-off, clear-nulls, clear-spaces, clear-protected, send-row, send-segment, Completing, CompletedInRun, CompletedIn, in-step, in-run, Completed, Characterised, UnlessCompleted, NoneCompleted}
 use Rattle.rules.proofs.Tests.{either-way, both-parts, both-true}
 use Rattle.rules.proofs.Sends.{sending-idle}
 use Rattle.rules.proofs.Kept.{possible-parts, good-parts}

@@ -23,32 +23,33 @@ use Rattle.rules.specs.Search.{guardedAt}
 use Rattle.rules.specs.State.{widthOf, segmentTop, segmentBottom, withCursor, withScreen, withTabs, sends}
 use Rattle.rules.specs.Possible.{noStops, sendingOk, good}
 use Rattle.rules.specs.Plan.{unsplitScreen}
-use Rattle.rules.specs.Good.{GoodLand}
+use Rattle.rules.specs.theorems.Good.{GoodLand}
 use Rattle.rules.specs.Carry.{landed}
-use Rattle.rules.specs.Convert.{listed, cellFor, otherWidth, converted, loses, coreOn, stopsWithin, stateOn, homeOn, Turned, unturned, convertRule, Back, Lost, Conversion}
+use Rattle.rules.specs.Convert.{tabulated, cellFor, otherWidth, converted, loses, coreOn, stopsWithin, stateOn, Turned, unturned, convertRule}
+use Rattle.rules.specs.theorems.Conversion.{homeOn, Back, Lost, Conversion}
 use Rattle.rules.proofs.Tests.{both-parts}
 use Rattle.rules.proofs.Rows.{columns-width, by-width, cell-inside}
-use Rattle.rules.proofs.Marks.{length-guards}
+use Rattle.rules.proofs.Searching.{length-guards}
 use Rattle.rules.proofs.Screens.{unsplit-screen}
 use Rattle.rules.proofs.Sends.{not-sending}
 use Rattle.rules.proofs.Kept.{PossibleCore, PossibleState, good-parts, good-whole, possible-parts, possible-whole, landed-kept}
 
 -- ---- numbers listed by a function
 
-pub listed-length : (f : ℕ → ℕ) (i n : ℕ) → length (listed f i n) ≡ n
-unfolding listed
+pub listed-length : (f : ℕ → ℕ) (i n : ℕ) → length (tabulated f i n) ≡ n
+unfolding tabulated
 listed-length f i zero = refl
 listed-length f i (suc n) = ap suc (listed-length f (suc i) n)
 
-pub listed-at : (f : ℕ → ℕ) (i n k : ℕ) → k < n → getD (listed f i n) k 0 ≡ f (i + k)
-unfolding listed
+pub listed-at : (f : ℕ → ℕ) (i n k : ℕ) → k < n → getD (tabulated f i n) k 0 ≡ f (i + k)
+unfolding tabulated
 listed-at f i zero k h = absurd (omega arith)
 listed-at f i (suc n) zero h = let e : i + 0 ≡ i = omega arith in rw e
 listed-at f i (suc n) (suc k) h = let e : i + suc k ≡ suc i + k = omega arith in rw e (listed-at f (suc i) n k (omega arith))
 
 -- a list is that of its numbers
-pub listed-is : (f : ℕ → ℕ) (i : ℕ) (l : List ℕ) → ((k : ℕ) → k < length l → f (i + k) ≡ getD l k 0) → listed f i (length l) ≡ l
-unfolding listed
+pub listed-is : (f : ℕ → ℕ) (i : ℕ) (l : List ℕ) → ((k : ℕ) → k < length l → f (i + k) ≡ getD l k 0) → tabulated f i (length l) ≡ l
+unfolding tabulated
 listed-is f i [] h = refl
 listed-is f i (x ∷ l) h =
     let e : i + 0 ≡ i = omega arith in
@@ -335,9 +336,9 @@ back-cell p k h =
 back-page : (p : List ℕ) → length p ≡ 1920 → converted true (converted false p) ≡ p
 back-page p n =
     let f = cellFor 132 80 (converted false p) in
-    by-narrow (converted false p) ∙ (ap (listed f 0) (sym n) ∙ listed-is f 0 p (λ k h. ap f (zero-add k) ∙ back-cell p k (omega arith)))
+    by-narrow (converted false p) ∙ (ap (tabulated f 0) (sym n) ∙ listed-is f 0 p (λ k h. ap f (zero-add k) ∙ back-cell p k (omega arith)))
   where
-    by-narrow : (q : List ℕ) → converted true q ≡ listed (cellFor 132 80 q) 0 1920
+    by-narrow : (q : List ℕ) → converted true q ≡ tabulated (cellFor 132 80 q) 0 1920
     by-narrow q = unfold converted columns in refl
 
 -- a widened page loses nothing

@@ -2,7 +2,7 @@
 use mathlib.Core.Path.{refl}
 use Rattle.rules.specs.Cell.{same}
 use Rattle.rules.specs.Row.{columns, rowEnd}
-use Rattle.rules.specs.Search.{marksBy, others, startsFrom, firstIn, lastIn, around, aroundBack}
+use Rattle.rules.specs.Search.{whichCells, others, startsFrom, firstIn, lastIn, around, aroundBack}
 use Rattle.rules.specs.Change.{within, filled, shiftLeft, shiftRight, editShifted, rowsShifted, columnFilled}
 use Rattle.rules.specs.State.{segmentTop, segmentBottom, cursorOf, withCursor, withMode, changed, stored, sendingAfter, gatheredAfter, setupAfter}
 use Rattle.rules.specs.Possible.{powerOn, blank, unsplitOk, splitOk, screenOk, attributesOk, featuresOk, pendingOk, rememberedOk, placeOk, sendingOk, noStops, coreOk, setupOk, possible, good}
@@ -14,16 +14,16 @@ use Rattle.rules.specs.Send.{model, openCell, shortReply, each, cellPlac
 use Rattle.rules.specs.Carry.{applied, landed, done, begun, carried}
 use Rattle.rules.specs.Step.{obeyed, innerRule, goesOn, stepInside, stepRule}
 use Rattle.rules.specs.Calls.{joined, repeated, behind, runInside, runRule, keySends, pressRule, ofStep, ofRun, ofPress, callRule, after, play}
-use Rattle.rules.specs.Bench.{replies, answers, countsOf, restsOf, segmentsOf, modesOf, stopsFrom, sendNumbers, holds, allHold, casesHold, host}
-use Rattle.rules.specs.Inputs.{pageOf, cursorAt, protectAt, placedOn}
-use Rattle.rules.specs.ByteCases.{span}
-use Rattle.rules.specs.PossibleCases.{gathering}
-use Rattle.rules.specs.Wide.{widePage, wideAt, wideProtectAt}
-use Rattle.rules.specs.Convert.{listed, cellFor, converted, loses, stateOn, convertRule}
-use Rattle.rules.specs.ConvertCases.{givenBy, convertsHold, refused, oneAt, convertCases, stopsAt, busy, ConvertList}
+use Rattle.rules.specs.cases.Bench.{replies, answers, countsOf, restsOf, segmentsOf, modesOf, stopsFrom, sendNumbers, holds, allHold, casesHold, host}
+use Rattle.rules.specs.cases.Inputs.{pageOf, cursorAt, protectAt, placedOn}
+use Rattle.rules.specs.cases.ByteCases.{span}
+use Rattle.rules.specs.cases.PossibleCases.{gathering}
+use Rattle.rules.specs.cases.Wide.{widePage, wideAt, wideProtectAt}
+use Rattle.rules.specs.Convert.{tabulated, cellFor, converted, loses, stateOn, convertRule}
+use Rattle.rules.specs.cases.ConvertCases.{givenBy, convertsHold, refused, oneAt, convertCases, stopsAt, busy, ConvertList}
 
 pub convert-cases : ConvertList
-unfolding same columns rowEnd marksBy others startsFrom firstIn lastIn around aroundBack within filled shiftLeft shiftRight editShifted
+unfolding same columns rowEnd whichCells others startsFrom firstIn lastIn around aroundBack within filled shiftLeft shiftRight editShifted
     rowsShifted columnFilled segmentTop segmentBottom cursorOf withCursor withMode changed stored sendingAfter gatheredAfter setupAfter
     powerOn blank unsplitOk splitOk screenOk attributesOk featuresOk pendingOk rememberedOk placeOk sendingOk noStops coreOk setupOk
     possible good isAttribute attributeContents attributeOf featurePlace isKey isLabel slotOk slotEnd slotMost slotLow isText allText textOk
@@ -33,7 +33,7 @@ unfolding same columns rowEnd marksBy others startsFrom firstIn lastIn around ar
     unlessWide sendPlan excludedPlan planRule model openCell shortReply each cellPlace textPlaces followsLeftOut textAt places bytesOf
     beyond standing sentFrom leftFrom applied landed done begun carried obeyed innerRule goesOn stepInside stepRule joined repeated behind
     runInside runRule keySends pressRule ofStep ofRun ofPress callRule after play replies answers countsOf restsOf segmentsOf modesOf
-    stopsFrom sendNumbers holds allHold casesHold host pageOf cursorAt protectAt placedOn span gathering widePage wideAt wideProtectAt listed cellFor
+    stopsFrom sendNumbers holds allHold casesHold host pageOf cursorAt protectAt placedOn span gathering widePage wideAt wideProtectAt tabulated cellFor
     converted loses stateOn convertRule givenBy convertsHold refused oneAt convertCases stopsAt busy
 convert-cases = record {
   cases = refl;

@@ -23,14 +23,14 @@ use Rattle.rules.specs.declared.Clear.the-variants as Clear
 use Rattle.rules.specs.declared.Personality.the-variants as Personality
 use Rattle.rules.specs.declared.Decoded.{Decoded}
 use Rattle.rules.specs.declared.Decoded.the-variants as Decoded
-use Rattle.rules.specs.Cell.{both, either, among}
+use Rattle.rules.specs.Cell.{both, either, between}
 use Rattle.rules.specs.State.{number}
 use Rattle.rules.specs.Arguments.{isAttribute, attributeContents, featurePlace, isKey, isLabel}
 use Rattle.rules.specs.Slot.{slotOk, slotEnd, slotMost, slotLow, isText, allText, textOk}
 use Rattle.rules.specs.Possible.{rememberedOk, pendingOk}
 use Rattle.rules.specs.Writable.{isStored, writable}
 use Rattle.rules.specs.Decode.{lookup, controls, escapes, idleRule, escapeRule, judged, featureRule, fieldRule, splitRule, digitRule, decimalRowRule, decimalColumnRule, slotRule, textRule, spoiltRule, argumentRule, decodeRule}
-use Rattle.rules.proofs.Tests.{pick-if, both-parts, both-true, among-parts}
+use Rattle.rules.proofs.Tests.{pick-if, both-parts, both-true, between-parts}
 use Rattle.rules.proofs.Commands.{settingOk, storeOk, fillOk, clearOk, kindOf}
 use Rattle.rules.proofs.Numbers.{filled-ok}
 use Rattle.rules.proofs.Texts.{text-begun, text-grown}
@@ -40,7 +40,7 @@ unfoldable pub decodedOk : List ℕ → Decoded → Bool
 decodedOk g (Decoded.Wait r) = pendingOk r g
 decodedOk g (Decoded.Gather x n b) = pendingOk (Pending.Text x (n + 1)) (set g n b)
 decodedOk g (Decoded.Take x n) = pendingOk (Pending.Text x n) g
-decodedOk g (Decoded.Reject a) = among 2 3 (number a)
+decodedOk g (Decoded.Reject a) = between 2 4 (number a)
 decodedOk g (Decoded.Do d) = kindOf d .ok
 
 -- ---- tables: what holds of each entry holds at every byte
@@ -92,14 +92,14 @@ module _ (g : List ℕ) where
 
   feature-ok : (f : ℕ) → decodedOk g (featureRule f) ≡ true
   unfolding featureRule decodedOk settingOk
-  feature-ok f = pick-if (Ok g) (among 0x3a 2 f) (λ e. refl) (λ e. judged-ok (ltb (featurePlace f) 5) _ (λ z. both-true z (eq-eqb (featurePlace f) _ refl)))
+  feature-ok f = pick-if (Ok g) (between 0x3a 0x3b f) (λ e. refl) (λ e. judged-ok (ltb (featurePlace f) 5) _ (λ z. both-true z (eq-eqb (featurePlace f) _ refl)))
 
   field-ok : (n a : ℕ) → decodedOk g (fieldRule n a) ≡ true
   unfolding fieldRule settingOk
   field-ok n a =
-      judged-ok (both (among 0x30 4 n) (isAttribute a)) _ (λ e.
-      let r = both-parts (among 0x30 4 n) (isAttribute a) e in
-      let m = among-parts 0x30 4 n (r .0) in
+      judged-ok (both (between 0x30 0x33 n) (isAttribute a)) _ (λ e.
+      let r = both-parts (between 0x30 0x33 n) (isAttribute a) e in
+      let m = between-parts 0x30 0x33 n (r .0) in
       both-true (lt-ltb (n - 0x30) 4 (omega arith)) (r .1))
 
   split-ok : (b : ℕ) → decodedOk g (splitRule b) ≡ true
@@ -111,9 +111,9 @@ module _ (g : List ℕ) where
       → decodedOk g (digitRule most n b next) ≡ true
   unfolding digitRule decodedOk
   digit-ok most n b next h =
-      pick-if (Ok g) (both (among 0x30 10 b) (ltb n most)) (λ e.
-      let r = both-parts (among 0x30 10 b) (ltb n most) e in
-      let m = among-parts 0x30 10 b (r .0) in
+      pick-if (Ok g) (both (between 0x30 0x39 b) (ltb n most)) (λ e.
+      let r = both-parts (between 0x30 0x39 b) (ltb n most) e in
+      let m = between-parts 0x30 0x39 b (r .0) in
       h (ltb-true n most (r .1)) (omega arith)) (λ e. refl)
 
   decimal-row-ok : (n row b : ℕ) → pendingOk (Pending.DecimalRow n row) g ≡ true → decodedOk g (decimalRowRule n row b) ≡ true
@@ -173,9 +173,9 @@ argument-ok g Argument.Segment b h = lt-ltb b _ (omega arith)
 argument-ok g Argument.Split b h = split-ok g b
 argument-ok g Argument.SplitRow b h = refl
 argument-ok g Argument.Attribute b h = judged-ok g (isAttribute b) _ (λ z. z)
-argument-ok g Argument.Graphic b h = judged-ok g (among 0x30 16 b) _ (λ z. z)
+argument-ok g Argument.Graphic b h = judged-ok g (between 0x30 0x3f b) _ (λ z. z)
 argument-ok g Argument.FillAttribute b h = judged-ok g (isAttribute b) _ (λ z. segment-ok (attributeContents b) (attribute-contents-ok b z))
-argument-ok g Argument.FillCode b h = judged-ok g (either (eqb b 0) (among 0x20 95 b)) _ (λ z. segment-ok (Contents.Text b) z)
+argument-ok g Argument.FillCode b h = judged-ok g (either (eqb b 0) (between 0x20 0x7e b)) _ (λ z. segment-ok (Contents.Text b) z)
 argument-ok g Argument.Feature b h = feature-ok g b
 argument-ok g Argument.FieldAttribute b h = lt-ltb b _ (omega arith)
 argument-ok g Argument.Slot b h = slot-ok g b

@@ -16,7 +16,7 @@ use Rattle.rules.specs.declared.Decoded.{Decoded}
 use Rattle.rules.specs.declared.Decoded.the-variants as Decoded
 use Rattle.rules.specs.Cell.{pick, both}
 use Rattle.rules.specs.Decode.{lookup, idleRule, escapeRule, judged, featureRule, fieldRule, splitRule, digitRule, decimalRowRule, decimalColumnRule, slotRule, textRule, spoiltRule, argumentRule, decodeRule}
-use Rattle.rules.specs.Noninterference.{afterEscape, anyOf, excludedBytes}
+use Rattle.rules.specs.theorems.Noninterference.{afterEscape, anyOf, excludedBytes}
 use Rattle.rules.proofs.Commands.{kindOf}
 
 -- the values of a function at the numbers below n

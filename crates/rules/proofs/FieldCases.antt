@@ -1,14 +1,14 @@
 -- The worked cases of fields hold.
 use mathlib.Core.Path.{refl}
 use Rattle.rules.specs.Row.{rowEnd}
-use Rattle.rules.specs.Search.{marksBy, firstIn}
+use Rattle.rules.specs.Search.{whichCells, firstIn}
 use Rattle.rules.specs.Fields.{pageWidth, startsAt, nextFieldRule, kept, trimmed, textOf, fitting, fieldTextRule, rowTextRule, positionRule, cellRule}
 use Rattle.rules.specs.Possible.{blank}
-use Rattle.rules.specs.Inputs.{pageOf}
-use Rattle.rules.specs.FieldCases.{filledForm, wideForm, FieldCases}
+use Rattle.rules.specs.cases.Inputs.{pageOf}
+use Rattle.rules.specs.cases.FieldCases.{filledForm, wideForm, FieldCases}
 
 pub field-cases : FieldCases
-unfolding rowEnd marksBy firstIn pageWidth startsAt nextFieldRule kept trimmed textOf fitting fieldTextRule rowTextRule positionRule cellRule blank pageOf filledForm wideForm
+unfolding rowEnd whichCells firstIn pageWidth startsAt nextFieldRule kept trimmed textOf fitting fieldTextRule rowTextRule positionRule cellRule blank pageOf filledForm wideForm
 field-cases = record {
   first = refl;
   at = refl;

@@ -1,6 +1,6 @@
 -- Laws of fields.
 --     page-of                             a page's width, by its length
---     length-starts, marked-start, row-start, inner-start     where a field starts, cell by cell
+--     length-starts, protected-start, row-start, inner-start     where a field starts, cell by cell
 --     first-past                          a search from past its end
 -- Assumes nothing.
 use mathlib.Core.Path.{_≡_, refl, ap, _∙_}
@@ -18,8 +18,8 @@ use Rattle.rules.specs.Cell.{pick, both, either}
 use Rattle.rules.specs.Row.{Width, columnOf}
 use Rattle.rules.specs.Search.{firstIn}
 use Rattle.rules.specs.Send.{leftOut}
-use Rattle.rules.specs.Fields.{pageWidth, markedAt, startsAt, fieldStarts, isFieldStart}
-use Rattle.rules.proofs.Marks.{length-by}
+use Rattle.rules.specs.Fields.{pageWidth, protectedAt, startsAt, fieldStarts, isFieldStart}
+use Rattle.rules.proofs.Searching.{length-by}
 use Rattle.rules.proofs.Rows.{by-width}
 
 abbrev widthIf : Bool → Bool → ℕ
@@ -43,9 +43,9 @@ length-starts-at w at after [] = refl
 length-starts-at w at after (b ∷ m) = ap suc (length-starts-at w (suc at) b m)
 
 pub length-starts : (w : ℕ) (p : List ℕ) → length (fieldStarts w p) ≡ length p
-length-starts w p = length-starts-at w 0 true (markedAt p) ∙ length-by (leftOut true) p
+length-starts w p = length-starts-at w 0 true (protectedAt p) ∙ length-by (leftOut true) p
 
--- whether the cell before cell i of the list is marked: b says so of what is before the list
+-- whether the cell before cell i of the list is protected: b says so of what is before the list
 abbrev before : Bool → List Bool → ℕ → Bool
 before b m zero = b
 before b m (suc j) = getD m j false
@@ -64,23 +64,23 @@ start-at w at b (c ∷ m) (suc j) h =
     start-at w (suc at) c m j (le-of-suc-le-suc h) ∙ rw (e, before-cons b c m j)
 
 module _ {w : ℕ} (k : Width w) (p : List ℕ) (i : ℕ) (h : i < length p) where
-  start-is : isFieldStart w p i ≡ both (not (getD (markedAt p) i false)) (either (eqb (columnOf w i) 0) (before true (markedAt p) i))
-  start-is = start-at w 0 true (markedAt p) i (rw (length-by (leftOut true) p) h) ∙ rw (zero-add i)
+  start-is : isFieldStart w p i ≡ both (not (getD (protectedAt p) i false)) (either (eqb (columnOf w i) 0) (before true (protectedAt p) i))
+  start-is = start-at w 0 true (protectedAt p) i (rw (length-by (leftOut true) p) h) ∙ rw (zero-add i)
 
-  pub marked-start : getD (markedAt p) i false ≡ true → isFieldStart w p i ≡ false
-  marked-start m = start-is ∙ rw m
+  pub protected-start : getD (protectedAt p) i false ≡ true → isFieldStart w p i ≡ false
+  protected-start m = start-is ∙ rw m
 
-  pub row-start : getD (markedAt p) i false ≡ false → columnOf w i ≡ 0 → isFieldStart w p i ≡ true
+  pub row-start : getD (protectedAt p) i false ≡ false → columnOf w i ≡ 0 → isFieldStart w p i ≡ true
   row-start m c = start-is ∙ rw (m, eq-eqb (columnOf w i) 0 c)
 
   -- a cell in the middle of a row is not the first
   pub inner-cell : (columnOf w i ≡ 0 → ⊥) → 0 < i
   inner-cell c = by-width (λ (w : ℕ). (i % w ≡ 0 → ⊥) → 0 < i) (λ c. omega arith) (λ c. omega arith) k c
 
-  pub inner-start : getD (markedAt p) i false ≡ false → (columnOf w i ≡ 0 → ⊥) → isFieldStart w p i ≡ getD (markedAt p) (i - 1) false
+  pub inner-start : getD (protectedAt p) i false ≡ false → (columnOf w i ≡ 0 → ⊥) → isFieldStart w p i ≡ getD (protectedAt p) (i - 1) false
   inner-start m c = start-is ∙ rw (m, ne-eqb (columnOf w i) 0 c) (before-is i (inner-cell c))
     where
-      before-is : (i : ℕ) → 0 < i → before true (markedAt p) i ≡ getD (markedAt p) (i - 1) false
+      before-is : (i : ℕ) → 0 < i → before true (protectedAt p) i ≡ getD (protectedAt p) (i - 1) false
       before-is zero z = absurd (not-suc-le-zero z)
       before-is (suc j) z = let e : suc j - 1 ≡ j = omega arith in rw e
 

@@ -43,22 +43,22 @@ use Rattle.rules.specs.declared.SetupChange.{SetupChange}
 use Rattle.rules.specs.declared.Sending.{Sending}
 use Rattle.rules.specs.declared.Land.{Land}
 use Rattle.rules.specs.declared.Land.the-variants as Land
-use Rattle.rules.specs.Cell.{pick, both, either, among, written, null, space, protectedSpace}
+use Rattle.rules.specs.Cell.{pick, both, either, among, between, written, null, space, protectedSpace}
 use Rattle.rules.specs.Row.{Width, height, columns, columnOf, rowStart, rowEnd}
 use Rattle.rules.specs.State.{number, sends, widthOf, pageLength, segmentTop, segmentBottom, segmentStart, segmentEnd, cursorOf, activated, withScreen, withModes, withProtect, withMode, Inside}
 use Rattle.rules.specs.Possible.{screenOk, rememberedOk}
 use Rattle.rules.specs.Arguments.{isAttribute, attributeOf}
 use Rattle.rules.specs.Send.{commandOf}
 use Rattle.rules.specs.Plan.{refusing, unlessWide, plain, writingTwo, settling, replying, changing, unlessGuarded, scrolls, atTop, reversePlan, downPlan, tabCell, backTabCell, addressPlan, movePlan, activate, isSegment, windowPlan, storing, advancing, storePlan, takesCell, attributePlan, rowEditPlan, editPlan, clearPlan, settingPlan, sendPlan, clearAll, excludedPlan, planRule}
-use Rattle.rules.specs.Good.{GoodWrite, GoodSend, GoodLand}
+use Rattle.rules.specs.theorems.Good.{GoodWrite, GoodSend, GoodLand}
 use Rattle.rules.specs.Writable.{writable}
-use Rattle.rules.specs.Noninterference.{revealing}
-use Rattle.rules.specs.Areas.{Area, areaFrom, areaTo, oneColumn, storeScrolls, stored}
-use Rattle.rules.specs.Areas as Area
-use Rattle.rules.specs.Parts.{Part, listed, areaOf}
-use Rattle.rules.specs.Parts as Part
+use Rattle.rules.specs.theorems.Noninterference.{revealing}
+use Rattle.rules.specs.theorems.Areas.{Area, areaFrom, areaTo, oneColumn, storeScrolls, stored}
+use Rattle.rules.specs.theorems.Areas as Area
+use Rattle.rules.specs.theorems.Parts.{Part, isListed, areaOf}
+use Rattle.rules.specs.theorems.Parts as Part
 use Rattle.rules.proofs.Framing.{may, never, ModesKept, ScreenKept, CoreKept, same-modes, same-screen, same-core, framed, turned-modes, ChangeKept, change-keeps}
-use Rattle.rules.proofs.Tests.{pick-if, both-true, both-parts, among-parts}
+use Rattle.rules.proofs.Tests.{pick-if, both-true, both-parts, among-parts, between-parts}
 use Rattle.rules.proofs.Rows.{by-width, columns-width, column-below, rows-le, cell-inside}
 use Rattle.rules.proofs.Places.{In, segment-there, in-next, in-up, in-next-tab, in-previous-tab, in-back, in-next-field, in-previous-field}
 use Rattle.rules.proofs.Screens.{screen-inside, activated-kept, unsplit-screen, split-screen}
@@ -111,7 +111,7 @@ Spans f t o n (Write.Rows down top bottom) = (f ≤ top * n) × ((bottom * n ≤
 
 -- a command that may change the cells of the segment from f on
 pub record Covers (k : Kind) (c : Core) (f : ℕ) : Type 0 where
-  pub cells : listed Part.page (k .touches) ≡ true
+  pub cells : isListed Part.page (k .touches) ≡ true
   pub first : from k c ≤ f
   pub last : segmentEnd (c .screen) ≤ to k c
   pub whole : lane k c ≡ 0
@@ -125,12 +125,12 @@ pub record Fair (k : Kind) (g : List Bool) (c : Core) (n : ℕ) (w : Write) : Ty
 
 -- the plan of a command of kind k from the core c, g being which cells are guarded
 pub data Form (k : Kind) (g : List Bool) (c : Core) : Plan → Type 0 where
-  a-refusal : (a : Answer) → among 2 3 (number a) ≡ true → Form k g c (refusing c a)
+  a-refusal : (a : Answer) → between 2 4 (number a) ≡ true → Form k g c (refusing c a)
   a-reply : (y : Sending) → sends y ≡ true → commandOf y ≡ k .asks → (k .excluded ≡ false → revealing y ≡ false)
       → (Sound g c → GoodSend (c .screen) y) → Form k g c (replying c y)
   a-change : (y : SetupChange) → y ≡ k .change c → ChangeKept (k .touches) y → (k .ok ≡ true → Sound g c → changeOk (widthOf (c .screen)) y ≡ true) → Form k g c (changing c y)
   a-write : {m : Core} {w v : Write} {l : Land} → Next k g c m → Fair k g c (widthOf (m .screen)) w → Fair k g c (widthOf (m .screen)) v
-      → (listed Part.page (k .touches) ≡ false → (w ≡ Write.Nothing) × (v ≡ Write.Nothing)) → (listed Part.Cursor (k .touches) ≡ false → l ≡ Land.Stay)
+      → (isListed Part.page (k .touches) ≡ false → (w ≡ Write.Nothing) × (v ≡ Write.Nothing)) → (isListed Part.Cursor (k .touches) ≡ false → l ≡ Land.Stay)
       → (Sound g c → GoodLand (m .screen) l) → Form k g c (writingTwo m w v l)
 
 module _ {k : Kind} {g : List Bool} {c : Core} where
@@ -179,7 +179,7 @@ module _ {k : Kind} {g : List Bool} {c : Core} where
 
   -- the two forms with implicit parts, which the plan in the goal tells
   writes : {m : Core} {w v : Write} {l : Land} → Next k g c m → Fair k g c (widthOf (m .screen)) w → Fair k g c (widthOf (m .screen)) v
-      → (listed Part.page (k .touches) ≡ false → (w ≡ Write.Nothing) × (v ≡ Write.Nothing)) → (listed Part.Cursor (k .touches) ≡ false → l ≡ Land.Stay)
+      → (isListed Part.page (k .touches) ≡ false → (w ≡ Write.Nothing) × (v ≡ Write.Nothing)) → (isListed Part.Cursor (k .touches) ≡ false → l ≡ Land.Stay)
       → (Sound g c → GoodLand (m .screen) l) → Form k g c (writingTwo m w v l)
   writes h a b o e i = a-write h a b o e i
 
@@ -191,10 +191,10 @@ module _ {k : Kind} {g : List Bool} {c : Core} where
   pick-form t f h = pick-if (Form k g c) t f h
 
   -- the cursor settles; or stays, after a write
-  settles : {i : ℕ} → listed Part.Cursor (k .touches) ≡ true → (Sound g c → In (c .screen) i) → Form k g c (settling c i)
+  settles : {i : ℕ} → isListed Part.Cursor (k .touches) ≡ true → (Sound g c → In (c .screen) i) → Form k g c (settling c i)
   settles t h = writes here none none (λ e. (refl, refl)) (never t) h
 
-  stays : {w : Write} → listed Part.page (k .touches) ≡ true → Fair k g c (widthOf (c .screen)) w → Form k g c (writingTwo c w Write.Nothing Land.Stay)
+  stays : {w : Write} → isListed Part.page (k .touches) ≡ true → Fair k g c (widthOf (c .screen)) w → Form k g c (writingTwo c w Write.Nothing Land.Stay)
   stays q w = writes here w none (never q) (λ e. refl) (λ s. tt)
 
   only : {m : Core} → Next k g c m → Form k g c (plain m)
@@ -219,7 +219,7 @@ row-first k at = by-width (λ (w : ℕ). at - at % w ≡ at / w * w) (omega arit
 
 -- what a store may change: the segment if it scrolls, the cursor's row from there in insert mode, else the cursor's cell
 record Stores (k : Kind) (g : List Bool) (c : Core) : Type 0 where
-  cells : listed Part.page (k .touches) ≡ true
+  cells : isListed Part.page (k .touches) ≡ true
   scrolled : segmentEnd (c .screen) ≤ cursorOf (c .screen) + 1 → scrolls (c .modes) ≡ true → Covers k c (segmentStart (c .screen))
   shifts : c .modes .insert ≡ true → Sound g c
       → (from k c ≤ cursorOf (c .screen)) × ((rowEnd (widthOf (c .screen)) (cursorOf (c .screen)) ≤ to k c) × (lane k c ≡ 0))
@@ -241,13 +241,13 @@ if-fills false false s a r e h x y = (omega arith, (omega arith, refl))
 if-fills true true s a r e h x y = absurd (false≢true (sym h))
 if-fills false true s a r e h x y = absurd (false≢true (sym h))
 
-covers-if : {k : Kind} {c : Core} {t : Screen → Modes → Bool} {b : Area} → listed Part.page (k .touches) ≡ true
+covers-if : {k : Kind} {c : Core} {t : Screen → Modes → Bool} {b : Area} → isListed Part.page (k .touches) ≡ true
     → areaOf (k .touches) ≡ Area.If t Area.Segment b → t (c .screen) (c .modes) ≡ true → Covers k c (segmentStart (c .screen))
 covers-if {k} {c} {t} {b} o h e =
     let r = if-holds (t (c .screen) (c .modes)) (segmentStart (c .screen)) (areaFrom b (c .screen) (c .modes)) (segmentEnd (c .screen)) (areaTo b (c .screen) (c .modes)) e in
     record { cells = o; first = rw h (r .0); last = rw h (r .1); whole = rw h }
 
-stores-where : {k : Kind} {g : List Bool} {c : Core} → listed Part.page (k .touches) ≡ true → areaOf (k .touches) ≡ stored → Stores k g c
+stores-where : {k : Kind} {g : List Bool} {c : Core} → isListed Part.page (k .touches) ≡ true → areaOf (k .touches) ≡ stored → Stores k g c
 stores-where {k} {g} {c} o h =
     let x = c .screen in
     let m = c .modes in
@@ -260,10 +260,10 @@ stores-where {k} {g} {c} o h =
 
 -- protect mode alone changes
 protecting : {l : List Part} {m : Modes} {b : Bool} → ModesKept (Part.Protect ∷ l) m (withProtect m b)
-protecting = record { protect = may; mark = λ h. refl; insert = λ h. refl; autoscroll = λ h. refl; locked = λ h. refl; local = λ h. refl }
+protecting = record { protect = may; writeprotect = λ h. refl; insert = λ h. refl; autoscroll = λ h. refl; locked = λ h. refl; local = λ h. refl }
 
 -- another segment is active, or the same
-turned : {l : List Part} {x : Screen} {n : ℕ} → listed Part.Active l ≡ true → ScreenKept l n x (activated x n)
+turned : {l : List Part} {x : Screen} {n : ℕ} → isListed Part.Active l ≡ true → ScreenKept l n x (activated x n)
 turned a = record { wide = refl; active = never a; split = λ e. refl; cursor = λ e. refl; other = λ e. refl }
 
 -- both cursors go home, and either segment may be active
@@ -276,23 +276,23 @@ unfolding isAttribute takesCell attributeOf rememberedOk
 set-remembered Personality.Wy50 a e u = absurd (false≢true (sym u))
 set-remembered Personality.Wy60 a e u = by-code a u e
   where
-    low : (a : ℕ) → among 0x30 16 a ≡ true → ltb (a % 16 + pick (ltb a 0x70) 0 16) 31 ≡ true
+    low : (a : ℕ) → between 0x30 0x3f a ≡ true → ltb (a % 16 + pick (ltb a 0x70) 0 16) 31 ≡ true
     low a h =
-        let r = among-parts 0x30 16 a h in
+        let r = between-parts 0x30 0x3f a h in
         rw (lt-ltb a 0x70 (omega arith)) (lt-ltb (a % 16 + 0) 31 (omega arith))
 
-    high : (a : ℕ) → among 0x70 15 a ≡ true → ltb (a % 16 + pick (ltb a 0x70) 0 16) 31 ≡ true
+    high : (a : ℕ) → between 0x70 0x7e a ≡ true → ltb (a % 16 + pick (ltb a 0x70) 0 16) 31 ≡ true
     high a h =
-        let r = among-parts 0x70 15 a h in
+        let r = between-parts 0x70 0x7e a h in
         rw (le-ltb a 0x70 (omega arith)) (lt-ltb (a % 16 + 16) 31 (omega arith))
 
-    by-low : (a : ℕ) (s : Bool) → among 0x30 16 a ≡ s → either s (among 0x70 15 a) ≡ true → ltb (a % 16 + pick (ltb a 0x70) 0 16) 31 ≡ true
+    by-low : (a : ℕ) (s : Bool) → between 0x30 0x3f a ≡ s → either s (between 0x70 0x7e a) ≡ true → ltb (a % 16 + pick (ltb a 0x70) 0 16) 31 ≡ true
     by-low a true h e = low a h
     by-low a false h e = high a e
 
-    by-code : (a : ℕ) → eqb a 0x20 ≡ false → either (eqb a 0x20) (either (among 0x30 16 a) (among 0x70 15 a)) ≡ true
+    by-code : (a : ℕ) → eqb a 0x20 ≡ false → either (eqb a 0x20) (either (between 0x30 0x3f a) (between 0x70 0x7e a)) ≡ true
         → ltb (a % 16 + pick (ltb a 0x70) 0 16) 31 ≡ true
-    by-code a u e = by-low a (among 0x30 16 a) refl (rw u at e)
+    by-code a u e = by-low a (between 0x30 0x3f a) refl (rw u at e)
 
 -- past the segment's end it scrolls only with protect off
 scrolls-off : (m : Modes) → scrolls m ≡ true → m .protect ≡ false
@@ -319,7 +319,7 @@ either-writes Personality.Wy50 w e = both-parts (writeOk Personality.Wy50 w) _ e
 either-writes Personality.Wy60 w e = both-parts (writeOk Personality.Wy50 w) _ e .1
 
 -- commands that may move the cursor
-module _ {k : Kind} (t : listed Part.Cursor (k .touches) ≡ true) (g : List Bool) (c : Core) where
+module _ {k : Kind} (t : isListed Part.Cursor (k .touches) ≡ true) (g : List Bool) (c : Core) where
   reverses : (atTop (c .screen) ≡ true → c .modes .protect ≡ false → Covers k c (segmentStart (c .screen))) → Form k g c (reversePlan c)
   unfolding reversePlan atTop
   reverses q =
@@ -364,7 +364,7 @@ module _ {k : Kind} (t : listed Part.Cursor (k .touches) ≡ true) (g : List Boo
       → i ≡ cursorOf x → Form k g c (settling (withScreen c x) i)
   turns-to x i h w f e = writes (on-screen x h w f) none none (λ e. (refl, refl)) (never t) (λ s. let r = screen-inside x (h s) in omega arith)
 
-  activates : (n : ℕ) → listed Part.Active (k .touches) ≡ true → (Sound g c → (n ≤ 1) × (n ≤ c .screen .split)) → Form k g c (activate c n)
+  activates : (n : ℕ) → isListed Part.Active (k .touches) ≡ true → (Sound g c → (n ≤ 1) × (n ≤ c .screen .split)) → Form k g c (activate c n)
   unfolding activate
   activates n a h = turns-to _ _ (λ s. activated-kept (c .screen) n (s .ok) (h s .0) (h s .1)) refl (turned a) refl
 
@@ -379,7 +379,7 @@ module _ {k : Kind} (t : listed Part.Cursor (k .touches) ≡ true) (g : List Boo
       writes here h (moving (scrolls-off (c .modes) u) (λ s. omega arith) (λ s. omega arith)) (never (q .cells)) (never t) (λ s. omega arith))
       (λ u. writes here h none (never (q .cells)) (never t) (λ s. omega arith)))
 
-  stores : (z : Contents) (a : ℕ) → Stores k g c → (k .ok ≡ true → Remembers c → writable (c .personality) (written z (c .modes .mark) a) ≡ true)
+  stores : (z : Contents) (a : ℕ) → Stores k g c → (k .ok ≡ true → Remembers c → writable (c .personality) (written z (c .modes .writeprotect) a) ≡ true)
       → Form k g c (storePlan g c z a)
   unfolding storePlan storing
   stores z a q v =
@@ -422,8 +422,8 @@ module _ (g : List Bool) (c : Core) where
   unfolding windowPlan cursorOf
   windows Window.Unsplit = turns-to refl g c _ _ (λ s. unsplit-screen (c .screen .wide)) refl (anew refl) refl
   windows (Window.Split r) =
-      pick-form (among 0x21 23 r)
-      (λ e. let a = among-parts 0x21 23 r e in turns-to refl g c _ _ (λ s. split-screen (c .screen .wide) (r - 0x1f) (omega arith) (omega arith)) refl (anew refl) refl)
+      pick-form (between 0x21 0x37 r)
+      (λ e. let a = between-parts 0x21 0x37 r e in turns-to refl g c _ _ (λ s. split-screen (c .screen .wide) (r - 0x1f) (omega arith) (omega arith)) refl (anew refl) refl)
       (λ e. bad)
   windows Window.Other =
       pick-form (eqb (c .screen .split) 0) (λ e. only here)
@@ -449,7 +449,7 @@ module _ (g : List Bool) (c : Core) where
   attributes : (a : ℕ) → Form (kindOf (Command.Attribute a)) g c (attributePlan g c a)
   unfolding attributePlan
   attributes a =
-      pick-form (takesCell (c .personality) a) (λ u. stores refl g c _ _ (stores-where refl refl) (λ t h. taken-ok (c .personality) (c .modes .mark) a t u))
+      pick-form (takesCell (c .personality) a) (λ u. stores refl g c _ _ (stores-where refl refl) (λ t h. taken-ok (c .personality) (c .modes .writeprotect) a t u))
       (λ u. only record {
         screen = λ s. s .ok;
         wide = refl;
@@ -503,7 +503,7 @@ module _ (g : List Bool) (c : Core) where
   formed tabs Command.Nothing = only here
   formed tabs (Command.Go m) = moves tabs m
   formed tabs (Command.Window x) = windows x
-  formed tabs (Command.Store q) = stores refl g c q _ (stores-where refl refl) (λ t h. stored-ok (c .personality) q (c .modes .mark) (c .attribute) t h)
+  formed tabs (Command.Store q) = stores refl g c q _ (stores-where refl refl) (λ t h. stored-ok (c .personality) q (c .modes .writeprotect) (c .attribute) t h)
   formed tabs (Command.Attribute a) = attributes a
   formed tabs (Command.Edit x) = edits x
   formed tabs (Command.Clear x) = clears x

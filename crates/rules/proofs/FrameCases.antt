@@ -2,7 +2,7 @@
 use mathlib.Core.Path.{refl}
 use Rattle.rules.specs.Cell.{same}
 use Rattle.rules.specs.Row.{columns, rowEnd}
-use Rattle.rules.specs.Search.{marksBy, others, startsFrom, firstIn, lastIn, around, aroundBack}
+use Rattle.rules.specs.Search.{whichCells, others, startsFrom, firstIn, lastIn, around, aroundBack}
 use Rattle.rules.specs.Change.{within, filled, shiftLeft, shiftRight, editShifted, rowsShifted, columnFilled}
 use Rattle.rules.specs.State.{segmentTop, segmentBottom, cursorOf, withCursor, withMode, changed, stored, sendingAfter, gatheredAfter, setupAfter}
 use Rattle.rules.specs.Possible.{powerOn, blank, unsplitOk, splitOk, screenOk, attributesOk, featuresOk, pendingOk, rememberedOk, placeOk, sendingOk, noStops, coreOk, setupOk, possible, good}
@@ -13,15 +13,15 @@ use Rattle.rules.specs.Plan.{unlessGuarded, scrolls, nextCell, atTop, up
 use Rattle.rules.specs.Carry.{applied, landed, done, begun, carried}
 use Rattle.rules.specs.Step.{obeyed, innerRule, goesOn, stepInside, stepRule}
 use Rattle.rules.specs.Calls.{ofStep, after}
-use Rattle.rules.specs.Inputs.{esc, goTo, pageOf, cursorAt, protectAt, upperAt, placedOn, lowerAt, typed}
-use Rattle.rules.specs.FrameCases.{textNumbers, numbersOf, differs, rowOf, shows, anyShows, allShown, oneRow, rowShown, rowsShown, differsAt, edgesShown, allEdges, FramesShown}
-use Rattle.rules.specs.MovingCases.{movingTrials}
-use Rattle.rules.specs.WritingCases.{writingTrials}
-use Rattle.rules.specs.ReplyCases.{modeTrials}
+use Rattle.rules.specs.cases.Inputs.{esc, goTo, pageOf, cursorAt, protectAt, upperAt, placedOn, lowerAt, typed}
+use Rattle.rules.specs.cases.FrameCases.{textNumbers, numbersOf, differs, rowOf, shows, anyShows, allShown, oneRow, rowShown, rowsShown, differsAt, edgesShown, allEdges, FramesShown}
+use Rattle.rules.specs.cases.MovingCases.{movingTrials}
+use Rattle.rules.specs.cases.WritingCases.{writingTrials}
+use Rattle.rules.specs.cases.ReplyCases.{modeTrials}
 
 pub frames-shown : FramesShown
 unfolding textNumbers numbersOf differs rowOf shows anyShows allShown oneRow rowShown rowsShown differsAt edgesShown allEdges movingTrials writingTrials modeTrials same
-    esc goTo pageOf cursorAt protectAt upperAt placedOn lowerAt typed columns rowEnd marksBy others
+    esc goTo pageOf cursorAt protectAt upperAt placedOn lowerAt typed columns rowEnd whichCells others
     startsFrom firstIn lastIn around aroundBack within filled shiftLeft shiftRight editShifted rowsShifted columnFilled segmentTop
     segmentBottom cursorOf withCursor withMode changed stored sendingAfter gatheredAfter setupAfter powerOn blank unsplitOk splitOk screenOk isLabel slotOk slotEnd slotMost slotLow isText allText textOk textsOk isAttribute
     attributesOk featurePlace featuresOk isKey pendingOk rememberedOk placeOk sendingOk noStops coreOk setupOk possible good lookup idleRule escapeRule judged attributeContents attributeOf

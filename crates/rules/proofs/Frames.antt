@@ -29,10 +29,10 @@ use Rattle.rules.specs.Plan.{planRule}
 use Rattle.rules.specs.Carry.{Effect, applied, landed, done, begun, carried}
 use Rattle.rules.specs.Step.{Outcome, obeyed, innerRule, goesOn, stepInside, stepRule}
 use Rattle.rules.specs.Calls.{ofPress, callRule}
-use Rattle.rules.specs.Parts.{Part, value, listed}
-use Rattle.rules.specs.Parts as Part
+use Rattle.rules.specs.theorems.Parts.{Part, value, isListed}
+use Rattle.rules.specs.theorems.Parts as Part
 use Rattle.rules.proofs.Areas.{step-outside}
-use Rattle.rules.specs.Frames.{changes, commandParts, slotParts, Keeps, Frames}
+use Rattle.rules.specs.theorems.Frames.{changes, commandParts, slotParts, SamePart, Frames}
 use Rattle.rules.proofs.Tests.{pick-if}
 use Rattle.rules.proofs.Framing.{never, ScreenKept, CoreKept, same-modes, same-screen, same-core, framed, kept-on, SetupKept, ChangeKept, no-change, setup-framed, page-framed, stored-keeps}
 use Rattle.rules.proofs.Commands.{Kind}
@@ -42,10 +42,10 @@ use Rattle.rules.proofs.Forms.{Form, a-refusal, a-reply, a-change, a-wr
 
 record PlanKept (l : List Part) (c : Core) (x : Plan) : Type 0 where
   next : CoreKept l (x .next .screen .active) c (x .next)
-  land : listed Part.Cursor l ≡ false → x .land ≡ Land.Stay
+  land : isListed Part.Cursor l ≡ false → x .land ≡ Land.Stay
   change : ChangeKept l (x .change)
-  first : listed Part.page l ≡ false → x .first ≡ Write.Nothing
-  second : listed Part.page l ≡ false → x .second ≡ Write.Nothing
+  first : isListed Part.page l ≡ false → x .first ≡ Write.Nothing
+  second : isListed Part.page l ≡ false → x .second ≡ Write.Nothing
 
 of-form : {k : Kind} {g : List Bool} {c : Core} {x : Plan} → Form k g c x → PlanKept (k .touches) c x
 of-form (a-refusal a e) = record { next = same-core; land = λ h. refl; change = no-change; first = λ h. refl; second = λ h. refl }
@@ -64,7 +64,7 @@ other-stays : (t : Bool) (n a b : ℕ) → pick t (pick t b n) (pick t n a) ≡ 
 other-stays true n a b = refl
 other-stays false n a b = refl
 
-cursor-set : {l : List Part} (x : Screen) (n : ℕ) → listed Part.Cursor l ≡ true → ScreenKept l (x .active) x (withCursor x n)
+cursor-set : {l : List Part} (x : Screen) (n : ℕ) → isListed Part.Cursor l ≡ true → ScreenKept l (x .active) x (withCursor x n)
 unfolding withCursor
 cursor-set x n a = record {
   wide = refl;
@@ -74,16 +74,16 @@ cursor-set x n a = record {
   other = λ h. other-stays (eqb (x .active) 0) n (x .cursor0) (x .cursor1);
 }
 
-settled-kept : {l : List Part} (g : List Bool) (y : Land) (m : Core) → listed Part.Cursor l ≡ true → CoreKept l (m .screen .active) m (landed g y m)
+settled-kept : {l : List Part} (g : List Bool) (y : Land) (m : Core) → isListed Part.Cursor l ≡ true → CoreKept l (m .screen .active) m (landed g y m)
 unfolding landed
 settled-kept g Land.Stay m a = same-core
 settled-kept g (Land.Settle i) m a = framed same-modes (cursor-set (m .screen) _ a) (λ h. refl) (λ h. refl) refl
 
-landed-kept : {l : List Part} (g : List Bool) (y : Land) (m : Core) → (listed Part.Cursor l ≡ false → y ≡ Land.Stay) → CoreKept l (m .screen .active) m (landed g y m)
+landed-kept : {l : List Part} (g : List Bool) (y : Land) (m : Core) → (isListed Part.Cursor l ≡ false → y ≡ Land.Stay) → CoreKept l (m .screen .active) m (landed g y m)
 unfolding landed
-landed-kept {l = l} g y m h = by (listed Part.Cursor l) refl
+landed-kept {l = l} g y m h = by (isListed Part.Cursor l) refl
   where
-    by : (t : Bool) → listed Part.Cursor l ≡ t → CoreKept l (m .screen .active) m (landed g y m)
+    by : (t : Bool) → isListed Part.Cursor l ≡ t → CoreKept l (m .screen .active) m (landed g y m)
     by true e = settled-kept g y m e
     by false e = rw (h e) same-core
 
@@ -96,7 +96,7 @@ landed-active g (Land.Settle i) m = refl
 record EffectKept (l : List Part) (p : List ℕ) (c : Core) (g : List ℕ) (e : Effect) : Type 0 where
   core : CoreKept l (e .core .screen .active) c (e .core)
   setup : (u : Setup) → SetupKept l u (setupAfter (e .change) g u)
-  page : listed Part.page l ≡ false → e .page ≡ p
+  page : isListed Part.page l ≡ false → e .page ≡ p
 
 still-setup : {l : List Part} {u : Setup} → SetupKept l u u
 unfolding changed
@@ -138,13 +138,13 @@ byte-kept p s b room =
     (λ e. obeyed-kept p (s .core) (s .gathered) room (s .setup .tabs) (decodeRule (s .core .pending) b))
     (λ e. record { core = same-core; setup = no-change; page = λ z. refl })
 
-step-kept : (p : List ℕ) (s : State) (b room : ℕ) (x : Part) → listed x (changes (decodeRule (s .core .pending) b)) ≡ false
-    → Keeps x p s (stepRule p s b room .page) (stepRule p s b room .state)
+step-kept : (p : List ℕ) (s : State) (b room : ℕ) (x : Part) → isListed x (changes (decodeRule (s .core .pending) b)) ≡ false
+    → SamePart x p s (stepRule p s b room .page) (stepRule p s b room .state)
 unfolding stepRule stepInside goesOn
 step-kept p s b room x h =
-    pick-if (λ (o : Outcome). Keeps x p s (o .page) (o .state)) (good p s)
-    (λ e. pick-if (λ (o : Outcome). Keeps x p s (o .page) (o .state)) (sends (s .sending))
-    (λ u. pick-if (λ (o : Outcome). Keeps x p s (o .page) (o .state)) (eqb room 0) (λ z. refl) (λ z. refl))
+    pick-if (λ (o : Outcome). SamePart x p s (o .page) (o .state)) (good p s)
+    (λ e. pick-if (λ (o : Outcome). SamePart x p s (o .page) (o .state)) (sends (s .sending))
+    (λ u. pick-if (λ (o : Outcome). SamePart x p s (o .page) (o .state)) (eqb room 0) (λ z. refl) (λ z. refl))
     (λ u.
     let k = byte-kept p s b room in
     page-framed (changes (decodeRule (s .core .pending) b)) (k .page) x h _ _ _ ∙ setup-framed (k .setup (s .setup)) x h _ _ p ∙ k .core .part x h (s .setup) p))

@@ -20,9 +20,9 @@ use Rattle.rules.specs.declared.SetupChange.{SetupChange}
 use Rattle.rules.specs.declared.SetupChange.the-variants as SetupChange
 use Rattle.rules.specs.Cell.{pick}
 use Rattle.rules.specs.State.{withMode, changed, stored}
-use Rattle.rules.specs.Parts.{Part, Value, cursorAt, otherAt, value, listed}
-use Rattle.rules.specs.Parts as Part
-use Rattle.rules.specs.Frames.{modeParts, slotParts}
+use Rattle.rules.specs.theorems.Parts.{Part, Value, cursorAt, otherAt, value, isListed}
+use Rattle.rules.specs.theorems.Parts as Part
+use Rattle.rules.specs.theorems.Frames.{modeParts, slotParts}
 
 -- a part that is listed is not to be kept
 pub may : {A : Type 0} → true ≡ false → A
@@ -34,38 +34,38 @@ never a e = absurd (false≢true (sym e ∙ a))
 -- ---- of a core
 
 pub record ModesKept (l : List Part) (m n : Modes) : Type 0 where
-  pub protect : listed Part.Protect l ≡ false → n .protect ≡ m .protect
-  pub mark : listed Part.Mark l ≡ false → n .mark ≡ m .mark
-  pub insert : listed Part.Insert l ≡ false → n .insert ≡ m .insert
-  pub autoscroll : listed Part.Autoscroll l ≡ false → n .autoscroll ≡ m .autoscroll
-  pub locked : listed Part.Lock l ≡ false → n .locked ≡ m .locked
-  pub local : listed Part.Local l ≡ false → n .local ≡ m .local
+  pub protect : isListed Part.Protect l ≡ false → n .protect ≡ m .protect
+  pub writeprotect : isListed Part.WriteProtect l ≡ false → n .writeprotect ≡ m .writeprotect
+  pub insert : isListed Part.Insert l ≡ false → n .insert ≡ m .insert
+  pub autoscroll : isListed Part.Autoscroll l ≡ false → n .autoscroll ≡ m .autoscroll
+  pub locked : isListed Part.Lock l ≡ false → n .locked ≡ m .locked
+  pub local : isListed Part.Local l ≡ false → n .local ≡ m .local
 
 -- a cursor is that of segment n, which is active afterwards
 pub record ScreenKept (l : List Part) (n : ℕ) (x y : Screen) : Type 0 where
   pub wide : y .wide ≡ x .wide
-  pub active : listed Part.Active l ≡ false → y .active ≡ x .active
-  pub split : listed Part.Split l ≡ false → y .split ≡ x .split
-  pub cursor : listed Part.Cursor l ≡ false → cursorAt n y ≡ cursorAt n x
-  pub other : listed Part.Other l ≡ false → otherAt n y ≡ otherAt n x
+  pub active : isListed Part.Active l ≡ false → y .active ≡ x .active
+  pub split : isListed Part.Split l ≡ false → y .split ≡ x .split
+  pub cursor : isListed Part.Cursor l ≡ false → cursorAt n y ≡ cursorAt n x
+  pub other : isListed Part.Other l ≡ false → otherAt n y ≡ otherAt n x
 
 -- the parts of m that are not listed hold what they held in c
 pub record CoreKept (l : List Part) (n : ℕ) (c m : Core) : Type 0 where
-  pub part : (x : Part) → listed x l ≡ false → (u : Setup) (p : List ℕ) → value x n m u p ≡ value x n c u p
+  pub part : (x : Part) → isListed x l ≡ false → (u : Setup) (p : List ℕ) → value x n m u p ≡ value x n c u p
 
 pub same-modes : {l : List Part} {m : Modes} → ModesKept l m m
-same-modes = record { protect = λ h. refl; mark = λ h. refl; insert = λ h. refl; autoscroll = λ h. refl; locked = λ h. refl; local = λ h. refl }
+same-modes = record { protect = λ h. refl; writeprotect = λ h. refl; insert = λ h. refl; autoscroll = λ h. refl; locked = λ h. refl; local = λ h. refl }
 
 module _ {l : List Part} {n : ℕ} where
   pub same-screen : {x : Screen} → ScreenKept l n x x
   same-screen = record { wide = refl; active = λ h. refl; split = λ h. refl; cursor = λ h. refl; other = λ h. refl }
 
   part-framed : (c m : Core) → ModesKept l (c .modes) (m .modes) → ScreenKept l n (c .screen) (m .screen)
-      → (listed Part.Bells l ≡ false → m .bells ≡ c .bells) → (listed Part.Remembered l ≡ false → m .attribute ≡ c .attribute)
+      → (isListed Part.Bells l ≡ false → m .bells ≡ c .bells) → (isListed Part.Remembered l ≡ false → m .attribute ≡ c .attribute)
       → m .personality ≡ c .personality
-      → (x : Part) → listed x l ≡ false → (u : Setup) (p : List ℕ) → value x n m u p ≡ value x n c u p
+      → (x : Part) → isListed x l ≡ false → (u : Setup) (p : List ℕ) → value x n m u p ≡ value x n c u p
   part-framed c m k s b a w Part.Protect h u p = ap Part.Flag (k .protect h)
-  part-framed c m k s b a w Part.Mark h u p = ap Part.Flag (k .mark h)
+  part-framed c m k s b a w Part.WriteProtect h u p = ap Part.Flag (k .writeprotect h)
   part-framed c m k s b a w Part.Insert h u p = ap Part.Flag (k .insert h)
   part-framed c m k s b a w Part.Autoscroll h u p = ap Part.Flag (k .autoscroll h)
   part-framed c m k s b a w Part.Lock h u p = ap Part.Flag (k .locked h)
@@ -89,7 +89,7 @@ module _ {l : List Part} {n : ℕ} where
   part-framed c m k s b a w (Part.Cells z) h u p = refl
 
   pub framed : {c m : Core} → ModesKept l (c .modes) (m .modes) → ScreenKept l n (c .screen) (m .screen)
-      → (listed Part.Bells l ≡ false → m .bells ≡ c .bells) → (listed Part.Remembered l ≡ false → m .attribute ≡ c .attribute)
+      → (isListed Part.Bells l ≡ false → m .bells ≡ c .bells) → (isListed Part.Remembered l ≡ false → m .attribute ≡ c .attribute)
       → m .personality ≡ c .personality → CoreKept l n c m
   framed k s b a w = record { part = part-framed _ _ k s b a w }
 
@@ -101,28 +101,28 @@ module _ {l : List Part} {n : ℕ} where
 
 pub turned-modes : (m : Modes) (k : Mode) (b : Bool) → ModesKept (modeParts k) m (withMode m k b)
 unfolding withMode
-turned-modes m Mode.WriteProtect b = record { protect = λ h. refl; mark = may; insert = λ h. refl; autoscroll = λ h. refl; locked = λ h. refl; local = λ h. refl }
-turned-modes m Mode.Insert b = record { protect = λ h. refl; mark = λ h. refl; insert = may; autoscroll = λ h. refl; locked = λ h. refl; local = λ h. refl }
-turned-modes m Mode.Autoscroll b = record { protect = λ h. refl; mark = λ h. refl; insert = λ h. refl; autoscroll = may; locked = λ h. refl; local = λ h. refl }
-turned-modes m Mode.Lock b = record { protect = λ h. refl; mark = λ h. refl; insert = λ h. refl; autoscroll = λ h. refl; locked = may; local = λ h. refl }
-turned-modes m Mode.LocalEdit b = record { protect = λ h. refl; mark = λ h. refl; insert = λ h. refl; autoscroll = λ h. refl; locked = λ h. refl; local = may }
+turned-modes m Mode.WriteProtect b = record { protect = λ h. refl; writeprotect = may; insert = λ h. refl; autoscroll = λ h. refl; locked = λ h. refl; local = λ h. refl }
+turned-modes m Mode.Insert b = record { protect = λ h. refl; writeprotect = λ h. refl; insert = may; autoscroll = λ h. refl; locked = λ h. refl; local = λ h. refl }
+turned-modes m Mode.Autoscroll b = record { protect = λ h. refl; writeprotect = λ h. refl; insert = λ h. refl; autoscroll = may; locked = λ h. refl; local = λ h. refl }
+turned-modes m Mode.Lock b = record { protect = λ h. refl; writeprotect = λ h. refl; insert = λ h. refl; autoscroll = λ h. refl; locked = may; local = λ h. refl }
+turned-modes m Mode.LocalEdit b = record { protect = λ h. refl; writeprotect = λ h. refl; insert = λ h. refl; autoscroll = λ h. refl; locked = λ h. refl; local = may }
 
 -- ---- of the set-up
 
 pub record SetupKept (l : List Part) (u v : Setup) : Type 0 where
-  pub tabs : listed Part.Tabs l ≡ false → v .tabs ≡ u .tabs
-  pub attributes : listed Part.Fields l ≡ false → v .attributes ≡ u .attributes
-  pub features : listed Part.Features l ≡ false → v .features ≡ u .features
-  pub keys : listed Part.Keys l ≡ false → v .keys ≡ u .keys
-  pub labels : listed Part.Labels l ≡ false → v .labels ≡ u .labels
-  pub message : listed Part.Message l ≡ false → v .message ≡ u .message
-  pub shifted : listed Part.Line l ≡ false → v .shifted ≡ u .shifted
-  pub wish : listed Part.Wish l ≡ false → v .wish ≡ u .wish
+  pub tabs : isListed Part.Tabs l ≡ false → v .tabs ≡ u .tabs
+  pub attributes : isListed Part.Fields l ≡ false → v .attributes ≡ u .attributes
+  pub features : isListed Part.Features l ≡ false → v .features ≡ u .features
+  pub keys : isListed Part.Keys l ≡ false → v .keys ≡ u .keys
+  pub labels : isListed Part.Labels l ≡ false → v .labels ≡ u .labels
+  pub message : isListed Part.Message l ≡ false → v .message ≡ u .message
+  pub shifted : isListed Part.Line l ≡ false → v .shifted ≡ u .shifted
+  pub wish : isListed Part.Wish l ≡ false → v .wish ≡ u .wish
 
-pub setup-framed : {l : List Part} {u v : Setup} → SetupKept l u v → (x : Part) → listed x l ≡ false → (n : ℕ) (c : Core) (p : List ℕ)
+pub setup-framed : {l : List Part} {u v : Setup} → SetupKept l u v → (x : Part) → isListed x l ≡ false → (n : ℕ) (c : Core) (p : List ℕ)
     → value x n c v p ≡ value x n c u p
 setup-framed k Part.Protect h n c p = refl
-setup-framed k Part.Mark h n c p = refl
+setup-framed k Part.WriteProtect h n c p = refl
 setup-framed k Part.Insert h n c p = refl
 setup-framed k Part.Autoscroll h n c p = refl
 setup-framed k Part.Lock h n c p = refl
@@ -147,11 +147,11 @@ setup-framed k (Part.Cells z) h n c p = refl
 
 -- ---- of the page
 
-pub page-framed : (l : List Part) {p q : List ℕ} → (listed Part.page l ≡ false → q ≡ p) → (x : Part) → listed x l ≡ false → (n : ℕ) (c : Core) (u : Setup)
+pub page-framed : (l : List Part) {p q : List ℕ} → (isListed Part.page l ≡ false → q ≡ p) → (x : Part) → isListed x l ≡ false → (n : ℕ) (c : Core) (u : Setup)
     → value x n c u q ≡ value x n c u p
 page-framed l e (Part.Cells z) h n c u = ap Part.Numbers (e h)
 page-framed l e Part.Protect h n c u = refl
-page-framed l e Part.Mark h n c u = refl
+page-framed l e Part.WriteProtect h n c u = refl
 page-framed l e Part.Insert h n c u = refl
 page-framed l e Part.Autoscroll h n c u = refl
 page-framed l e Part.Lock h n c u = refl

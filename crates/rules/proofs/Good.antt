@@ -13,11 +13,11 @@ use Rattle.rules.specs.declared.Plan.{Plan}
 use Rattle.rules.specs.declared.Answer.{Answer}
 use Rattle.rules.specs.declared.Answer.the-variants as Answer
 use Rattle.rules.specs.declared.Command.{Command}
-use Rattle.rules.specs.Cell.{among}
+use Rattle.rules.specs.Cell.{between}
 use Rattle.rules.specs.State.{number, widthOf, pageLength}
 use Rattle.rules.specs.Possible.{screenOk, rememberedOk}
 use Rattle.rules.specs.Plan.{planRule}
-use Rattle.rules.specs.Good.{GoodPlan, GoodPlans}
+use Rattle.rules.specs.theorems.Good.{GoodPlan, GoodPlans}
 use Rattle.rules.proofs.Screens.{screen-inside}
 use Rattle.rules.proofs.Commands.{Kind, changeOk, kindOf}
 use Rattle.rules.proofs.Forms.{Sound, Form, a-refusal, a-reply, a-change, a-write, formed}
@@ -34,7 +34,7 @@ pub record PlanKept (t : Bool) (c : Core) (x : Plan) : Type 0 where
   pub answer : eqb (number (x .answer)) 6 ≡ false
 
 -- a refusal is no 6
-not-six : (a : Answer) → among 2 3 (number a) ≡ true → eqb (number a) 6 ≡ false
+not-six : (a : Answer) → between 2 4 (number a) ≡ true → eqb (number a) 6 ≡ false
 not-six Answer.Done e = refl
 not-six Answer.HighByte e = refl
 not-six Answer.Unknown e = refl

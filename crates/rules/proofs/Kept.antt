@@ -43,14 +43,14 @@ use Rattle.rules.specs.Arguments.{isAttribute, featurePlace}
 use Rattle.rules.specs.Slot.{slotOk, slotLow, slotMost, allText, textOk, textsOk}
 use Rattle.rules.specs.Decode.{decodeRule}
 use Rattle.rules.specs.Plan.{planRule}
-use Rattle.rules.specs.Good.{GoodLand}
-use Rattle.rules.specs.Kept.{Keeps, Kept}
+use Rattle.rules.specs.theorems.Good.{GoodLand}
+use Rattle.rules.specs.theorems.Kept.{Keeps, Kept}
 use Rattle.rules.specs.Send.{leftFrom}
 use Rattle.rules.specs.Carry.{landed, Effect, pageAfter, done, begun, carried}
 use Rattle.rules.specs.Step.{obeyed, innerRule, Outcome, outcomeOf, goesOn, stepInside, stepRule}
 use Rattle.rules.specs.Calls.{powerOnRule, Ran, joined, repeated, behind, runInside, runRule, Call, Step, Run, Press, ofStep, ofRun, ofPress, callRule, after, play}
 use Rattle.rules.proofs.Tests.{pick-if, both-parts, both-true}
-use Rattle.rules.proofs.Marks.{length-guards}
+use Rattle.rules.proofs.Searching.{length-guards}
 use Rattle.rules.proofs.Places.{in-settled}
 use Rattle.rules.proofs.Screens.{screen-inside, cursor-kept}
 use Rattle.rules.proofs.Commands.{changeOk, kindOf}

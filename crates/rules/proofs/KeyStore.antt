@@ -11,7 +11,7 @@ use lib.ListN.{length, take, set, length-set}
 use Rattle.rules.specs.declared.ShortText.{ShortText}
 use Rattle.rules.specs.State.{shortText, keyPlace, stored}
 use Rattle.rules.specs.Slot.{textOk, textsOk}
-use Rattle.rules.specs.KeyStore.{keyBytes, KeyStores, Unused}
+use Rattle.rules.specs.theorems.KeyStore.{keyBytes, KeyStores, Unused}
 use Rattle.rules.proofs.Tests.{both-parts}
 use Rattle.rules.proofs.Texts.{text-parts, text-taken, texts-set}
 use Rattle.rules.proofs.Kept.{possible-parts}

@@ -29,7 +29,7 @@ use Rattle.rules.specs.Send.{Spot, places, bytesOf, beyond, standing, se
 use Rattle.rules.specs.Plan.{text, sendPlan, planRule}
 use Rattle.rules.specs.Carry.{Effect, begun, carried}
 use Rattle.rules.specs.Step.{obeyed, innerRule, Outcome, unheard, outcomeOf, goesOn, stepInside, stepRule}
-use Rattle.rules.specs.Labels.{Agreeing, LabelsStayIn}
+use Rattle.rules.specs.theorems.Labels.{Agreeing, LabelsStayIn}
 use Rattle.rules.proofs.Sends.{sending-idle}
 use Rattle.rules.proofs.Kept.{possible-parts, good-parts}
 use Rattle.rules.proofs.Related.{Related, related-length, related-at}

@@ -17,15 +17,15 @@ use Rattle.rules.specs.declared.Core.{Core}
 use Rattle.rules.specs.declared.Plan.{Plan}
 use Rattle.rules.specs.declared.Decoded.{Decoded}
 use Rattle.rules.specs.declared.Decoded.the-variants as Decoded
-use Rattle.rules.specs.Cell.{pick, among}
+use Rattle.rules.specs.Cell.{pick, between}
 use Rattle.rules.specs.Search.{guardedAt}
 use Rattle.rules.specs.State.{number, idle, sends, changed, sendingAfter, gatheredAfter, setupAfter}
 use Rattle.rules.specs.Possible.{pendingOk, good}
 use Rattle.rules.specs.Decode.{decodeRule}
 use Rattle.rules.specs.Carry.{Effect, quiet, applied, landed, done, begun, carried}
 use Rattle.rules.specs.Step.{Outcome, unheard, outcomeOf, obeyed, innerRule, goesOn, stepInside, stepRule}
-use Rattle.rules.specs.Left.{Left, Unchanged, StepLeft, StepHigh}
-use Rattle.rules.proofs.Tests.{pick-if, among-parts}
+use Rattle.rules.specs.theorems.Left.{Left, Unchanged, StepLeft, StepHigh}
+use Rattle.rules.proofs.Tests.{pick-if, between-parts}
 use Rattle.rules.proofs.Decoding.{decodedOk, decoded-ok}
 use Rattle.rules.proofs.Kept.{good-parts, possible-parts}
 use Rattle.rules.proofs.Planned.{Planned, obeys, replies, refuses, planned}
@@ -33,8 +33,8 @@ use Rattle.rules.proofs.Planned.{Planned, obeys, replies, refuses, plan
 -- how a byte ends: 0; 2 to 4 and the sequence cleared; 1 or 6 and nothing changed
 pub data Ended (p : List ℕ) (c : Core) : Effect → Type 0 where
   ends : {e : Effect} → e .answer ≡ 0 → Ended p c e
-  clears : (n : ℕ) → among 2 3 n ≡ true → Ended p c (quiet n (idle c) p)
-  keeps : (n : ℕ) → among 2 3 n ≡ false → (n ≤ 6) × (n ≡ 5 → ⊥) → Ended p c (quiet n c p)
+  clears : (n : ℕ) → between 2 4 n ≡ true → Ended p c (quiet n (idle c) p)
+  keeps : (n : ℕ) → between 2 4 n ≡ false → (n ≤ 6) × (n ≡ 5 → ⊥) → Ended p c (quiet n c p)
 
 module _ (p : List ℕ) (c : Core) where
   carried-ends : {n : ℕ} (x : Plan) (room : ℕ) → Planned n (idle c) x → Ended p c (carried p c x room)
@@ -71,12 +71,12 @@ module _ (p : List ℕ) (s : State) where
 
   ended-most : {e : Effect} → Ended p (s .core) e → e .answer ≤ 6
   ended-most (ends a) = omega (arith, a)
-  ended-most (clears m a) = omega (arith, among-parts 2 3 m a)
+  ended-most (clears m a) = omega (arith, between-parts 2 4 m a)
   ended-most (keeps m a l) = omega (arith, l .0)
 
   ended-five : {e : Effect} → Ended p (s .core) e → e .answer ≡ 5 → ⊥
   ended-five (ends a) h = omega (arith, a, h)
-  ended-five (clears m a) h = omega (arith, among-parts 2 3 m a, h)
+  ended-five (clears m a) h = omega (arith, between-parts 2 4 m a, h)
   ended-five (keeps m a l) h = l .1 h
 
   module _ (b room : ℕ) where

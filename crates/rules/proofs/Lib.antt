@@ -5,7 +5,7 @@ pub mod Convert
 pub mod ConvertCases
 pub mod Tests
 pub mod Rows
-pub mod Marks
+pub mod Searching
 pub mod Lengths
 pub mod Sends
 pub mod Related

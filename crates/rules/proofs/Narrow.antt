@@ -28,7 +28,7 @@ use Rattle.rules.specs.Cell.{pick}
 use Rattle.rules.specs.Row.{columns}
 use Rattle.rules.specs.State.{number, pageLength, awaiting, Inside, idle, sends, withSending, sendingAfter, gatheredAfter, setupAfter, changed}
 use Rattle.rules.specs.Possible.{good}
-use Rattle.rules.specs.Good.{GoodSend}
+use Rattle.rules.specs.theorems.Good.{GoodSend}
 use Rattle.rules.specs.Send.{commandOf, places, bytesOf, beyond, standing, sentFrom, leftFrom}
 use Rattle.rules.specs.Search.{guardedAt}
 use Rattle.rules.specs.Decode.{decodeRule}
@@ -36,10 +36,10 @@ use Rattle.rules.specs.Plan.{replying, planRule}
 use Rattle.rules.specs.Carry.{Effect, effect, quiet, done, begun, carried}
 use Rattle.rules.specs.Step.{Outcome, outcomeOf, obeyed, innerRule, goesOn, stepInside, stepRule}
 use Rattle.rules.specs.Calls.{Ran, ended, refusal, joined, repeated, behind, runInside, runRule}
-use Rattle.rules.specs.Steps.{Stopped, in-send, no-room, Repeats, Resumes, preceded}
-use Rattle.rules.specs.Bound.{leftOver}
-use Rattle.rules.specs.Narrow.{sum, fed, Same, Over, InRooms, Progress, EnoughRoom}
-use Rattle.rules.proofs.Tests.{pick-if, either-way, among-parts}
+use Rattle.rules.specs.theorems.Steps.{Stopped, in-send, no-room, Repeats, Resumes, preceded}
+use Rattle.rules.specs.theorems.Bound.{leftOver}
+use Rattle.rules.specs.theorems.Narrow.{sum, fed, Same, Over, InRooms, Progress, EnoughRoom}
+use Rattle.rules.proofs.Tests.{pick-if, either-way, between-parts}
 use Rattle.rules.proofs.Screens.{screen-inside}
 use Rattle.rules.proofs.Sends.{ok-good, not-sending, stands-still, sent-add, left-add, some-left, sent-fits, sent-full, sent-over}
 use Rattle.rules.proofs.Good.{PlanKept}
@@ -282,7 +282,7 @@ module _ (p : List ℕ) (s : State) (g : good p s ≡ true) (u : sends (s .sendi
       quiet-inner (effect 0 (awaiting (s .core) (Pending.Text x (n + 1))) (Change.Gather n c) p []) (λ room. rw (h, e)) refl u refl
   low-byte h (Decoded.Take x n) e k = quiet-inner (effect 0 (idle (s .core)) (Change.Take x n) p []) (λ room. rw (h, e)) refl u refl
   low-byte h (Decoded.Reject a) e k =
-      quiet-inner (quiet (number a) (idle (s .core)) p) (λ room. rw (h, e)) refl u (ne-eqb (number a) 6 (omega (arith, among-parts 2 3 (number a) k)))
+      quiet-inner (quiet (number a) (idle (s .core)) p) (λ room. rw (h, e)) refl u (ne-eqb (number a) 6 (omega (arith, between-parts 2 4 (number a) k)))
   low-byte h (Decoded.Do d) e k =
       let x = planRule (guardedAt (s .core .modes .protect) p) (s .setup .tabs) (idle (s .core)) d in
       carried-byte (ap-asked e (asked-byte (s .core .pending) b (ltb-true b 128 h))) x (planned (idle (s .core)) (guardedAt (s .core .modes .protect) p) (s .setup .tabs) d)

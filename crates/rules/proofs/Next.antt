@@ -21,9 +21,10 @@ use Rattle.rules.specs.Possible.{good}
 use Rattle.rules.specs.Send.{commandOf, sentFrom}
 use Rattle.rules.specs.Step.{Outcome, goesOn, stepInside, stepRule}
 use Rattle.rules.specs.Calls.{Ran, ended, refusal, joined, repeated, behind, runRule}
-use Rattle.rules.specs.Steps.{preceded}
-use Rattle.rules.specs.Narrow.{sum, Same, Over}
-use Rattle.rules.specs.Next.{isEvent, tells, atEvent, toEvent, nextInside, nextRule, replyCommand, heard, Answers, NextTells}
+use Rattle.rules.specs.theorems.Steps.{preceded}
+use Rattle.rules.specs.theorems.Narrow.{sum, Same, Over}
+use Rattle.rules.specs.Next.{isEvent, tells, atEvent, toEvent, nextInside, nextRule, replyCommand}
+use Rattle.rules.specs.theorems.NextTells.{fedNext, Answers, NextTells}
 use Rattle.rules.proofs.Kept.{step-good, run-good}
 use Rattle.rules.proofs.Bound.{step-full, step-begins, goes-bounded}
 use Rattle.rules.proofs.Left.{step-left, step-good-most}
@@ -295,9 +296,9 @@ next-then p s bytes room d g =
     same-trans (same-sym (then-more r left d (next-good p s bytes room g)))
     (same-trans (same-then (thenRun r left) (runRule p s bytes room) d (next-first p s bytes room g)) (split-run bytes p s g room d))
 
-heard-over : (rooms p : List ℕ) (s : State) (bytes : List ℕ) (room more : ℕ) → good p s ≡ true → Over (heard rooms p s bytes room)
-    → Same (heard rooms p s bytes room) (runRule p s bytes (room + sum rooms + more))
-unfolding heard sum
+heard-over : (rooms p : List ℕ) (s : State) (bytes : List ℕ) (room more : ℕ) → good p s ≡ true → Over (fedNext rooms p s bytes room)
+    → Same (fedNext rooms p s bytes room) (runRule p s bytes (room + sum rooms + more))
+unfolding fedNext sum
 heard-over [] p s bytes room more g o =
     let r = nextRule p s bytes room in
     rw (add-zero room) (same-trans (over-next r (room - length (r .reply) + more) (next-good p s bytes room g) o) (next-then p s bytes room more g))

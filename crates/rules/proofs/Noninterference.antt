@@ -33,7 +33,7 @@ use Rattle.rules.specs.Carry.{Effect, effect, quiet, planWidth, landed, 
 use Rattle.rules.specs.Step.{obeyed, innerRule, Outcome, unheard, outcomeOf, goesOn, stepInside, stepRule}
 use Rattle.rules.specs.Calls.{Ran, ended, joined, repeated, behind, runInside, runRule, pressRule, Call, Step, Run, Press, Called, ofStep, ofRun, ofPress, callRule, Played, after, play}
 use Rattle.rules.specs.Next.{tells, atEvent, toEvent, nextInside, nextRule}
-use Rattle.rules.specs.Noninterference.{afterEscape, anyOf, excludedBytes, completes, runCompletes, insideCompletes, callCompletes, anyCompleted, revealing, AlikePages, KeptPages, Demand3}
+use Rattle.rules.specs.theorems.Noninterference.{afterEscape, anyOf, excludedBytes, completes, runCompletes, insideCompletes, callCompletes, anyCompleted, revealing, AlikePages, KeptPages, Noninterference}
 use Rattle.rules.proofs.Related.{Related, related-alike, related-cell, related-length, related-guards, related-write, related-places, left-conceals}
 use Rattle.rules.proofs.Commands.{kindOf}
 use Rattle.rules.proofs.Unrevealing.{both-false, Unrevealing, unrevealing}
@@ -427,17 +427,17 @@ play-agrees (c ∷ cs) {x = x} h s closed e =
 
 -- pages alike are related to themselves, and related pages are kept as the statement says
 pub start-related : (p q : List ℕ) → AlikePages p q → Related p q p q
-start-related p q alike = related-alike p q (alike .length) (alike .bits) (alike .cells)
+start-related p q alike = related-alike p q (alike .size) (alike .bits) (alike .cells)
 
 pub related-kept : {p q x y : List ℕ} → Related p q x y → KeptPages p q x y
 related-kept h = record {
-  length = related-length h;
+  size = related-length h;
   open-cells = λ i. related-cell h i .open-cell;
   first = λ i. related-cell h i .first;
   second = λ i. related-cell h i .second;
 }
 
-pub noninterference : Demand3
+pub noninterference : Noninterference
 noninterference p q s t calls on conceals alike e =
     let a = play-agrees calls (start-related p q (alike .pages)) s record { on = on; conceals = conceals } e in
     rw (← (alike .state)) record { given = a .given; state = a .state; pages = related-kept (a .related) }

@@ -16,13 +16,13 @@ use Rattle.rules.specs.declared.Personality.{Personality}
 use Rattle.rules.specs.declared.Personality.the-variants as Personality
 use Rattle.rules.specs.declared.Contents.{Contents}
 use Rattle.rules.specs.declared.Contents.the-variants as Contents
-use Rattle.rules.specs.Cell.{pick, both, either, among, code, kind, attribute, cell, written, null, space, protectedSpace, isDim, isUnderscore, isReverse, isBlink, isBlank}
+use Rattle.rules.specs.Cell.{pick, both, either, between, code, kind, attribute, cell, written, null, space, protectedSpace, isDim, isUnderscore, isReverse, isBlink, isBlank}
 use Rattle.rules.specs.Possible.{rememberedOk}
 use Rattle.rules.specs.Arguments.{isFlags, isAttribute, attributeContents}
 use Rattle.rules.specs.Plan.{takesCell}
 use Rattle.rules.specs.Writable.{isStored, isAttributeCell, writable}
-use Rattle.rules.specs.Personalities.{ReadsAsBefore, NoFlags}
-use Rattle.rules.proofs.Tests.{pick-if, both-parts, both-true, either-parts, either-first, either-second, among-parts}
+use Rattle.rules.specs.theorems.Personalities.{ReadsAsBefore, NoFlags}
+use Rattle.rules.proofs.Tests.{pick-if, both-parts, both-true, either-parts, either-first, either-second, between-parts}
 use Rattle.rules.proofs.Commands.{storeOk, fillOk}
 
 -- ---- single numbers
@@ -67,26 +67,26 @@ null-ok m = refl
 
 -- text and graphics, with an attribute that is remembered
 stored-is : {v c a : ℕ} (m : Personality) (k : ℕ) → Read v c k a → rememberedOk m a ≡ true
-    → either (both (eqb k 0) (among 0x20 95 c)) (both (eqb k 2) (among 0x30 16 c)) ≡ true → writable m v ≡ true
+    → either (both (eqb k 0) (between 0x20 0x7e c)) (both (eqb k 2) (between 0x30 0x3f c)) ≡ true → writable m v ≡ true
 unfolding writable isStored
 stored-is {v} {c} {a} m k r h e =
     let f : rememberedOk m (attribute v) ≡ true = rw (r .flags) h in
-    let c : either (both (eqb (v / 256 % 4) 0) (among 0x20 95 (code v))) (both (eqb (v / 256 % 4) 2) (among 0x30 16 (code v))) ≡ true =
+    let c : either (both (eqb (v / 256 % 4) 0) (between 0x20 0x7e (code v))) (both (eqb (v / 256 % 4) 2) (between 0x30 0x3f (code v))) ≡ true =
     rw (r .kind-is, r .code-is) e in
     either-second (eqb v null) (either-first (isAttributeCell m v) (both-true (lt-ltb v 32768 (r .small)) (both-true f c)))
 
 pub stored-ok : (m : Personality) (k : Contents) (p : Bool) (a : ℕ) → storeOk k ≡ true → rememberedOk m a ≡ true → writable m (written k p a) ≡ true
 unfolding storeOk
 stored-ok m (Contents.Text c) p a e h =
-    let r = among-parts 0x20 95 c e in
+    let r = between-parts 0x20 0x7e c e in
     stored-is m 0 (read-cell c p 0 a (omega arith) (omega arith) (remembered-below m a h)) h (either-first _ e)
 stored-ok m (Contents.Attribute c) p a e h = absurd (false≢true e)
 stored-ok m (Contents.Graphic c) p a e h =
-    let r = among-parts 0x30 16 c e in
+    let r = between-parts 0x30 0x3f c e in
     stored-is m 2 (read-cell c p 2 a (omega arith) (omega arith) (remembered-below m a h)) h e
 
 -- normal text
-text-ok : (m : Personality) (c : ℕ) (p : Bool) → among 0x20 95 c ≡ true → writable m (written (Contents.Text c) p 0) ≡ true
+text-ok : (m : Personality) (c : ℕ) (p : Bool) → between 0x20 0x7e c ≡ true → writable m (written (Contents.Text c) p 0) ≡ true
 unfolding storeOk
 text-ok m c p e = stored-ok m (Contents.Text c) p 0 e (normal-remembered m)
 
@@ -99,8 +99,8 @@ protected-space-ok m = text-ok m 0x20 true refl
 -- a code of flags is below 80h, and no space
 pub flags-code : (a : ℕ) → isFlags a ≡ true → (a < 128) × (eqb a 0x20 ≡ false)
 flags-code a e =
-    ⊎-elim (λ h. let r = among-parts 0x30 16 a h in (omega arith, ne-eqb a 0x20 (omega arith)))
-    (λ h. let r = among-parts 0x70 15 a h in (omega arith, ne-eqb a 0x20 (omega arith))) (either-parts (among 0x30 16 a) (among 0x70 15 a) e)
+    ⊎-elim (λ h. let r = between-parts 0x30 0x3f a h in (omega arith, ne-eqb a 0x20 (omega arith)))
+    (λ h. let r = between-parts 0x70 0x7e a h in (omega arith, ne-eqb a 0x20 (omega arith))) (either-parts (between 0x30 0x3f a) (between 0x70 0x7e a) e)
 
 -- an attribute cell: ESC ! writes it unprotected, and in WY-50 ESC G as write-protect mode says
 attribute-free : (m : Personality) (c : ℕ) → isFlags c ≡ true → writable m (written (Contents.Attribute c) false 0) ≡ true
@@ -132,7 +132,7 @@ pub filled-ok : (m : Personality) (k : Contents) → fillOk k ≡ true → writa
 unfolding fillOk
 filled-ok m (Contents.Text c) e =
     ⊎-elim (λ h. let z = eqb-true c 0 h in rw z (null-ok m)) (text-ok m c false)
-    (either-parts (eqb c 0) (among 0x20 95 c) e)
+    (either-parts (eqb c 0) (between 0x20 0x7e c) e)
 filled-ok m (Contents.Attribute c) e = attribute-free m c e
 filled-ok m (Contents.Graphic c) e = absurd (false≢true e)
 
@@ -152,10 +152,10 @@ taken-ok m p a e t =
 
 pub data Kinds (m : Personality) (v : ℕ) : Type 0 where
   is-null : v ≡ 0 → Kinds m v
-  is-text : v < 32768 → rememberedOk m (attribute v) ≡ true → v / 256 % 4 ≡ 0 → among 0x20 95 (code v) ≡ true → Kinds m v
-  is-graphic : v < 32768 → rememberedOk m (attribute v) ≡ true → v / 256 % 4 ≡ 2 → among 0x30 16 (code v) ≡ true → Kinds m v
+  is-text : v < 32768 → rememberedOk m (attribute v) ≡ true → v / 256 % 4 ≡ 0 → between 0x20 0x7e (code v) ≡ true → Kinds m v
+  is-graphic : v < 32768 → rememberedOk m (attribute v) ≡ true → v / 256 % 4 ≡ 2 → between 0x30 0x3f (code v) ≡ true → Kinds m v
   is-free : v / 128 ≡ 2 → isFlags (code v) ≡ true → Kinds m v
-  is-marked : m ≡ Personality.Wy50 → v / 128 ≡ 3 → isFlags (code v) ≡ true → Kinds m v
+  is-protected : m ≡ Personality.Wy50 → v / 128 ≡ 3 → isFlags (code v) ≡ true → Kinds m v
 
 stored-kinds : (m : Personality) (v : ℕ) → isStored m v ≡ true → Kinds m v
 unfolding isStored
@@ -164,14 +164,14 @@ stored-kinds m v e =
     let k = both-parts (rememberedOk m (attribute v)) _ (r .1) in
     ⊎-elim (λ h. let x = both-parts (eqb (v / 256 % 4) 0) _ h in is-text (ltb-true v 32768 (r .0)) (k .0) (eqb-true _ 0 (x .0)) (x .1))
     (λ h. let x = both-parts (eqb (v / 256 % 4) 2) _ h in is-graphic (ltb-true v 32768 (r .0)) (k .0) (eqb-true _ 2 (x .0)) (x .1))
-    (either-parts (both (eqb (v / 256 % 4) 0) (among 0x20 95 (code v))) (both (eqb (v / 256 % 4) 2) (among 0x30 16 (code v))) (k .1))
+    (either-parts (both (eqb (v / 256 % 4) 0) (between 0x20 0x7e (code v))) (both (eqb (v / 256 % 4) 2) (between 0x30 0x3f (code v))) (k .1))
 
 attribute-kinds : (m : Personality) (v : ℕ) → isAttributeCell m v ≡ true → Kinds m v
 unfolding isAttributeCell
 attribute-kinds Personality.Wy50 v e =
     let r = both-parts (eqb (v / 256) 1) (isFlags (code v)) e in
     let q = eqb-true (v / 256) 1 (r .0) in
-    ⊎-elim (λ h. is-marked refl (omega (arith, ltb-false (v / 128) 3 h)) (r .1)) (λ h. is-free (omega (arith, ltb-true (v / 128) 3 h)) (r .1))
+    ⊎-elim (λ h. is-protected refl (omega (arith, ltb-false (v / 128) 3 h)) (r .1)) (λ h. is-free (omega (arith, ltb-true (v / 128) 3 h)) (r .1))
     (split (ltb (v / 128) 3))
   where
     split : (t : Bool) → (t ≡ false) ⊎ (t ≡ true)
@@ -241,7 +241,7 @@ small-50 v (is-null e) = omega arith
 small-50 v (is-text l a k c) = below-1024 v l (eqb-true (attribute v) 0 a)
 small-50 v (is-graphic l a k c) = below-1024 v l (eqb-true (attribute v) 0 a)
 small-50 v (is-free k c) = omega arith
-small-50 v (is-marked e k c) = omega arith
+small-50 v (is-protected e k c) = omega arith
 
 pub normal-50 : (v : ℕ) → writable Personality.Wy50 v ≡ true → (v < 1024) × NoFlags v
 normal-50 v e =

@@ -18,13 +18,13 @@ use Rattle.rules.specs.declared.Land.{Land}
 use Rattle.rules.specs.declared.Land.the-variants as Land
 use Rattle.rules.specs.Cell.{both, either}
 use Rattle.rules.specs.Row.{columnOf, rowStart}
-use Rattle.rules.specs.Search.{others, marksOf, firstIn, lastIn, lastMark, previousOpen, nextField, previousField, nextTab, previousTab, settled}
-use Rattle.rules.specs.declared.Mark.the-variants as Mark
+use Rattle.rules.specs.Search.{others, soughtAt, firstIn, lastIn, lastTrue, previousOpen, nextField, previousField, nextTab, previousTab, settled}
+use Rattle.rules.specs.declared.Sought.the-variants as Sought
 use Rattle.rules.specs.State.{widthOf, pageLength, segmentStart, segmentEnd, cursorOf, Inside}
 use Rattle.rules.specs.Plan.{nextCell, atTop, upCell, isSegment}
-use Rattle.rules.specs.Good.{GoodLand}
+use Rattle.rules.specs.theorems.Good.{GoodLand}
 use Rattle.rules.proofs.Tests.{pick-if, both-parts}
-use Rattle.rules.proofs.Marks.{length-marks, last-range, around-range, back-range}
+use Rattle.rules.proofs.Searching.{length-sought, last-range, around-range, back-range}
 
 -- ---- tab stops, whatever their number
 
@@ -32,7 +32,7 @@ pub next-tab-below : (w : ℕ) (tabs : List Bool) (column : ℕ) → column < w 
 next-tab-below w tabs column h =
     pick-if (λ (n : ℕ). n < w) (ltb (firstIn tabs (column + 1) w) w) (ltb-true (firstIn tabs (column + 1) w) w) (λ e. h)
 
-last-at-most : (none at most : ℕ) (m : List Bool) → none ≤ most → at + length m ≤ most + 1 → lastMark none at m ≤ most
+last-at-most : (none at most : ℕ) (m : List Bool) → none ≤ most → at + length m ≤ most + 1 → lastTrue none at m ≤ most
 last-at-most none at most [] a b = a
 last-at-most none at most (true ∷ m) a b = last-at-most at (suc at) most m (omega arith) (omega arith)
 last-at-most none at most (false ∷ m) a b = last-at-most none (suc at) most m a (omega arith)
@@ -76,24 +76,24 @@ module _ (x : Screen) (i : Inside x) where
   module _ (g : List Bool) (n : length g ≡ pageLength x) where
     pub in-back : In x (previousOpen g (segmentStart x) (cursorOf x))
     in-back =
-        let k = length-marks Mark.Open g in
+        let k = length-sought Sought.Open g in
         let r = last-range (others g) (cursorOf x) (segmentStart x) (cursorOf x) (cursorOf x) (i .from) (omega arith) (i .from)
         (omega arith) (omega arith) in
         omega arith
 
     pub in-next-field : In x (nextField g (segmentStart x) (segmentEnd x) (cursorOf x))
     in-next-field =
-        let k = length-marks (Mark.FieldStart (segmentStart x)) g in
-        around-range (marksOf (Mark.FieldStart (segmentStart x)) g) (segmentStart x) (segmentEnd x) (cursorOf x + 1) (omega arith)
+        let k = length-sought (Sought.FieldStart (segmentStart x)) g in
+        around-range (soughtAt (Sought.FieldStart (segmentStart x)) g) (segmentStart x) (segmentEnd x) (cursorOf x + 1) (omega arith)
         (omega arith) (omega arith) (omega arith)
 
     pub in-previous-field : In x (previousField g (segmentStart x) (segmentEnd x) (cursorOf x))
     in-previous-field =
-        let k = length-marks (Mark.FieldStart (segmentStart x)) g in
-        back-range (marksOf (Mark.FieldStart (segmentStart x)) g) (segmentStart x) (segmentEnd x) (cursorOf x) (omega arith) (i .from)
+        let k = length-sought (Sought.FieldStart (segmentStart x)) g in
+        back-range (soughtAt (Sought.FieldStart (segmentStart x)) g) (segmentStart x) (segmentEnd x) (cursorOf x) (omega arith) (i .from)
         (omega arith) (omega arith)
 
     pub in-settled : (at : ℕ) → In x at → In x (settled g (segmentStart x) (segmentEnd x) at)
     in-settled at h =
-        let k = length-marks Mark.Open g in
+        let k = length-sought Sought.Open g in
         around-range (others g) (segmentStart x) (segmentEnd x) at (omega arith) (h .0) (omega arith) (omega arith)

@@ -12,7 +12,7 @@ use Rattle.rules.specs.declared.Sending.the-variants as Sending
 use Rattle.rules.specs.declared.Answer.{Answer}
 use Rattle.rules.specs.declared.Answer.the-variants as Answer
 use Rattle.rules.specs.declared.Command.{Command}
-use Rattle.rules.specs.Cell.{among}
+use Rattle.rules.specs.Cell.{between}
 use Rattle.rules.specs.State.{number, sends}
 use Rattle.rules.specs.Send.{commandOf}
 use Rattle.rules.specs.Plan.{refusing, replying, planRule}
@@ -23,7 +23,7 @@ use Rattle.rules.proofs.Forms.{Form, a-refusal, a-reply, a-change, a-wr
 pub data Planned (n : ℕ) (c : Core) : Plan → Type 0 where
   obeys : {x : Plan} → x .answer ≡ Answer.Done → x .reply ≡ Sending.Nothing → Planned n c x
   replies : (y : Sending) → sends y ≡ true → commandOf y ≡ n → Planned n c (replying c y)
-  refuses : (a : Answer) → among 2 3 (number a) ≡ true → Planned n c (refusing c a)
+  refuses : (a : Answer) → between 2 4 (number a) ≡ true → Planned n c (refusing c a)
 
 of-form : {k : Kind} {g : List Bool} {c : Core} {x : Plan} → Form k g c x → Planned (k .asks) c x
 of-form (a-refusal a e) = refuses a e

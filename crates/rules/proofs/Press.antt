@@ -9,7 +9,7 @@ use lib.ListN.{length}
 use borrow.Author.Tests.{le-leb, lt-leb, ne-eqb}
 use Rattle.rules.specs.declared.State.{State}
 use Rattle.rules.specs.Calls.{keySends, keyAt, pressRule, ofPress, callRule}
-use Rattle.rules.specs.Press.{Sends, PressesGive}
+use Rattle.rules.specs.theorems.Press.{Sends, PressesGive}
 
 key-sends : (s : State) (v : ℕ) → Sends s v (keySends (keyAt s v) v)
 unfolding keySends

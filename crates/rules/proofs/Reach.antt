@@ -25,7 +25,7 @@ use Rattle.rules.specs.declared.Decoded.{Decoded}
 use Rattle.rules.specs.declared.Decoded.the-variants as Decoded
 use Rattle.rules.specs.declared.Sending.the-variants as Sending
 use Rattle.rules.specs.Row.{columns}
-use Rattle.rules.specs.Cell.{both, either, among}
+use Rattle.rules.specs.Cell.{both, either, between}
 use Rattle.rules.specs.State.{awaiting, sends, changed, sendingAfter, gatheredAfter, setupAfter}
 use Rattle.rules.specs.Arguments.{isAttribute, featurePlace, isKey, isLabel}
 use Rattle.rules.specs.Slot.{slotOk, slotEnd, slotMost, slotLow, isText, allText, textOk, textsOk}
@@ -34,8 +34,8 @@ use Rattle.rules.specs.Decode.{lookup, idleRule, escapeRule, splitRule, 
 use Rattle.rules.specs.Send.{digit}
 use Rattle.rules.specs.Step.{Outcome, obeyed, innerRule, stepRule}
 use Rattle.rules.specs.Calls.{Call, Ran, joined, repeated, runRule, play}
-use Rattle.rules.specs.Reach.{digits, opening, slotBytes, bytesFor, UnderWay, Reach}
-use Rattle.rules.proofs.Tests.{both-parts, both-true, among-parts}
+use Rattle.rules.specs.theorems.Reach.{digits, opening, slotBytes, bytesFor, UnderWay, Reach}
+use Rattle.rules.proofs.Tests.{both-parts, both-true, between-parts}
 use Rattle.rules.proofs.Texts.{text-parts}
 use Rattle.rules.proofs.Decoding.{decodedOk, decoded-ok}
 use Rattle.rules.proofs.Kept.{PossibleState, possible-parts, play-keeps, powerOn-possible}
@@ -117,7 +117,7 @@ module _ (most : ℕ) (next : ℕ → ℕ → Pending)
       whole = omega arith
 
 -- a digit is taken where one may come
-is-digit : (n most b : ℕ) → n < most → 0x30 ≤ b → b < 0x3a → both (among 0x30 10 b) (ltb n most) ≡ true
+is-digit : (n most b : ℕ) → n < most → 0x30 ≤ b → b < 0x3a → both (between 0x30 0x39 b) (ltb n most) ≡ true
 is-digit n most b h l m = rw (le-leb 0x30 b l, lt-ltb b 0x3a m, lt-ltb n most h)
 
 lead-row : (n x : ℕ) → n ≤ 2 → x < 10 ^ n → Leads (digits n x) (Pending.DecimalRow 0 0) none (Pending.DecimalRow n x) none
@@ -179,12 +179,12 @@ lead-text x n (b ∷ l) g h e =
     gather (t .0) w y
 
 -- the value of a key or a label is below 80h, and no value is both
-value-below : (first second n v : ℕ) → either (among first n v) (among second n v) ≡ true → first + n ≤ 128 → second + n ≤ 128 → v < 128
-value-below first second n v e h k = by (among first n v) refl e
+value-below : (first last from to v : ℕ) → either (between first last v) (between from to v) ≡ true → last < 128 → to < 128 → v < 128
+value-below first last from to v e h k = by (between first last v) refl e
   where
-    by : (s : Bool) → among first n v ≡ s → either s (among second n v) ≡ true → v < 128
-    by true a e = omega (arith, among-parts first n v a)
-    by false a e = omega (arith, among-parts second n v e)
+    by : (s : Bool) → between first last v ≡ s → either s (between from to v) ≡ true → v < 128
+    by true a e = omega (arith, between-parts first last v a)
+    by false a e = omega (arith, between-parts from to v e)
 
 -- ---- the bytes of each sequence
 
@@ -211,26 +211,26 @@ led-column row n column e =
 -- ESC z and its value, or ESC F, and then the text
 not-key : (v : ℕ) → isLabel v ≡ true → isKey v ≡ false
 unfolding isKey isLabel
-not-key v e = by (among 0x30 8 v) refl e
+not-key v e = by (between 0x30 0x37 v) refl e
   where
     unfold-both : (t : Bool) → either (both t false) false ≡ false
     unfold-both true = refl
     unfold-both false = refl
 
-    by : (s : Bool) → among 0x30 8 v ≡ s → either s (among 0x50 8 v) ≡ true → either (among 0x40 16 v) (among 0x60 16 v) ≡ false
+    by : (s : Bool) → between 0x30 0x37 v ≡ s → either s (between 0x50 0x57 v) ≡ true → either (between 0x40 0x4f v) (between 0x60 0x6f v) ≡ false
     by true a e =
-        let r = among-parts 0x30 8 v a in
+        let r = between-parts 0x30 0x37 v a in
         rw (lt-leb 0x40 v (omega arith), lt-leb 0x60 v (omega arith))
     by false a e =
-        let r = among-parts 0x50 8 v e in
+        let r = between-parts 0x50 0x57 v e in
         rw (le-ltb v 0x50 (omega arith), lt-leb 0x60 v (omega arith)) (unfold-both (leb 0x40 v))
 
 led-slot : {bs : List ℕ} {z : Pending} {g : List ℕ} (x : Slot) → slotOk x ≡ true → Leads bs (Pending.Text x 0) none z g
     → Leads (0x1b ∷ (slotBytes x ++ bs)) Pending.Idle none z g
 unfolding slotBytes slotOk decodeRule argumentRule escapeRule lookup slotRule isKey isLabel
-led-slot (Slot.Key v) e x = escape (lit< tt) refl (wait (value-below 0x40 0x60 16 v e (omega arith) (omega arith)) (rw e) x)
+led-slot (Slot.Key v) e x = escape (lit< tt) refl (wait (value-below 0x40 0x4f 0x60 0x6f v e (omega arith) (omega arith)) (rw e) x)
 led-slot (Slot.Label v) e x =
-    escape (lit< tt) refl (wait (value-below 0x30 0x50 8 v e (omega arith) (omega arith)) (rw (not-key v e, e)) x)
+    escape (lit< tt) refl (wait (value-below 0x30 0x37 0x50 0x57 v e (omega arith) (omega arith)) (rw (not-key v e, e)) x)
 led-slot Slot.Message e x = escape (lit< tt) refl x
 
 most-fits : (x : Slot) → slotMost x ≤ 46

@@ -24,12 +24,12 @@ use Rattle.rules.specs.declared.Sending.{Sending}
 use Rattle.rules.specs.declared.Sending.the-variants as Sending
 use Rattle.rules.specs.Cell.{pick, protected}
 use Rattle.rules.specs.Row.{rowEnd}
-use Rattle.rules.specs.Search.{marksBy, guardedAt, firstMark, firstIn, editEnd}
+use Rattle.rules.specs.Search.{whichCells, guardedAt, firstTrue, firstIn, editEnd}
 use Rattle.rules.specs.Change.{within, fillCell, filled, shiftLeft, shiftRight, shifted, editShifted, columnFilled}
 use Rattle.rules.specs.State.{widthOf, cursorOf}
 use Rattle.rules.specs.Send.{Spot, openCell, shortReply, each, cellPlace, textPlaces, followsLeftOut, textAt, places, beyond, standing, leftFrom}
 use Rattle.rules.specs.Carry.{applied}
-use Rattle.rules.specs.Noninterference.{revealing}
+use Rattle.rules.specs.theorems.Noninterference.{revealing}
 use Rattle.rules.proofs.Tests.{pick-if}
 
 -- p and q are the pages at the start, x and y the pages now
@@ -103,7 +103,7 @@ related-within a e f {p} {q} h k =
 -- ---- what is read
 
 pub related-guards : {p q x y : List ℕ} → Related p q x y → guardedAt true x ≡ guardedAt true y
-unfolding marksBy
+unfolding whichCells
 related-guards none = refl
 related-guards (secret u v h) = rw (u, v, related-guards h)
 related-guards (public u h) = rw (related-guards h)
@@ -248,20 +248,20 @@ public-cons {n} {a} {c} {p} {q} {x} u r = record { equal = ap {B = List ℕ} (λ
     more [] e = absurd (suc-ne-zero (length (take n x)) (sym e))
     more (d ∷ l) e = public u (r .any l (suc-inj e))
 
--- how many cells come before the first mark
+-- how many cells come before the first cell sought
 abbrev before : List Bool → ℕ
 before [] = 0
 before (true ∷ m) = 0
 before (false ∷ m) = suc (before m)
 
-before-is : (at : ℕ) (m : List Bool) → firstMark at m ≡ at + before m
+before-is : (at : ℕ) (m : List Bool) → firstTrue at m ≡ at + before m
 before-is at [] = omega arith
 before-is at (true ∷ m) = omega arith
 before-is at (false ∷ m) = before-is (suc at) m ∙ omega arith
 
 -- cells up to the first guarded one are public
 public-before : (n : ℕ) {p q x y : List ℕ} → Related p q x y → Public (before (take n (guardedAt true x))) p q x y
-unfolding marksBy
+unfolding whichCells
 public-before zero h = public-none
 public-before (suc n) none = public-none
 public-before (suc n) (secret u v h) = rw u public-none
@@ -274,7 +274,7 @@ public-before (suc n) (public {a} {c} {p} {q} {x} {y} u h) = by (protected c) (p
 
 public-run : (at e : ℕ) {p q x y : List ℕ} → Related p q x y
     → Public (before (drop at (take e (guardedAt true x)))) (drop at p) (drop at q) (drop at x) (drop at y)
-unfolding marksBy
+unfolding whichCells
 public-run zero e h = public-before e h
 public-run (suc at) zero h = public-none
 public-run (suc at) (suc e) none = public-none

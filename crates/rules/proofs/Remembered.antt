@@ -8,7 +8,7 @@ use borrow.Author.Tests.{eqb-true, ltb-true}
 use Rattle.rules.specs.declared.Personality.{Personality}
 use Rattle.rules.specs.declared.Personality.the-variants as Personality
 use Rattle.rules.specs.Row.{columns, rowEnd}
-use Rattle.rules.specs.Search.{marksBy, others, startsFrom, firstIn, lastIn, around, aroundBack}
+use Rattle.rules.specs.Search.{whichCells, others, startsFrom, firstIn, lastIn, around, aroundBack}
 use Rattle.rules.specs.Change.{within, filled, shiftLeft, shiftRight, editShifted, rowsShifted, columnFilled}
 use Rattle.rules.specs.State.{segmentTop, segmentBottom, cursorOf, withCursor, withMode, changed, stored, sendingAfter, gatheredAfter, setupAfter}
 use Rattle.rules.specs.Possible.{powerOn, blank, unsplitOk, splitOk, screenOk, attributesOk, featuresOk, pendingOk, rememberedOk, placeOk, sendingOk, noStops, coreOk, setupOk, possible, good}
@@ -20,14 +20,14 @@ use Rattle.rules.specs.Send.{model, openCell, shortReply, each, cellPlac
 use Rattle.rules.specs.Carry.{applied, landed, done, begun, carried}
 use Rattle.rules.specs.Step.{obeyed, innerRule, goesOn, stepInside, stepRule}
 use Rattle.rules.specs.Calls.{joined, repeated, behind, runInside, runRule, keySends, pressRule, ofStep, ofRun, ofPress, callRule, after, play}
-use Rattle.rules.specs.Reach.{attributeBytes}
+use Rattle.rules.specs.theorems.Reach.{attributeBytes}
 use Rattle.rules.proofs.ExcludedBytes.{values, below}
 
 abbrev remembered : Personality → ℕ → ℕ
 remembered m a = runRule blank (powerOn m) (attributeBytes a) 1944 .state .core .attribute
 
 normal-reached : remembered Personality.Wy50 0 ≡ 0
-unfolding attributeBytes columns rowEnd marksBy others startsFrom firstIn lastIn around aroundBack
+unfolding attributeBytes columns rowEnd whichCells others startsFrom firstIn lastIn around aroundBack
     within filled shiftLeft shiftRight editShifted rowsShifted columnFilled segmentTop segmentBottom cursorOf withCursor withMode changed stored sendingAfter gatheredAfter setupAfter
     powerOn blank unsplitOk splitOk screenOk isLabel slotOk slotEnd slotMost slotLow isText allText textOk textsOk isAttribute attributesOk featurePlace featuresOk isKey pendingOk rememberedOk placeOk sendingOk
     noStops coreOk setupOk possible good lookup idleRule escapeRule judged attributeContents attributeOf featureRule fieldRule splitRule digitRule decimalRowRule
@@ -38,7 +38,7 @@ unfolding attributeBytes columns rowEnd marksBy others startsFrom firstIn lastIn
 normal-reached = refl
 
 all-reached : values 31 (λ a. eqb (remembered Personality.Wy60 a) a) ≡ values 31 (λ a. true)
-unfolding attributeBytes columns rowEnd marksBy others startsFrom firstIn lastIn around aroundBack
+unfolding attributeBytes columns rowEnd whichCells others startsFrom firstIn lastIn around aroundBack
     within filled shiftLeft shiftRight editShifted rowsShifted columnFilled segmentTop segmentBottom cursorOf withCursor withMode changed stored sendingAfter gatheredAfter setupAfter
     powerOn blank unsplitOk splitOk screenOk isLabel slotOk slotEnd slotMost slotLow isText allText textOk textsOk isAttribute attributesOk featurePlace featuresOk isKey pendingOk rememberedOk placeOk sendingOk
     noStops coreOk setupOk possible good lookup idleRule escapeRule judged attributeContents attributeOf featureRule fieldRule splitRule digitRule decimalRowRule

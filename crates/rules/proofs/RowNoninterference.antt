@@ -12,9 +12,10 @@ use Rattle.rules.specs.Cell.{pick, either, same}
 use Rattle.rules.specs.State.{widthOf}
 use Rattle.rules.specs.Step.{unheard, stepRule}
 use Rattle.rules.specs.Calls.{Call, Step, Run, Called, runRule, ended, ofStep, ofRun, callRule, Given, after, play}
-use Rattle.rules.specs.Noninterference.{callCompletes, anyCompleted}
+use Rattle.rules.specs.theorems.Noninterference.{callCompletes, anyCompleted}
 use Rattle.rules.specs.RowList.{rowList, rowsOf, agrees}
-use Rattle.rules.specs.RowCalls.{stepRowsRule, runRowsRule, rowsAfter, canRebuild, Session, RowCall, Bare, ListStep, ListRun, Next, Rebuild, RowCalled, left, suits, nextRowsRule, handed, heard, runOf, rowCallRule, RowPlayed, rowAfter, rowPlay, bareCall, bareCalls, RowDemand3}
+use Rattle.rules.specs.RowCalls.{stepRowsRule, runRowsRule, rowsAfter, canRebuild, Session, RowCall, Bare, ListStep, ListRun, Next, Rebuild, RowCalled, left, suits, nextRowsRule, handed, heard, runOf, rowCallRule, RowPlayed, rowAfter, rowPlay, bareCall, bareCalls}
+use Rattle.rules.specs.theorems.RowNoninterference.{RowNoninterference}
 use Rattle.rules.proofs.Related.{Related}
 use Rattle.rules.proofs.RowSteps.{call-leaves}
 use Rattle.rules.proofs.Noninterference.{protects, Closed, guards-agree, good-agrees, AgreeCall, call-agrees, next-call-agrees, either-left, either-right, start-related, related-kept}
@@ -137,7 +138,7 @@ row-play-agrees (c ∷ cs) {x = x} h l s closed e =
     rw (a .called .given, ← (a .rows))
     record { given = rw (b .given); lists = rw (b .lists); rows = b .rows; state = b .state; related = b .related }
 
-pub row-noninterference : RowDemand3
+pub row-noninterference : RowNoninterference
 row-noninterference p q l s calls on conceals alike e =
     let a = row-play-agrees calls (start-related p q alike) l s record { on = on; conceals = conceals } e in
     record {

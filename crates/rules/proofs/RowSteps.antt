@@ -23,7 +23,8 @@ use Rattle.rules.specs.Step.{stepRule}
 use Rattle.rules.specs.Calls.{ended, runRule, Call, Step, Run, ofStep, ofRun, callRule, Given, Played, after, play}
 use Rattle.rules.specs.Next.{nextRule}
 use Rattle.rules.specs.RowList.{rowNumbers, rowList, rowsOf, agrees}
-use Rattle.rules.specs.RowCalls.{stepRowsRule, runRowsRule, suits, nextRowsRule, rowsAfter, canRebuild, rebuildAnswer, rebuilt, Session, RowCall, Bare, ListStep, ListRun, Next, Rebuild, handed, left, rowCallRule, rowAfter, rowPlay, bareCall, bareCalls, EqualResults, Disagreeing, Rebuilding}
+use Rattle.rules.specs.RowCalls.{stepRowsRule, runRowsRule, suits, nextRowsRule, rowsAfter, canRebuild, rebuildAnswer, rebuilt, Session, RowCall, Bare, ListStep, ListRun, Next, Rebuild, handed, left, rowCallRule, rowAfter, rowPlay, bareCall, bareCalls}
+use Rattle.rules.specs.theorems.RowSteps.{EqualResults, Disagreeing, Rebuilding}
 use Rattle.rules.proofs.Tests.{both-parts, both-true}
 use Rattle.rules.proofs.Next.{next-run}
 
@@ -147,7 +148,7 @@ disagreeing = record {
   run = λ p l s bytes room e. rw e;
   next = λ p l s bytes room e n. rw (ne-eqb (length l) 0 n, e);
   kept = λ p l s p′ s′ e. rw e;
-  length = λ p l s n. not-the-same l (rowsOf p s)
+  wrong-length = λ p l s n. not-the-same l (rowsOf p s)
       (λ e. n (ap length e ∙ length-list (widthOf (s .core .screen)) (guardedAt (s .core .modes .protect) p)));
 }
 

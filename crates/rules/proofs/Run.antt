@@ -18,7 +18,7 @@ use Rattle.rules.specs.State.{sends}
 use Rattle.rules.specs.Possible.{good}
 use Rattle.rules.specs.Step.{Outcome, goesOn, stepRule}
 use Rattle.rules.specs.Calls.{Ran, ended, refusal, joined, repeated, runInside, runRule}
-use Rattle.rules.specs.Steps.{steps, isRefusal, refusals, repliesOf, lastPage, lastState, Stopped, in-send, no-room, Repeats, RunRepeats, RunResumes, RunUnheard, RunRefused, preceded, continued}
+use Rattle.rules.specs.theorems.Steps.{steps, isRefusal, refusals, repliesOf, lastPage, lastState, Stopped, in-send, no-room, Repeats, RunRepeats, RunResumes, RunUnheard, RunRefused, preceded, continued}
 use Rattle.rules.proofs.Kept.{keeps-good, goes-keeps, step-good}
 use Rattle.rules.proofs.Bound.{reply-fits, step-full, goes-bounded}
 

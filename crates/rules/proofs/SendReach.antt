@@ -36,7 +36,7 @@ use Rattle.rules.specs.Send.{Spot, spot, shortReply, each, leavesOut, ce
 use Rattle.rules.specs.Carry.{begun, carried}
 use Rattle.rules.specs.Step.{Outcome, obeyed, innerRule, stepRule}
 use Rattle.rules.specs.Calls.{Ran, joined, runRule}
-use Rattle.rules.specs.SendReach.{asked, unsent, blankFor, LeftBy, SendReach}
+use Rattle.rules.specs.theorems.SendReach.{asked, unsent, blankFor, LeftBy, SendReach}
 use Rattle.rules.proofs.Tests.{both-parts, pick-if}
 use Rattle.rules.proofs.Screens.{screen-inside}
 use Rattle.rules.proofs.Sends.{sending-idle, idle-is, places-small, beyond-zero, beyond-one, beyond-add, nextPlace, own-cell, own-break, own-return, short-long}

@@ -32,7 +32,7 @@ use Rattle.rules.specs.Cell.{pick, both, guarded}
 use Rattle.rules.specs.Row.{Width, columnOf}
 use Rattle.rules.specs.State.{widthOf, pageLength, cursorOf, textStart, isIdle, sends, Inside}
 use Rattle.rules.specs.Possible.{shortLength, placeOk, sendingOk, repliesOn}
-use Rattle.rules.specs.Good.{GoodPlace, GoodSend}
+use Rattle.rules.specs.theorems.Good.{GoodPlace, GoodSend}
 use Rattle.rules.specs.Send.{Spot, spot, openCell, shortReply, each, leavesOut, leftOut, cellPlace, textPlaces, textFrom, followsLeftOut, textAt, places, bytesOf, beyond, standing, sentFrom, leftFrom}
 use Rattle.rules.proofs.Tests.{pick-if, both-parts, both-true}
 use Rattle.rules.proofs.Rows.{by-width, columns-width, width-range, column-below}

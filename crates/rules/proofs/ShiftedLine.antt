@@ -44,7 +44,7 @@ use Rattle.rules.specs.Plan.{settingPlan, planRule}
 use Rattle.rules.specs.Carry.{Effect, done, begun, carried}
 use Rattle.rules.specs.Step.{obeyed, innerRule, Outcome, goesOn, stepInside, stepRule}
 use Rattle.rules.specs.Calls.{ofPress, callRule}
-use Rattle.rules.specs.ShiftedLine.{lineAfter, slotAwaited, upperText, upperUnderWay, ShiftedLine}
+use Rattle.rules.specs.theorems.ShiftedLine.{lineAfter, slotAwaited, upperText, upperUnderWay, ShiftedLine}
 use Rattle.rules.proofs.Tests.{pick-if}
 use Rattle.rules.proofs.Commands.{Kind, atPowerOn, kindOf}
 use Rattle.rules.proofs.Forms.{Form, a-refusal, a-reply, a-change, a-write, formed}

@@ -6,7 +6,7 @@ use mathlib.Core.Logic.{_⊎_, inl, inr}
 use Prim.Native.Nat.{ℕ, _+_, _≤_, _<_}
 use lib.Dec.{leb, ltb}
 use borrow.Author.Tests.{leb-true, ltb-true, lt-ltb, le-leb, eq-eqb}
-use Rattle.rules.specs.Cell.{pick, both, either, among}
+use Rattle.rules.specs.Cell.{pick, both, either, between, among}
 
 -- a choice has what each of its sides has, each with what the test says
 pub pick-if : {A : Type 0} (P : A → Type 0) (t : Bool) {a b : A} → (t ≡ true → P a) → (t ≡ false → P b) → P (pick t a b)
@@ -34,6 +34,11 @@ either-first b e = rw e
 pub either-second : (a : Bool) {b : Bool} → b ≡ true → either a b ≡ true
 either-second true e = refl
 either-second false e = e
+
+pub between-parts : (first last v : ℕ) → between first last v ≡ true → (first ≤ v) × (v < last + 1)
+between-parts first last v e =
+    let r = both-parts (leb first v) (ltb v (last + 1)) e in
+    (leb-true first v (r .0), ltb-true v (last + 1) (r .1))
 
 pub among-parts : (first n v : ℕ) → among first n v ≡ true → (first ≤ v) × (v < first + n)
 among-parts first n v e =

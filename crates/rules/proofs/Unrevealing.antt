@@ -10,7 +10,7 @@ use Rattle.rules.specs.declared.Command.{Command}
 use Rattle.rules.specs.Cell.{both}
 use Rattle.rules.specs.State.{number}
 use Rattle.rules.specs.Plan.{planRule}
-use Rattle.rules.specs.Noninterference.{revealing}
+use Rattle.rules.specs.theorems.Noninterference.{revealing}
 use Rattle.rules.proofs.Related.{spares}
 use Rattle.rules.proofs.Commands.{Kind, kindOf}
 use Rattle.rules.proofs.Forms.{Form, a-refusal, a-reply, a-change, a-write, formed}

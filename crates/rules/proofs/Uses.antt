@@ -12,15 +12,15 @@ use Rattle.rules.specs.Cell.{both, either, protected}
 use Rattle.rules.specs.State.{withCursor}
 use Rattle.rules.specs.Possible.{powerOn}
 use Rattle.rules.specs.Calls.{Call}
-use Rattle.rules.specs.Noninterference.{AlikePages, afterEscape, anyOf, excludedBytes, completes, callCompletes, anyCompleted, revealing}
-use Rattle.rules.specs.Inputs.{cursorAt, protectAt}
-use Rattle.rules.specs.PersonalityCases.{as60}
-use Rattle.rules.specs.Wide.{wideAt, wideProtectAt}
-use Rattle.rules.specs.Uses.{Unseen, someCalls, Uses}
+use Rattle.rules.specs.theorems.Noninterference.{AlikePages, afterEscape, anyOf, excludedBytes, completes, callCompletes, anyCompleted, revealing}
+use Rattle.rules.specs.cases.Inputs.{cursorAt, protectAt}
+use Rattle.rules.specs.cases.PersonalityCases.{as60}
+use Rattle.rules.specs.cases.Wide.{wideAt, wideProtectAt}
+use Rattle.rules.specs.theorems.Uses.{Unseen, someCalls, Uses}
 use Rattle.rules.proofs.Noninterference.{noninterference}
 
 alike-first : (v w : ℕ) (l : List ℕ) → protected v ≡ true → protected w ≡ true → AlikePages (v ∷ l) (w ∷ l)
-alike-first v w l a b = record { length = refl; bits = bits; cells = cells }
+alike-first v w l a b = record { size = refl; bits = bits; cells = cells }
   where
     bits : (i : ℕ) → i < length (v ∷ l) → protected (getD (v ∷ l) i 0) ≡ protected (getD (w ∷ l) i 0)
     bits zero h = a ∙ sym b

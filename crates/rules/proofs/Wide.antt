@@ -2,7 +2,7 @@
 use mathlib.Core.Path.{refl}
 use Rattle.rules.specs.Cell.{same}
 use Rattle.rules.specs.Row.{columns, rowEnd}
-use Rattle.rules.specs.Search.{marksBy, others, startsFrom, firstIn, lastIn, around, aroundBack}
+use Rattle.rules.specs.Search.{whichCells, others, startsFrom, firstIn, lastIn, around, aroundBack}
 use Rattle.rules.specs.Change.{within, filled, shiftLeft, shiftRight, editShifted, rowsShifted, columnFilled}
 use Rattle.rules.specs.State.{segmentTop, segmentBottom, cursorOf, withCursor, withMode, changed, stored, sendingAfter, gatheredAfter, setupAfter}
 use Rattle.rules.specs.Possible.{powerOn, blank, unsplitOk, splitOk, screenOk, attributesOk, featuresOk, pendingOk, rememberedOk, placeOk, sendingOk, noStops, coreOk, setupOk, possible, good}
@@ -14,17 +14,17 @@ use Rattle.rules.specs.Send.{model, openCell, shortReply, each, cellPlac
 use Rattle.rules.specs.Carry.{applied, landed, done, begun, carried}
 use Rattle.rules.specs.Step.{obeyed, innerRule, goesOn, stepInside, stepRule}
 use Rattle.rules.specs.Calls.{powerOnRule, joined, repeated, behind, runInside, runRule, keySends, pressRule, ofStep, ofRun, ofPress, callRule, after, play}
-use Rattle.rules.specs.Bench.{replies, answers, countsOf, restsOf, segmentsOf, modesOf, stopsFrom, sendNumbers, holds, allHold, casesHold, host}
-use Rattle.rules.specs.Inputs.{esc, goTo, placedOn, obeys}
+use Rattle.rules.specs.cases.Bench.{replies, answers, countsOf, restsOf, segmentsOf, modesOf, stopsFrom, sendNumbers, holds, allHold, casesHold, host}
+use Rattle.rules.specs.cases.Inputs.{esc, goTo, placedOn, obeys}
 use Rattle.rules.specs.Next.{atEvent, toEvent, nextInside, nextRule, replyCommand}
-use Rattle.rules.specs.NextCases.{nextHolds, nextRefuses}
+use Rattle.rules.specs.cases.NextCases.{nextHolds, nextRefuses}
 use Rattle.rules.specs.RowList.{firstColumn, rowNumbers}
 use Rattle.rules.specs.RowCalls.{stepRowsRule, runRowsRule, rowsAfter, canRebuild, rowCallRule, rowAfter, rowPlay}
-use Rattle.rules.specs.RowCases.{rowsWith, openRows, rowHolds, rowCasesHold}
-use Rattle.rules.specs.Wide.{widePage, wideAt, wideProtectAt, wideFrom, wideRefuses, wide, decimal, feature, wideCases, wideRows, WideList}
+use Rattle.rules.specs.cases.RowCases.{rowsWith, openRows, rowHolds, rowCasesHold}
+use Rattle.rules.specs.cases.Wide.{widePage, wideAt, wideProtectAt, wideFrom, wideRefuses, wide, goDecimal, feature, wideCases, wideRows, WideList}
 
 pub wide-cases : WideList
-unfolding same columns rowEnd marksBy others startsFrom firstIn lastIn around aroundBack within filled shiftLeft shiftRight editShifted
+unfolding same columns rowEnd whichCells others startsFrom firstIn lastIn around aroundBack within filled shiftLeft shiftRight editShifted
     rowsShifted columnFilled segmentTop segmentBottom cursorOf withCursor withMode changed stored sendingAfter gatheredAfter setupAfter
     powerOn blank unsplitOk splitOk screenOk attributesOk featuresOk pendingOk rememberedOk placeOk sendingOk noStops coreOk setupOk
     possible good isAttribute attributeContents attributeOf featurePlace isKey isLabel slotOk slotEnd slotMost slotLow isText allText textOk
@@ -36,5 +36,5 @@ unfolding same columns rowEnd marksBy others startsFrom firstIn lastIn around ar
     runInside runRule keySends pressRule ofStep ofRun ofPress callRule after play replies answers countsOf restsOf segmentsOf modesOf
     stopsFrom sendNumbers holds allHold casesHold host esc goTo placedOn obeys atEvent toEvent nextInside nextRule replyCommand nextHolds
     nextRefuses firstColumn rowNumbers stepRowsRule runRowsRule rowsAfter canRebuild rowCallRule rowAfter rowPlay rowsWith openRows rowHolds
-    rowCasesHold widePage wideAt wideProtectAt wideFrom wideRefuses wide decimal feature wideCases wideRows
+    rowCasesHold widePage wideAt wideProtectAt wideFrom wideRefuses wide goDecimal feature wideCases wideRows
 wide-cases = record { cases = refl; power-on = refl; rows = refl; next-narrow = refl; next-wide = refl }

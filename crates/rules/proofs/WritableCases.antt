@@ -2,7 +2,7 @@
 use mathlib.Core.Path.{refl}
 use Rattle.rules.specs.Possible.{rememberedOk}
 use Rattle.rules.specs.Writable.{isStored, isAttributeCell, writable}
-use Rattle.rules.specs.WritableCases.{allOf, noneOf, WritableCases}
+use Rattle.rules.specs.cases.WritableCases.{allOf, noneOf, WritableCases}
 
 pub writable-cases : WritableCases
 unfolding rememberedOk isStored isAttributeCell writable allOf noneOf

@@ -4,11 +4,11 @@ use mathlib.Core.Bool.{Bool}
 use lib.Dec.{eqb, ltb}
 use Rattle.rules.specs.declared.Contents.{Contents}
 use Rattle.rules.specs.declared.Contents.the-variants as Contents
-use Rattle.rules.specs.Cell.{pick, either, among}
+use Rattle.rules.specs.Cell.{pick, either, between}
 
 -- a code of flags: 30h to 3Fh or 70h to 7Eh
 abbrev pub isFlags : ℕ → Bool
-isFlags a = either (among 0x30 16 a) (among 0x70 15 a)
+isFlags a = either (between 0x30 0x3f a) (between 0x70 0x7e a)
 
 -- attr of ESC G, ESC ! and ESC A: 20h or a code of flags
 unfoldable pub isAttribute : ℕ → Bool
@@ -27,12 +27,12 @@ attributeOf a = a % 16 + pick (ltb a 0x70) 0 16
 -- screen is shown, 3Ch to 40h scrolling. Five for any other code
 unfoldable pub featurePlace : ℕ → ℕ
 featurePlace f =
-    pick (among 0x30 2 f) 0 (pick (among 0x32 4 f) 1 (pick (either (among 0x36 2 f) (eqb f 0x41)) 2
-    (pick (among 0x38 2 f) 3 (pick (among 0x3c 5 f) 4 5))))
+    pick (between 0x30 0x31 f) 0 (pick (between 0x32 0x35 f) 1 (pick (either (between 0x36 0x37 f) (eqb f 0x41)) 2
+    (pick (between 0x38 0x39 f) 3 (pick (between 0x3c 0x40 f) 4 5))))
 
 -- value of ESC z: a key is 40h to 4Fh or 60h to 6Fh, a label 30h to 37h or 50h to 57h (document 02, A1)
 unfoldable pub isKey : ℕ → Bool
-isKey v = either (among 0x40 16 v) (among 0x60 16 v)
+isKey v = either (between 0x40 0x4f v) (between 0x60 0x6f v)
 
 unfoldable pub isLabel : ℕ → Bool
-isLabel v = either (among 0x30 8 v) (among 0x50 8 v)
+isLabel v = either (between 0x30 0x37 v) (between 0x50 0x57 v)

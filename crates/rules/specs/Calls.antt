@@ -7,7 +7,7 @@ use lib.ListN.{length, getD}
 use Rattle.rules.specs.declared.State.{State}
 use Rattle.rules.specs.declared.ShortText.{ShortText}
 use Rattle.rules.specs.declared.Personality.{Personality}
-use Rattle.rules.specs.Cell.{pick, among}
+use Rattle.rules.specs.Cell.{pick, between}
 use Rattle.rules.specs.Row.{narrowCells}
 use Rattle.rules.specs.State.{shortBytes, keyPlace, sends}
 use Rattle.rules.specs.Possible.{powerOn, blank, good}
@@ -35,7 +35,7 @@ ended p s n rest = record { answer = n; taken = 0; refused = 0; reply = []; rest
 
 -- 1 for an answer from 1 to 4
 abbrev pub refusal : ℕ → ℕ
-refusal n = pick (among 1 4 n) 1 0
+refusal n = pick (between 1 4 n) 1 0
 
 -- a step that took its byte, and then the rest of the run
 unfoldable pub joined : Outcome → Ran → Ran

@@ -17,7 +17,11 @@ both a b = pick a b false
 abbrev pub either : Bool → Bool → Bool
 either a b = pick a true b
 
--- one of the n numbers from `first` on
+-- a number from `first` to `last`
+abbrev pub between : ℕ → ℕ → ℕ → Bool
+between first last v = both (leb first v) (ltb v (last + 1))
+
+-- one of the n numbers from `first` on, as an address counts rows and columns
 abbrev pub among : ℕ → ℕ → ℕ → Bool
 among first n v = both (leb first v) (ltb v (first + n))
 

@@ -1,8 +1,7 @@
 -- The conversion of a page and a state to the other width (document 02, A11), and what holds of it.
-use mathlib.Core.Path.{_≡_}
-use mathlib.Core.Bool.{Bool, true, false, not}
+use mathlib.Core.Bool.{Bool, false, not}
 use mathlib.Core.List.{List, [], _∷_, _++_}
-use Prim.Native.Nat.{ℕ, zero, suc, _+_, _-_, _*_, _<_, _≤_}
+use Prim.Native.Nat.{ℕ, zero, suc, _+_, _-_, _*_}
 use lib.Dec.{eqb, ltb, leb}
 use lib.ListN.{length, getD, take, replicate}
 use Rattle.rules.specs.declared.Core.{Core}
@@ -11,15 +10,15 @@ use Rattle.rules.specs.declared.Land.the-variants as Land
 use Rattle.rules.specs.Cell.{pick, both, either, null}
 use Rattle.rules.specs.Row.{height, columns, rowOf, columnOf}
 use Rattle.rules.specs.Search.{guardedAt}
-use Rattle.rules.specs.State.{widthOf, withScreen, withTabs, sends}
+use Rattle.rules.specs.State.{withScreen, withTabs, sends}
 use Rattle.rules.specs.Possible.{good}
 use Rattle.rules.specs.Plan.{unsplitScreen}
 use Rattle.rules.specs.Carry.{landed}
 
 -- n numbers, those of f from i on
-unfoldable pub listed : (ℕ → ℕ) → ℕ → ℕ → List ℕ
-listed f i zero = []
-listed f i (suc n) = f i ∷ listed f (suc i) n
+unfoldable pub tabulated : (ℕ → ℕ) → ℕ → ℕ → List ℕ
+tabulated f i zero = []
+tabulated f i (suc n) = f i ∷ tabulated f (suc i) n
 
 -- the cell of a page of v columns that comes to cell i of one of w columns: that of its row and column, or an unprotected null where the page has no
 -- such column
@@ -30,7 +29,7 @@ abbrev pub otherWidth : Bool → ℕ
 otherWidth wide = columns (not wide)
 
 unfoldable pub converted : Bool → List ℕ → List ℕ
-converted wide p = listed (cellFor (columns wide) (otherWidth wide) p) 0 (height * otherWidth wide)
+converted wide p = tabulated (cellFor (columns wide) (otherWidth wide) p) 0 (height * otherWidth wide)
 
 -- some cell beyond w columns is not 0, v being the page's width and i its first cell
 unfoldable pub loses : ℕ → ℕ → ℕ → List ℕ → Bool
@@ -71,45 +70,3 @@ convertRule p s t =
     let done : Turned = record { answer = 0; target = q; state = stateOn q s } in
     pick (both (good p s) (eqb (length t) (height * otherWidth wide)))
     (pick (sends (s .sending)) (unturned 6 t s) (pick (loses (columns wide) (otherWidth wide) 0 p) (unturned 4 t s) done)) (unturned 7 t s)
-
--- what a switch to the other width and back clears: the split, both cursors, which are at home and settled
-abbrev pub homeOn : List ℕ → Core → Core
-homeOn q c = landed (guardedAt (c .modes .protect) q) (Land.Settle 0) (withScreen c (unsplitScreen (c .screen .wide)))
-
--- a narrow page and state widened and narrowed again
-pub record Back (p : List ℕ) (s : State) (r : Turned) : Type 0 where
-  pub answer : r .answer ≡ 0
-  pub page : r .target ≡ p
-  pub core : r .state .core ≡ homeOn p (s .core)
-  pub sending : r .state .sending ≡ s .sending
-  pub gathered : r .state .gathered ≡ s .gathered
-  pub setup : r .state .setup ≡ s .setup
-
--- a cell of a page of v columns beyond w columns that is not 0
-pub record Lost (v w : ℕ) (p : List ℕ) : Type 0 where
-  pub cell : ℕ
-  pub inside : cell < length p
-  pub beyond : w ≤ columnOf v cell
-  pub written : getD p cell 0 ≡ 0 → ⊥
-
-pub record Conversion : Type 0 where
-  -- a good page and state stay good, at the other width
-  pub stays-good : (p : List ℕ) (s : State) (t : List ℕ) → convertRule p s t .answer ≡ 0
-      → (good (convertRule p s t .target) (convertRule p s t .state) ≡ true) × (widthOf (convertRule p s t .state .core .screen) ≡ otherWidth (s .core .screen .wide))
-  -- refused: nothing has changed
-  pub refused : (p : List ℕ) (s : State) (t : List ℕ) → (convertRule p s t .answer ≡ 0 → ⊥) → convertRule p s t ≡ unturned (convertRule p s t .answer) t s
-  -- outside a send, 4 exactly if a cell is lost
-  pub lost : (p : List ℕ) (s : State) (t : List ℕ) → convertRule p s t .answer ≡ 4 → Lost (widthOf (s .core .screen)) (otherWidth (s .core .screen .wide)) p
-  pub barred : (p : List ℕ) (s : State) (t : List ℕ) → good p s ≡ true → length t ≡ height * otherWidth (s .core .screen .wide) → sends (s .sending) ≡ false
-      → Lost (widthOf (s .core .screen)) (otherWidth (s .core .screen .wide)) p → convertRule p s t .answer ≡ 4
-  -- each cell of the old page that the other width has is where it was
-  pub cells : (p : List ℕ) (s : State) (t : List ℕ) (row column : ℕ) → convertRule p s t .answer ≡ 0 → row < height → column < widthOf (s .core .screen)
-      → column < otherWidth (s .core .screen .wide)
-      → getD (convertRule p s t .target) (row * otherWidth (s .core .screen .wide) + column) 0 ≡ getD p (row * widthOf (s .core .screen) + column) 0
-  -- the others are nulls
-  pub nulls : (p : List ℕ) (s : State) (t : List ℕ) (row column : ℕ) → convertRule p s t .answer ≡ 0 → row < height → widthOf (s .core .screen) ≤ column
-      → column < otherWidth (s .core .screen .wide)
-      → getD (convertRule p s t .target) (row * otherWidth (s .core .screen .wide) + column) 0 ≡ null
-  -- widening, and then narrowing, gives page and state back; a state holds 132 tab stops
-  pub back : (p : List ℕ) (s : State) (t u : List ℕ) → s .core .screen .wide ≡ false → length (s .setup .tabs) ≡ 132 → convertRule p s t .answer ≡ 0 → length u ≡ length p
-      → Back p s (convertRule (convertRule p s t .target) (convertRule p s t .state) u)

@@ -3,7 +3,7 @@ use Prim.Native.Nat.{ℕ, zero, suc, _+_, _-_, _*_}
 use mathlib.Core.List.{List, [], _∷_}
 use mathlib.Core.Bool.{Bool, true, false}
 use lib.Dec.{ltb, leb, eqb}
-use Rattle.rules.specs.Cell.{pick, both, either, among}
+use Rattle.rules.specs.Cell.{pick, both, either, between}
 use Rattle.rules.specs.Arguments.{isAttribute, attributeContents, featurePlace, isKey, isLabel}
 use Rattle.rules.specs.Slot.{slotEnd, slotMost, slotLow, isText}
 use Rattle.rules.specs.declared.Answer.the-variants as Answer
@@ -130,11 +130,11 @@ judged t d = pick t (Decoded.Do d) (Decoded.Reject Answer.BadArgument)
 -- ESC ` f: 3Ah and 3Bh wish for a narrow and a wide page (document 02, A11)
 unfoldable pub featureRule : ℕ → Decoded
 featureRule f =
-    pick (among 0x3a 2 f) (Decoded.Do (Command.Set (Setting.Wish (eqb f 0x3b)))) (judged (ltb (featurePlace f) 5) (Command.Set (Setting.Feature f)))
+    pick (between 0x3a 0x3b f) (Decoded.Do (Command.Set (Setting.Wish (eqb f 0x3b)))) (judged (ltb (featurePlace f) 5) (Command.Set (Setting.Feature f)))
 
 -- ESC A n attr
 unfoldable pub fieldRule : ℕ → ℕ → Decoded
-fieldRule n a = judged (both (among 0x30 4 n) (isAttribute a)) (Command.Set (Setting.Attribute (n - 0x30) a))
+fieldRule n a = judged (both (between 0x30 0x33 n) (isAttribute a)) (Command.Set (Setting.Attribute (n - 0x30) a))
 
 -- ESC x: judged at its first byte if that is not 30h or 31h
 unfoldable pub splitRule : ℕ → Decoded
@@ -144,7 +144,7 @@ splitRule b =
 
 -- ESC a: 1 or 2 digits, R, 1 to 3 digits, C; a byte that breaks this grammar answers 3. n digits so far make a number, and up to `most` may come
 unfoldable pub digitRule : ℕ → ℕ → ℕ → Pending → Decoded
-digitRule most n b next = pick (both (among 0x30 10 b) (ltb n most)) (Decoded.Wait next) (Decoded.Reject Answer.BadArgument)
+digitRule most n b next = pick (both (between 0x30 0x39 b) (ltb n most)) (Decoded.Wait next) (Decoded.Reject Answer.BadArgument)
 
 unfoldable pub decimalRowRule : ℕ → ℕ → ℕ → Decoded
 decimalRowRule n row b =
@@ -179,9 +179,9 @@ argumentRule Argument.Segment b = Decoded.Wait (Pending.SegmentNumber b)
 argumentRule Argument.Split b = splitRule b
 argumentRule Argument.SplitRow b = Decoded.Do (Command.Window (Window.Split b))
 argumentRule Argument.Attribute b = judged (isAttribute b) (Command.Attribute b)
-argumentRule Argument.Graphic b = judged (among 0x30 16 b) (Command.Store (Contents.Graphic b))
+argumentRule Argument.Graphic b = judged (between 0x30 0x3f b) (Command.Store (Contents.Graphic b))
 argumentRule Argument.FillAttribute b = judged (isAttribute b) (Command.Clear (Clear.Segment (attributeContents b)))
-argumentRule Argument.FillCode b = judged (either (eqb b 0) (among 0x20 95 b)) (Command.Clear (Clear.Segment (Contents.Text b)))
+argumentRule Argument.FillCode b = judged (either (eqb b 0) (between 0x20 0x7e b)) (Command.Clear (Clear.Segment (Contents.Text b)))
 argumentRule Argument.Feature b = featureRule b
 argumentRule Argument.FieldAttribute b = Decoded.Wait (Pending.FieldNumber b)
 argumentRule Argument.Slot b = slotRule b

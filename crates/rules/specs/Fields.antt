@@ -1,4 +1,4 @@
--- Fields, rows and places, for a program that reads a page. A field is a longest stretch of cells within one row that are not marked protected, whatever
+-- Fields, rows and places, for a program that reads a page. A field is a longest stretch of cells within one row that are not protected, whatever
 -- protect mode says: what ESC 5 sends between its FS, US and CR.
 use mathlib.Core.Path.{_≡_}
 use mathlib.Core.Bool.{Bool, true, false, not}
@@ -12,7 +12,7 @@ use Rattle.rules.specs.declared.Position.{Position}
 use Rattle.rules.specs.declared.TextResult.{TextResult}
 use Rattle.rules.specs.Cell.{pick, both, either, sent}
 use Rattle.rules.specs.Row.{height, narrowCells, wideCells, rowOf, columnOf, rowEnd}
-use Rattle.rules.specs.Search.{marksBy, firstIn}
+use Rattle.rules.specs.Search.{whichCells, firstIn}
 use Rattle.rules.specs.Send.{leftOut}
 use Rattle.rules.specs.Room.{over}
 
@@ -25,35 +25,35 @@ isPage n = not (eqb (pageWidth n) 0)
 
 -- ---- fields
 
--- which cells are marked protected: those that ESC 5 leaves out
-abbrev pub markedAt : List ℕ → List Bool
-markedAt p = marksBy (leftOut true) p
+-- which cells are protected: those that ESC 5 leaves out
+abbrev pub protectedAt : List ℕ → List Bool
+protectedAt p = whichCells (leftOut true) p
 
--- a field starts at a cell that is not marked, and is the first of its row or follows a marked one. `at` is the place of the list's first cell, and
--- `after` says that the cell before it is marked
+-- a field starts at a cell that is not protected, and is the first of its row or follows a protected one. `at` is the place of the list's first cell,
+-- and `after` says that the cell before it is protected
 unfoldable pub startsAt : ℕ → ℕ → Bool → List Bool → List Bool
 startsAt w at after [] = []
 startsAt w at after (b ∷ m) = let t = startsAt w (suc at) b m in both (not b) (either (eqb (columnOf w at) 0) after) ∷ t
 
 abbrev pub fieldStarts : ℕ → List ℕ → List Bool
-fieldStarts w p = startsAt w 0 true (markedAt p)
+fieldStarts w p = startsAt w 0 true (protectedAt p)
 
 abbrev pub isFieldStart : ℕ → List ℕ → ℕ → Bool
 isFieldStart w p at = getD (fieldStarts w p) at false
 
--- it goes on to the next marked cell, or to the end of the row
+-- it goes on to the next protected cell, or to the end of the row
 abbrev pub fieldEnd : ℕ → List ℕ → ℕ → ℕ
-fieldEnd w p at = firstIn (markedAt p) at (rowEnd w at)
+fieldEnd w p at = firstIn (protectedAt p) at (rowEnd w at)
 
 -- where the next field starts, at or behind `from`; not before the page's end where there is none
 abbrev pub nextStart : ℕ → List ℕ → ℕ → ℕ
 nextStart w p from = firstIn (fieldStarts w p) from (length p)
 
 abbrev pub fieldAt : ℕ → List ℕ → ℕ → Field
-fieldAt w p at = record { start = at; length = fieldEnd w p at - at; row = rowOf w at; column = columnOf w at }
+fieldAt w p at = record { start = at; size = fieldEnd w p at - at; row = rowOf w at; column = columnOf w at }
 
 abbrev pub noField : Field
-noField = record { start = 0; length = 0; row = 0; column = 0 }
+noField = record { start = 0; size = 0; row = 0; column = 0 }
 
 -- the next field, of any page
 unfoldable pub nextFieldRule : List ℕ → ℕ → Field
@@ -103,7 +103,7 @@ rowTextRule p row trim room =
 -- what a call gives that puts a text into the room w, which is w′ then
 pub record Read (o : Told) (r : TextResult) (w w′ : List ℕ) : Type 0 where
   pub answer : r .answer ≡ o .answer
-  pub counts : r .length ≡ length (o .text)
+  pub counts : r .size ≡ length (o .text)
   pub room : w′ ≡ over (o .text) w
 
 -- ---- places, in a page of n cells

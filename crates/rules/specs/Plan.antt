@@ -41,7 +41,7 @@ use Rattle.rules.specs.declared.Sending.{Sending}
 use Rattle.rules.specs.declared.Sending.the-variants as Sending
 use Rattle.rules.specs.declared.Land.{Land}
 use Rattle.rules.specs.declared.Land.the-variants as Land
-use Rattle.rules.specs.Cell.{pick, both, either, among, normal, written, null, space, protectedSpace}
+use Rattle.rules.specs.Cell.{pick, both, either, among, between, normal, written, null, space, protectedSpace}
 use Rattle.rules.specs.Row.{columns, addressed, rowOf, columnOf, rowStart, rowEnd}
 use Rattle.rules.specs.Search.{previousOpen, nextField, previousField, nextTab, previousTab}
 use Rattle.rules.specs.State.{widthOf, segmentTop, segmentBottom, segmentStart, segmentEnd, cursorOf, textStart, activated, withScreen, withModes, withBells, withAttribute, withProtect, withMode}
@@ -162,7 +162,7 @@ isSegment x n = either (eqb n 0x30) (both (eqb n 0x31) (not (eqb (x .split) 0)))
 unfoldable pub windowPlan : Core → Window → Plan
 windowPlan c Window.Unsplit = settling (withScreen c (unsplitScreen (c .screen .wide))) 0
 windowPlan c (Window.Split r) =
-    pick (among 0x21 23 r) (settling (withScreen c (splitScreen (c .screen .wide) (r - 0x1f))) 0) (refusing c Answer.BadArgument)
+    pick (between 0x21 0x37 r) (settling (withScreen c (splitScreen (c .screen .wide) (r - 0x1f))) 0) (refusing c Answer.BadArgument)
 windowPlan c Window.Other = pick (eqb (c .screen .split) 0) (plain c) (activate c (1 - c .screen .active))
 windowPlan c Window.First = activate c 0
 windowPlan c Window.Second = pick (eqb (c .screen .split) 0) (refusing c Answer.BadArgument) (activate c 1)
@@ -185,7 +185,7 @@ advancing c w =
 
 -- a store with an attribute
 unfoldable pub storePlan : List Bool → Core → Contents → ℕ → Plan
-storePlan g c k a = unlessGuarded g c (advancing c (storing (c .modes .insert) (cursorOf (c .screen)) (written k (c .modes .mark) a)))
+storePlan g c k a = unlessGuarded g c (advancing c (storing (c .modes .insert) (cursorOf (c .screen)) (written k (c .modes .writeprotect) a)))
 
 -- ESC G (amended by request A8 of document 02): in WY-50 every code takes a cell; in WY-60 only 20h does, and any other is remembered
 unfoldable pub takesCell : Personality → ℕ → Bool

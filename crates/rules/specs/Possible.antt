@@ -29,7 +29,7 @@ unfoldable pub powerOn : Personality → State
 powerOn m = record {
   core = record {
     screen = record { wide = false; active = 0; split = 0; cursor0 = 0; cursor1 = 0 };
-    modes = record { protect = false; mark = false; insert = false; autoscroll = true; locked = false; local = false };
+    modes = record { protect = false; writeprotect = false; insert = false; autoscroll = true; locked = false; local = false };
     bells = 0;
     pending = Pending.Idle;
     personality = m;

@@ -1,7 +1,6 @@
 -- The calls with a row list (document 02, A5). A list of the wrong length, or one that disagrees at entry, answers 7, and nothing has changed;
 -- else they give what the calls without it give, and the list is that of the page and the state that they leave.
-use mathlib.Core.Path.{_≡_}
-use mathlib.Core.Bool.{Bool, true, false}
+use mathlib.Core.Bool.{Bool}
 use mathlib.Core.List.{List, [], _∷_, _++_}
 use Prim.Native.Nat.{ℕ, _*_}
 use lib.Dec.{eqb}
@@ -11,9 +10,8 @@ use Rattle.rules.specs.Cell.{pick, both, either}
 use Rattle.rules.specs.Row.{height}
 use Rattle.rules.specs.Possible.{good}
 use Rattle.rules.specs.Step.{Outcome, unheard, stepRule}
-use Rattle.rules.specs.Calls.{Ran, ended, runRule, Call, Step, Run, Called, ofStep, ofRun, callRule, Given, Played, play}
+use Rattle.rules.specs.Calls.{Ran, ended, runRule, Call, Step, Run, Called, ofStep, ofRun, callRule, Given}
 use Rattle.rules.specs.Next.{nextRule}
-use Rattle.rules.specs.Noninterference.{revealing, anyCompleted, AlikePages, Indistinguishable}
 use Rattle.rules.specs.RowList.{rowsOf, agrees}
 
 -- l is the list
@@ -122,46 +120,3 @@ bareCall x Rebuild = []
 unfoldable pub bareCalls : List RowCall → Session → List Call
 bareCalls [] x = []
 bareCalls (c ∷ cs) x = bareCall x c ++ bareCalls cs (left (rowCallRule x c))
-
--- what the request says: with a list that agrees a step, a run and `next` give what they give without it, and the list agrees after it; so do the
--- page and the state after a list of calls
-pub record EqualResults : Type 0 where
-  pub step : (p l : List ℕ) (s : State) (b room : ℕ) → agrees l p s ≡ true → stepRowsRule p l s b room ≡ stepRule p s b room
-  pub run : (p l : List ℕ) (s : State) (bytes : List ℕ) (room : ℕ) → agrees l p s ≡ true → runRowsRule p l s bytes room ≡ runRule p s bytes room
-  pub next : (p l : List ℕ) (s : State) (bytes : List ℕ) (room : ℕ) → agrees l p s ≡ true → nextRowsRule p l s bytes room ≡ nextRule p s bytes room
-  pub none : (p : List ℕ) (s : State) (bytes : List ℕ) (room : ℕ) → nextRowsRule p [] s bytes room ≡ nextRule p s bytes room
-  pub agreed : (p l : List ℕ) (s : State) (p′ : List ℕ) (s′ : State) → agrees l p s ≡ true → agrees (rowsAfter p l s p′ s′) p′ s′ ≡ true
-  pub page : (cs : List RowCall) (x : Session) → rowPlay cs x .session .page ≡ play (bareCalls cs x) (x .page) (x .state) .page
-  pub state : (cs : List RowCall) (x : Session) → rowPlay cs x .session .state ≡ play (bareCalls cs x) (x .page) (x .state) .state
-
--- one that disagrees answers 7, and nothing has changed
-pub record Disagreeing : Type 0 where
-  pub step : (p l : List ℕ) (s : State) (b room : ℕ) → agrees l p s ≡ false
-      → stepRowsRule p l s b room ≡ unheard 7 p s
-  pub run : (p l : List ℕ) (s : State) (bytes : List ℕ) (room : ℕ) → agrees l p s ≡ false → runRowsRule p l s bytes room ≡ ended p s 7 bytes
-  pub next : (p l : List ℕ) (s : State) (bytes : List ℕ) (room : ℕ) → agrees l p s ≡ false → (length l ≡ 0 → ⊥)
-      → nextRowsRule p l s bytes room ≡ ended p s 7 bytes
-  pub kept : (p l : List ℕ) (s : State) (p′ : List ℕ) (s′ : State) → agrees l p s ≡ false → rowsAfter p l s p′ s′ ≡ l
-  -- such are all lists that are not 48 long
-  pub length : (p l : List ℕ) (s : State) → (lib.ListN.length l ≡ 48 → ⊥) → agrees l p s ≡ false
-
--- the rebuild answers 0 exactly if its list is 48 long and page and state are good, and then the list agrees; else it is left
-pub record Rebuilding : Type 0 where
-  pub done : (p l : List ℕ) (s : State) → length l ≡ 48 → good p s ≡ true → (rebuildAnswer p l s ≡ 0) × (agrees (rebuilt p l s) p s ≡ true)
-  pub bad-length : (p l : List ℕ) (s : State) → (length l ≡ 48 → ⊥) → (rebuildAnswer p l s ≡ 7) × (rebuilt p l s ≡ l)
-  pub bad : (p l : List ℕ) (s : State) → good p s ≡ false → (rebuildAnswer p l s ≡ 7) × (rebuilt p l s ≡ l)
-
--- ---- demand 3: "both terminals start with the same such list, and it counts among the modes"
-
-pub record RowIndistinguishable (p q : List ℕ) (a b : RowPlayed) : Type 0 where
-  pub calls : Indistinguishable p q (record { given = a .given; state = a .session .state; page = a .session .page })
-      (record { given = b .given; state = b .session .state; page = b .session .page })
-  pub lists : a .lists ≡ b .lists
-  pub rows : a .session .rows ≡ b .session .rows
-
--- the same list l, right or wrong; none of the six is completed by the calls that the first terminal's come to
-abbrev pub RowDemand3 : Type 0
-RowDemand3 =
-    (p q l : List ℕ) (s : State) (calls : List RowCall) → s .core .modes .protect ≡ true → revealing (s .sending) ≡ false → AlikePages p q
-    → anyCompleted (bareCalls calls (record { page = p; rows = l; state = s })) p s ≡ false
-    → RowIndistinguishable p q (rowPlay calls (record { page = p; rows = l; state = s })) (rowPlay calls (record { page = q; rows = l; state = s }))

@@ -10,7 +10,7 @@ use lib.ListN.{length, take, drop}
 use Rattle.rules.specs.declared.State.{State}
 use Rattle.rules.specs.Cell.{pick, same}
 use Rattle.rules.specs.Row.{height}
-use Rattle.rules.specs.Search.{guardedAt, others, firstMark}
+use Rattle.rules.specs.Search.{guardedAt, others, firstTrue}
 use Rattle.rules.specs.State.{widthOf}
 
 -- the number of open cells
@@ -21,7 +21,7 @@ openCount (false ∷ g) = suc (openCount g)
 
 -- the column of the first one, from 1
 unfoldable pub firstColumn : List Bool → ℕ
-firstColumn g = pick (eqb (openCount g) 0) 0 (firstMark 1 (others g))
+firstColumn g = pick (eqb (openCount g) 0) 0 (firstTrue 1 (others g))
 
 -- the numbers of n rows of w columns
 unfoldable pub rowNumbers : ℕ → ℕ → List Bool → List ℕ

@@ -169,14 +169,14 @@ abbrev pub withSending : State → Sending → State
 withSending s x = record { core = s .core; sending = x; gathered = s .gathered; setup = s .setup }
 
 abbrev pub withProtect : Modes → Bool → Modes
-withProtect m b = record { protect = b; mark = m .mark; insert = m .insert; autoscroll = m .autoscroll; locked = m .locked; local = m .local }
+withProtect m b = record { protect = b; writeprotect = m .writeprotect; insert = m .insert; autoscroll = m .autoscroll; locked = m .locked; local = m .local }
 
 unfoldable pub withMode : Modes → Mode → Bool → Modes
-withMode m Mode.WriteProtect b = record { protect = m .protect; mark = b; insert = m .insert; autoscroll = m .autoscroll; locked = m .locked; local = m .local }
-withMode m Mode.Insert b = record { protect = m .protect; mark = m .mark; insert = b; autoscroll = m .autoscroll; locked = m .locked; local = m .local }
-withMode m Mode.Autoscroll b = record { protect = m .protect; mark = m .mark; insert = m .insert; autoscroll = b; locked = m .locked; local = m .local }
-withMode m Mode.Lock b = record { protect = m .protect; mark = m .mark; insert = m .insert; autoscroll = m .autoscroll; locked = b; local = m .local }
-withMode m Mode.LocalEdit b = record { protect = m .protect; mark = m .mark; insert = m .insert; autoscroll = m .autoscroll; locked = m .locked; local = b }
+withMode m Mode.WriteProtect b = record { protect = m .protect; writeprotect = b; insert = m .insert; autoscroll = m .autoscroll; locked = m .locked; local = m .local }
+withMode m Mode.Insert b = record { protect = m .protect; writeprotect = m .writeprotect; insert = b; autoscroll = m .autoscroll; locked = m .locked; local = m .local }
+withMode m Mode.Autoscroll b = record { protect = m .protect; writeprotect = m .writeprotect; insert = m .insert; autoscroll = b; locked = m .locked; local = m .local }
+withMode m Mode.Lock b = record { protect = m .protect; writeprotect = m .writeprotect; insert = m .insert; autoscroll = m .autoscroll; locked = b; local = m .local }
+withMode m Mode.LocalEdit b = record { protect = m .protect; writeprotect = m .writeprotect; insert = m .insert; autoscroll = m .autoscroll; locked = m .locked; local = b }
 
 abbrev pub withTabs : Setup → List Bool → Setup
 withTabs u x = record { tabs = x; attributes = u .attributes; features = u .features; keys = u .keys; labels = u .labels; message = u .message; shifted = u .shifted; wish = u .wish }

@@ -7,7 +7,7 @@ use Prim.Native.Nat.{ℕ, _/_, _%_}
 use lib.Dec.{ltb, eqb}
 use Rattle.rules.specs.declared.Personality.{Personality}
 use Rattle.rules.specs.declared.Personality.the-variants as Personality
-use Rattle.rules.specs.Cell.{both, either, among, code, attribute, null}
+use Rattle.rules.specs.Cell.{both, either, between, code, attribute, null}
 use Rattle.rules.specs.Arguments.{isFlags}
 use Rattle.rules.specs.Possible.{rememberedOk}
 
@@ -15,7 +15,7 @@ use Rattle.rules.specs.Possible.{rememberedOk}
 unfoldable pub isStored : Personality → ℕ → Bool
 isStored m v =
     both (ltb v 32768) (both (rememberedOk m (attribute v))
-    (either (both (eqb (v / 256 % 4) 0) (among 0x20 95 (code v))) (both (eqb (v / 256 % 4) 2) (among 0x30 16 (code v)))))
+    (either (both (eqb (v / 256 % 4) 0) (between 0x20 0x7e (code v))) (both (eqb (v / 256 % 4) 2) (between 0x30 0x3f (code v)))))
 
 -- an attribute cell, all its flags 0: in WY-50 what ESC G stores, protected or not; in WY-60 only ESC ! writes one, unprotected
 unfoldable pub isAttributeCell : Personality → ℕ → Bool

@@ -10,10 +10,10 @@ pub struct Screen {
     pub cursor1: u16,
 }
 
-// `mark` is write-protect mode, `local` local edit.
+// `local` is local edit.
 pub struct Modes {
     pub protect: bool,
-    pub mark: bool,
+    pub writeprotect: bool,
     pub insert: bool,
     pub autoscroll: bool,
     pub locked: bool,
@@ -122,8 +122,13 @@ pub enum Place {
     Return,
 }
 
-// A reply, and the place from which it goes on: of a short one how many bytes went before. ESC 4 to ESC 7 send a text up to the cursor, all cells
-// or those not marked protected, from the segment's first cell or the row's.
+// A reply, and the place from which it goes on: of a short one how many bytes went before. A text goes through the cursor:
+//
+//     command  all    segment  from the first cell of  sends
+//     ESC 4    false  false    the cursor's row        the cells that are not protected, an FS for each stretch of the others
+//     ESC 5    false  true     the segment             the same
+//     ESC 6    true   false    the cursor's row        all cells
+//     ESC 7    true   true     the segment             all cells
 pub enum Sending {
     Nothing,
     Short(Short, u8),
@@ -151,7 +156,7 @@ pub enum Answer {
 }
 
 // What a search looks for. FieldStart holds the first cell of the segment.
-pub enum Mark {
+pub enum Sought {
     Open,
     Guarded,
     FieldStart(usize),
@@ -386,7 +391,7 @@ pub struct PressResult {
 #[repr(C)]
 pub struct Field {
     pub start: usize,
-    pub length: usize,
+    pub size: usize,
     pub row: usize,
     pub column: usize,
 }
@@ -403,5 +408,5 @@ pub struct Position {
 #[repr(C)]
 pub struct TextResult {
     pub answer: u8,
-    pub length: usize,
+    pub size: usize,
 }

@@ -37,7 +37,7 @@ use Rattle.rules.specs.Step.{Outcome, outcomeOf, obeyed, innerRule, stepRule}
 use Rattle.rules.specs.Calls.{Ran, joined, repeated, runRule}
 use Rattle.rules.proofs.Tests.{both-true}
 use Rattle.rules.proofs.Kept.{step-good}
-use Rattle.rules.proofs.Marks.{hit, around-here, length-guards, length-others, guard-at, open-at}
+use Rattle.rules.proofs.Searching.{hit, around-here, length-guards, length-others, guard-at, open-at}
 
 -- ---- the relation
 

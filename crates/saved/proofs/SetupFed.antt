@@ -27,16 +27,16 @@ use Rattle.rules.specs.declared.Decoded.{Decoded}
 use Rattle.rules.specs.declared.Decoded.the-variants as Decoded
 use Rattle.rules.specs.declared.Pending.{Pending}
 use Rattle.rules.specs.declared.Pending.the-variants as Pending
-use Rattle.rules.specs.Cell.{both, either, among}
+use Rattle.rules.specs.Cell.{both, either, between}
 use Rattle.rules.specs.Row.{columns}
-use Rattle.rules.specs.Search.{lastMark}
+use Rattle.rules.specs.Search.{lastTrue}
 use Rattle.rules.specs.State.{cursorOf, shortBytes, shortText, noText, keyPlace, labelPlace, withTabs, withAttributes, withFeatures, withKeys, withLabels, changed, stored}
 use Rattle.rules.specs.Arguments.{isAttribute, featurePlace, isKey, isLabel}
 use Rattle.rules.specs.Slot.{slotEnd, slotMost, slotLow, isText, allText, textOk, textsOk}
 use Rattle.rules.specs.Possible.{powerOn, attributesOk, featuresOk}
 use Rattle.rules.specs.Decode.{lookup, judged, idleRule, escapeRule, featureRule, fieldRule, slotRule, textRule, argumentRule, decodeRule}
 use Rattle.rules.specs.Plan.{settingPlan, planRule}
-use Rattle.rules.proofs.Tests.{pick-if, both-parts, both-true, among-parts, either-way}
+use Rattle.rules.proofs.Tests.{pick-if, both-parts, both-true, between-parts, either-way}
 use Rattle.rules.proofs.Texts.{text-parts}
 use Rattle.rules.proofs.Reach.{gatheredBy, gathered-text, text-byte}
 use Rattle.saved.specs.SetupBytes.{stopBytes, byCode, featureBytes, attributeBytes, textBytes, textsBytes, keyValue, labelValue, keysBytes, labelsBytes, setupBytes}
@@ -61,7 +61,7 @@ module _ (m : Personality) (g : List ℕ) (u : Setup) (p : List ℕ) (size : len
 
   pub stops-fed : (i k : ℕ) (a l : List Bool) → length a ≡ k → k + length l ≡ 80
       → Fed p (stopBytes k l) (stateAt m i Pending.Idle g (withTabs u (a ++ (replicate (length l) false ++ beyond))))
-      (stateAt m (lastMark i k l) Pending.Idle g (withTabs u (a ++ (l ++ beyond))))
+      (stateAt m (lastTrue i k l) Pending.Idle g (withTabs u (a ++ (l ++ beyond))))
   unfolding stopBytes
   stops-fed i k a [] e f = none refl
   stops-fed i k a (true ∷ l) e f =
@@ -74,14 +74,18 @@ module _ (m : Personality) (g : List ℕ) (u : Setup) (p : List ℕ) (size : len
 
 -- ---- features
 
-among-beyond : (first n v : ℕ) → first + n ≤ v → among first n v ≡ false
-among-beyond first n v h = rw (le-leb first v (omega arith), le-ltb v (first + n) h)
+between-beyond : (first last v : ℕ) → last + 1 ≤ v → between first last v ≡ false
+between-beyond first last v h = rw (le-ltb v (last + 1) h) (by (leb first v))
+  where
+    by : (t : Bool) → both t false ≡ false
+    by true = refl
+    by false = refl
 
-among-below : (first n v : ℕ) → v < first → among first n v ≡ false
-among-below first n v h = rw (lt-leb first v h)
+between-below : (first last v : ℕ) → v < first → between first last v ≡ false
+between-below first last v h = rw (lt-leb first v h)
 
 -- the code of a feature is below 80h, and neither 3Ah nor 3Bh
-feature-code : (f : ℕ) → featurePlace f < 5 → (f < 128) × (among 0x3a 2 f ≡ false)
+feature-code : (f : ℕ) → featurePlace f < 5 → (f < 128) × (between 0x3a 0x3b f ≡ false)
 unfolding featurePlace
 feature-code f h = (low, wish (either-way (ltb f 0x3a)) (either-way (ltb f 0x3c)))
   where
@@ -91,9 +95,9 @@ feature-code f h = (low, wish (either-way (ltb f 0x3a)) (either-way (ltb f 0x3c)
     is-last : 0x3a ≤ f → f < 0x3c → (f ≡ 0x3a → ⊥) → f ≡ 0x3b
     is-last a b n = omega (arith, n)
 
-    wish : (ltb f 0x3a ≡ true) ⊎ (ltb f 0x3a ≡ false) → (ltb f 0x3c ≡ true) ⊎ (ltb f 0x3c ≡ false) → among 0x3a 2 f ≡ false
-    wish (inl e) u = among-below 0x3a 2 f (ltb-true f 0x3a e)
-    wish (inr e) (inr u) = among-beyond 0x3a 2 f (ltb-false f 0x3c u)
+    wish : (ltb f 0x3a ≡ true) ⊎ (ltb f 0x3a ≡ false) → (ltb f 0x3c ≡ true) ⊎ (ltb f 0x3c ≡ false) → between 0x3a 0x3b f ≡ false
+    wish (inl e) u = between-below 0x3a 0x3b f (ltb-true f 0x3a e)
+    wish (inr e) (inr u) = between-beyond 0x3a 0x3b f (ltb-false f 0x3c u)
     wish (inr e) (inl u) =
         let a = ltb-false f 0x3a e in
         let b = ltb-true f 0x3c u in
@@ -105,7 +109,7 @@ feature-code f h = (low, wish (either-way (ltb f 0x3a)) (either-way (ltb f 0x3c)
     by (inl e) = ltb-true f 128 e
     by (inr e) =
         let k = ltb-false f 128 e in
-        let z : featurePlace f ≡ 5 = rw (among-beyond 0x30 2 f (omega arith), among-beyond 0x32 4 f (omega arith), among-beyond 0x36 2 f (omega arith), ne-eqb f 0x41 (λ e. omega arith), among-beyond 0x38 2 f (omega arith), among-beyond 0x3c 5 f (omega arith)) in
+        let z : featurePlace f ≡ 5 = rw (between-beyond 0x30 0x31 f (omega arith), between-beyond 0x32 0x35 f (omega arith), between-beyond 0x36 0x37 f (omega arith), ne-eqb f 0x41 (λ e. omega arith), between-beyond 0x38 0x39 f (omega arith), between-beyond 0x3c 0x40 f (omega arith)) in
         absurd (omega (arith, h))
 
     low : f < 128
@@ -158,12 +162,12 @@ module _ (m : Personality) (i : ℕ) (g : List ℕ) (u : Setup) (p : List ℕ) w
 
 attribute-below : (a : ℕ) → isAttribute a ≡ true → a < 128
 unfolding isAttribute
-attribute-below a e = by (eqb a 0x20) (among 0x30 16 a) refl refl e
+attribute-below a e = by (eqb a 0x20) (between 0x30 0x3f a) refl refl e
   where
-    by : (s t : Bool) → eqb a 0x20 ≡ s → among 0x30 16 a ≡ t → either s (either t (among 0x70 15 a)) ≡ true → a < 128
+    by : (s t : Bool) → eqb a 0x20 ≡ s → between 0x30 0x3f a ≡ t → either s (either t (between 0x70 0x7e a)) ≡ true → a < 128
     by true t x y e = omega (arith, eqb-true a 0x20 x)
-    by false true x y e = omega (arith, among-parts 0x30 16 a y)
-    by false false x y e = omega (arith, among-parts 0x70 15 a e)
+    by false true x y e = omega (arith, between-parts 0x30 0x3f a y)
+    by false false x y e = omega (arith, between-parts 0x70 0x7e a e)
 
 module _ (m : Personality) (i : ℕ) (g : List ℕ) (u : Setup) (p : List ℕ) where
   attribute-fed : (n k a : ℕ) (old : List ℕ) → n ≡ 0x30 + k → k < 4 → isAttribute a ≡ true
@@ -171,7 +175,7 @@ module _ (m : Personality) (i : ℕ) (g : List ℕ) (u : Setup) (p : List ℕ) w
   unfolding decodeRule idleRule escapeRule argumentRule lookup fieldRule judged planRule settingPlan changed
   attribute-fed n k a old is l e =
       let z : n - 0x30 ≡ k = omega arith in
-      let t : among 0x30 4 n ≡ true = both-true (le-leb 0x30 n (omega arith)) (lt-ltb n 0x34 (omega arith)) in
+      let t : between 0x30 0x33 n ≡ true = both-true (le-leb 0x30 n (omega arith)) (lt-ltb n 0x34 (omega arith)) in
       let d : decodeRule (Pending.FieldNumber n) a ≡ Decoded.Do (Command.Set (Setting.Attribute k a)) = rw (t, e, z) in
       waits m 0x1b (lit< tt) refl (waits m 0x41 (lit< tt) refl (waits m n (omega arith) refl
       (sets m a (attribute-below a e) (Command.Set (Setting.Attribute k a)) (SetupChange.Attribute k a) d refl)))
@@ -236,12 +240,12 @@ module _ (m : Personality) (i : ℕ) (u : Setup) (p : List ℕ) (x : Slot) where
 -- ---- keys and labels
 
 -- the value of a key or a label is below 80h, and no value is both
-value-below : (first second n v : ℕ) → either (among first n v) (among second n v) ≡ true → first + n ≤ 128 → second + n ≤ 128 → v < 128
-value-below first second n v e h k = by (among first n v) refl e
+value-below : (first last from to v : ℕ) → either (between first last v) (between from to v) ≡ true → last < 128 → to < 128 → v < 128
+value-below first last from to v e h k = by (between first last v) refl e
   where
-    by : (s : Bool) → among first n v ≡ s → either s (among second n v) ≡ true → v < 128
-    by true a e = omega (arith, among-parts first n v a)
-    by false a e = omega (arith, among-parts second n v e)
+    by : (s : Bool) → between first last v ≡ s → either s (between from to v) ≡ true → v < 128
+    by true a e = omega (arith, between-parts first last v a)
+    by false a e = omega (arith, between-parts from to v e)
 
 -- the values of places
 pub record KeyAt (n v : ℕ) : Type 0 where
@@ -261,15 +265,15 @@ key-at n h = pick-if (KeyAt n) (ltb n 16) (λ e. first (ltb-true n 16 e)) (λ e.
   where
     first : n < 16 → KeyAt n (0x40 + n)
     first k =
-        let t : among 0x40 16 (0x40 + n) ≡ true = both-true (le-leb 0x40 (0x40 + n) (omega arith)) (lt-ltb (0x40 + n) 0x50 (omega arith)) in
+        let t : between 0x40 0x4f (0x40 + n) ≡ true = both-true (le-leb 0x40 (0x40 + n) (omega arith)) (lt-ltb (0x40 + n) 0x50 (omega arith)) in
         let e : 0x40 + n - 0x40 ≡ n = omega arith in
         record { low = omega arith; key = rw t; place = rw (lt-ltb (0x40 + n) 0x60 (omega arith), e) }
 
     second : 16 ≤ n → KeyAt n (0x50 + n)
     second k =
-        let t : among 0x60 16 (0x50 + n) ≡ true = both-true (le-leb 0x60 (0x50 + n) (omega arith)) (lt-ltb (0x50 + n) 0x70 (omega arith)) in
+        let t : between 0x60 0x6f (0x50 + n) ≡ true = both-true (le-leb 0x60 (0x50 + n) (omega arith)) (lt-ltb (0x50 + n) 0x70 (omega arith)) in
         let e : 0x50 + n - 0x50 ≡ n = omega arith in
-        record { low = omega arith; key = rw (among-beyond 0x40 16 (0x50 + n) (omega arith), t); place = rw (le-ltb (0x50 + n) 0x60 (omega arith), e) }
+        record { low = omega arith; key = rw (between-beyond 0x40 0x4f (0x50 + n) (omega arith), t); place = rw (le-ltb (0x50 + n) 0x60 (omega arith), e) }
 
 -- a value below all of a range
 pub label-at : (n : ℕ) → n < 16 → LabelAt n (labelValue n)
@@ -278,23 +282,23 @@ label-at n h = pick-if (LabelAt n) (ltb n 8) (λ e. first (ltb-true n 8 e)) (λ 
   where
     first : n < 8 → LabelAt n (0x30 + n)
     first k =
-        let t : among 0x30 8 (0x30 + n) ≡ true = both-true (le-leb 0x30 (0x30 + n) (omega arith)) (lt-ltb (0x30 + n) 0x38 (omega arith)) in
+        let t : between 0x30 0x37 (0x30 + n) ≡ true = both-true (le-leb 0x30 (0x30 + n) (omega arith)) (lt-ltb (0x30 + n) 0x38 (omega arith)) in
         let e : 0x30 + n - 0x30 ≡ n = omega arith in
         record {
           low = omega arith;
-          key = rw (among-below 0x40 16 (0x30 + n) (omega arith), among-below 0x60 16 (0x30 + n) (omega arith));
+          key = rw (between-below 0x40 0x4f (0x30 + n) (omega arith), between-below 0x60 0x6f (0x30 + n) (omega arith));
           label = rw t;
           place = rw (lt-ltb (0x30 + n) 0x50 (omega arith), e);
         }
 
     second : 8 ≤ n → LabelAt n (0x48 + n)
     second k =
-        let t : among 0x50 8 (0x48 + n) ≡ true = both-true (le-leb 0x50 (0x48 + n) (omega arith)) (lt-ltb (0x48 + n) 0x58 (omega arith)) in
+        let t : between 0x50 0x57 (0x48 + n) ≡ true = both-true (le-leb 0x50 (0x48 + n) (omega arith)) (lt-ltb (0x48 + n) 0x58 (omega arith)) in
         let e : 0x48 + n - 0x48 ≡ n = omega arith in
         record {
           low = omega arith;
-          key = rw (among-beyond 0x40 16 (0x48 + n) (omega arith), among-below 0x60 16 (0x48 + n) (omega arith));
-          label = rw (among-beyond 0x30 8 (0x48 + n) (omega arith), t);
+          key = rw (between-beyond 0x40 0x4f (0x48 + n) (omega arith), between-below 0x60 0x6f (0x48 + n) (omega arith));
+          label = rw (between-beyond 0x30 0x37 (0x48 + n) (omega arith), t);
           place = rw (le-ltb (0x48 + n) 0x50 (omega arith), e);
         }
 
@@ -395,14 +399,14 @@ given m u =
 -- its cursor stands at the last stop, or home; nothing else has changed
 abbrev pub givenState : Personality → Setup → State
 givenState m u =
-    stateAt m (lastMark 0 0 (take 80 (u .tabs))) Pending.Idle (gatheredTexts (u .labels) (gatheredTexts (u .keys) (replicate 46 0))) (given m u)
+    stateAt m (lastTrue 0 0 (take 80 (u .tabs))) Pending.Idle (gatheredTexts (u .labels) (gatheredTexts (u .keys) (replicate 46 0))) (given m u)
 
 pub setup-fed : (m : Personality) (p : List ℕ) (u : Setup) → length p ≡ 1920 → Fine u → Fed p (setupBytes u) (powerOn m) (givenState m u)
 unfolding setupBytes powerOn
 setup-fed m p u size h =
     let z = h .shaped in
     let stops : length (take 80 (u .tabs)) ≡ 80 = omega (arith, length-take 80 (u .tabs), z .tabs) in
-    let i = lastMark 0 0 (take 80 (u .tabs)) in
+    let i = lastTrue 0 0 (take 80 (u .tabs)) in
     let g : List ℕ = replicate 46 0 in
     let u0 = powerOn m .setup in
     let u1 = withTabs u0 (take 80 (u .tabs) ++ replicate 52 false) in

@@ -9,7 +9,7 @@ use Rattle.rules.specs.RowCalls.{Session, RowCall, RowCalled, left, rowCallRule
 use Rattle.terminal.specs.RowNoninterference.{RowMade, bare, listStepped, listRan, heard, rebuiltRows}
 use Rattle.terminal.proofs.Noninterference.{front, made-is}
 use Rattle.session.specs.Sessions.{SessionCall, Heard, Kept, SessionCalled, sessionRule, SessionPlayed, sessionAfter, sessionPlay, SessionIndistinguishable, Act, callOf, handedBack, leftOf, StreamPlayed, streamPlay, StreamIndistinguishable}
-use Rattle.session.specs.CodeSessions.{SessionMade, terminal, saved, restored, SessionPerformed, StreamPerformed, none, next, CodeSessionDemand3, CodeStreamDemand3}
+use Rattle.session.specs.CodeSessions.{SessionMade, terminal, saved, restored, SessionPerformed, StreamPerformed, none, next, CodeSessionNoninterference, CodeStreamNoninterference}
 use Rattle.session.proofs.Sessions.{session-noninterference}
 use Rattle.session.proofs.Streams.{stream-noninterference}
 
@@ -47,12 +47,12 @@ stream-performed-is (next {x = x} {stream = stream} {a = a} {acts = acts} {r = r
     (session-made-is m)
     ∙ ap (λ (t : StreamPlayed). record { session = sessionAfter r (t .session); left = t .left }) (stream-performed-is h)
 
-pub code-session-noninterference : CodeSessionDemand3
+pub code-session-noninterference : CodeSessionNoninterference
 code-session-noninterference p q l store s calls a b on conceals alike free f g =
     subst₂ (SessionIndistinguishable p q) (session-performed-is f) (session-performed-is g)
     (session-noninterference p q l store s calls on conceals alike free)
 
-pub code-stream-noninterference : CodeStreamDemand3
+pub code-stream-noninterference : CodeStreamNoninterference
 code-stream-noninterference p q l store stream s acts a b on conceals alike free f g =
     subst₂ (StreamIndistinguishable p q) (stream-performed-is f) (stream-performed-is g)
     (stream-noninterference p q l store stream s acts on conceals alike free)

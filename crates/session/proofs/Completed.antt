@@ -19,8 +19,8 @@ use Rattle.rules.specs.Step.{stepRule}
 use Rattle.rules.specs.Calls.{Call, Step, Run, Press, runRule, ofStep, ofRun, ofPress, callRule, after, play}
 use Rattle.rules.specs.RowList.{agrees}
 use Rattle.rules.specs.RowCalls.{suits, Session, RowCall, Bare, ListStep, ListRun, Next, Rebuild, handed, runOf, bareCall}
-use Rattle.rules.specs.Noninterference.{callCompletes, anyCompleted}
-use Rattle.rules.specs.Completed.{Completing, CompletedInRun, CompletedIn, in-step, in-run}
+use Rattle.rules.specs.theorems.Noninterference.{callCompletes, anyCompleted}
+use Rattle.rules.specs.theorems.Completed.{Completing, CompletedInRun, CompletedIn, in-step, in-run}
 use Rattle.rules.proofs.Completed as Rules
 use Rattle.rules.proofs.Noninterference.{either-left, either-right}
 use Rattle.rules.proofs.RowSteps.{call-leaves}

@@ -20,13 +20,13 @@ use Rattle.rules.specs.Calls.{Ran, ended, joined, behind, runRule, pressRule, C
 use Rattle.rules.specs.Next.{tells, atEvent, toEvent, nextRule}
 use Rattle.rules.specs.RowList.{agrees}
 use Rattle.rules.specs.RowCalls.{stepRowsRule, runRowsRule, suits, nextRowsRule, Session, RowCall, handed, left, rowCallRule, rowAfter, rowPlay, bareCall, bareCalls}
-use Rattle.rules.specs.Noninterference.{KeptPages, callCompletes, anyCompleted}
+use Rattle.rules.specs.theorems.Noninterference.{KeptPages, callCompletes, anyCompleted}
 use Rattle.rules.proofs.Run.{run-repeats, run-resumes, run-unheard, run-refused}
 use Rattle.rules.proofs.Next.{to-done, to-event, to-go, next-outside, next-inside, next-unheard, next-refused}
 use Rattle.rules.proofs.RowSteps.{call-leaves}
 use Rattle.rules.proofs.Noninterference.{either-left, either-right}
 use Rattle.session.specs.Sessions.{SessionCall, Terminal, Kept, Told, Heard, Saved, Restored, sessionRule, SessionGiven, givenBy, sessionAfter, sessionPlay, callCompleted, sessionCompleted, hostBytes}
-use Rattle.session.specs.Given.{GivenBack, OneByOne, HandedBack, CarriesDemand3}
+use Rattle.session.specs.Given.{GivenBack, OneByOne, HandedBack, CarriesNoninterference}
 
 pub given-back : (p l : List ℕ) (s : State) (store : List ℕ) → GivenBack p l s store
 unfolding sessionPlay sessionAfter sessionRule
@@ -184,7 +184,7 @@ as-bare (c ∷ cs) x store e =
     ap₂ (λ (p : List ℕ) (s : State). anyCompleted (bareCalls cs y) p s) (h .page) (h .state) ∙ k .1 in
     rw (k .0) (as-bare cs y store rest)
 
-pub carries-demand3 : CarriesDemand3
+pub carries-demand3 : CarriesNoninterference
 carries-demand3 demand p q l s calls on conceals alike e =
     let x : Session = record { page = p; rows = l; state = s } in
     let y : Session = record { page = q; rows = l; state = s } in

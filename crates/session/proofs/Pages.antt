@@ -9,7 +9,7 @@ use Prim.Native.Nat.{ℕ, zero, suc, _<_}
 use native.Mathlib.Omega.{arith}
 use lib.ListN.{length, getD}
 use Rattle.rules.specs.Cell.{protected}
-use Rattle.rules.specs.Noninterference.{AlikePages, KeptPages}
+use Rattle.rules.specs.theorems.Noninterference.{AlikePages, KeptPages}
 
 -- a place beyond the page reads as 0, which is not protected
 protected-inside : (p : List ℕ) (i : ℕ) → protected (getD p i 0) ≡ true → i < length p
@@ -43,7 +43,7 @@ module _ {p q a b : List ℕ} (h : AlikePages p q) (k : KeptPages p q a b) (i : 
       by false e = k .open-cells i e
 
 pub kept-alike : {p q a b : List ℕ} → AlikePages p q → KeptPages p q a b → AlikePages a b
-kept-alike h k = record { length = k .length; bits = λ i m. cell-bits h k i; cells = λ i m e. open-cell h k i e }
+kept-alike h k = record { size = k .size; bits = λ i m. cell-bits h k i; cells = λ i m e. open-cell h k i e }
 
 module _ {p q a b c d : List ℕ} (h : AlikePages p q) (k : KeptPages p q a b) (m : KeptPages a b c d) (i : ℕ) where
   -- a cell that was open at the start, and is protected now or not
@@ -56,7 +56,7 @@ module _ {p q a b c d : List ℕ} (h : AlikePages p q) (k : KeptPages p q a b) (
 
 pub kept-kept : {p q a b c d : List ℕ} → AlikePages p q → KeptPages p q a b → KeptPages a b c d → KeptPages p q c d
 kept-kept {p} {q} {a} {b} h k m = record {
-  length = m .length;
+  size = m .size;
   open-cells = λ i e. open-kept h k m i e;
   first = λ i e. m .first i (ap protected (k .first i e) ∙ e) ∙ k .first i e;
   second = λ i e. m .second i (ap protected (k .second i e) ∙ e) ∙ k .second i e;

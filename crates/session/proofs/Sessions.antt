@@ -1,6 +1,6 @@
--- Demand 3 over sessions. One call of the terminal agrees in both (RowDemand3, over a list of one call) and leaves protect mode on; a save and a
--- restore look at the state and the store, equal in both, and a restore leaves the core and the send under way. So what a call leaves is the same
--- but for the pages, and these are alike again.
+-- Demand 3 over sessions. One call of the terminal agrees in both (RowNoninterference, over a list of one call) and leaves protect mode on; a save
+-- and a restore look at the state and the store, equal in both, and a restore leaves the core and the send under way. So what a call leaves is the
+-- same but for the pages, and these are alike again.
 --     session-noninterference     over lists of calls
 --     called-agrees     one call
 -- Assumes nothing.
@@ -12,13 +12,13 @@ use lib.ListN.{getD}
 use Rattle.rules.specs.declared.Core.{Core}
 use Rattle.rules.specs.declared.State.{State}
 use Rattle.rules.specs.Calls.{Call, callRule, Given, after, play}
-use Rattle.rules.specs.Noninterference.{AlikePages, KeptPages, revealing, callCompletes, anyCompleted}
+use Rattle.rules.specs.theorems.Noninterference.{AlikePages, KeptPages, revealing, callCompletes, anyCompleted}
 use Rattle.rules.specs.RowCalls.{Session, RowCall, rowCallRule, bareCall, bareCalls, rowAfter, rowPlay}
 use Rattle.rules.proofs.Noninterference.{Closed, call-agrees, start-related, related-kept, either-left, either-right}
 use Rattle.rules.proofs.RowSteps.{call-leaves}
 use Rattle.rules.proofs.RowNoninterference.{row-noninterference}
 use Rattle.saved.proofs.SavedSetups.{saved-setups}
-use Rattle.session.specs.Sessions.{SessionCall, Terminal, Save, Restore, Kept, start, SessionCalled, sessionRule, sessionAfter, sessionPlay, callCompleted, sessionCompleted, SessionIndistinguishable, SessionDemand3}
+use Rattle.session.specs.Sessions.{SessionCall, Terminal, Save, Restore, Kept, start, SessionCalled, sessionRule, sessionAfter, sessionPlay, callCompleted, sessionCompleted, SessionIndistinguishable, SessionNoninterference}
 use Rattle.session.proofs.Pages.{kept-alike, kept-kept}
 
 -- ---- one call
@@ -31,7 +31,7 @@ closed-play : (cs : List Call) (p : List ℕ) (s : State) → Closed s → anyCo
 unfolding anyCompleted play after
 closed-play [] p s closed e = closed
 closed-play (c ∷ cs) p s closed e =
-    let itself : AlikePages p p = record { length = refl; bits = λ i h. refl; cells = λ i h f. refl } in
+    let itself : AlikePages p p = record { size = refl; bits = λ i h. refl; cells = λ i h f. refl } in
     let a = call-agrees (start-related p p itself) s closed c (either-left (callCompletes p s c) _ e) in
     closed-play cs (callRule p s c .page) (callRule p s c .given .state) (a .closed) (either-right (callCompletes p s c) _ e)
 
@@ -117,6 +117,6 @@ session-agrees (c ∷ cs) p q l store s closed alike e =
     rw (a .but-page)
     record { given = rw (b .given); state = b .state; rows = b .rows; store = b .store; pages = kept-kept alike (a .kept) (b .pages) }
 
-pub session-noninterference : SessionDemand3
+pub session-noninterference : SessionNoninterference
 session-noninterference p q l store s calls on conceals alike e =
     session-agrees calls p q l store s record { on = on; conceals = conceals } alike e

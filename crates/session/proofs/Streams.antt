@@ -11,10 +11,10 @@ use lib.Seq.{take-append-seam, drop-append-seam}
 use Rattle.rules.specs.declared.State.{State}
 use Rattle.rules.specs.Calls.{Step, Run, Press}
 use Rattle.rules.specs.RowCalls.{Bare, ListStep, ListRun, Next, Rebuild}
-use Rattle.rules.specs.Noninterference.{AlikePages}
+use Rattle.rules.specs.theorems.Noninterference.{AlikePages}
 use Rattle.rules.proofs.Noninterference.{Closed, either-left, either-right}
-use Rattle.session.specs.Sessions.{SessionCall, Terminal, Save, Restore, Kept, start, SessionCalled, sessionRule, sessionAfter, sessionPlay, callCompleted, sessionCompleted, SessionIndistinguishable, Act, HandStep, HandRun, HandNext, PressKey, RebuildRows, SaveSetup, RestoreSetup, callOf, hostBytes, handedBack, leftOf, streamPlay, callsOf, SessionDemand3, StreamDemand3}
-use Rattle.session.specs.Same.{Continues, none, whole, part, ContinuedDemand3, SayTheSame}
+use Rattle.session.specs.Sessions.{SessionCall, Terminal, Save, Restore, Kept, start, SessionCalled, sessionRule, sessionAfter, sessionPlay, callCompleted, sessionCompleted, SessionIndistinguishable, Act, HandStep, HandRun, HandNext, PressKey, RebuildRows, SaveSetup, RestoreSetup, callOf, hostBytes, handedBack, leftOf, streamPlay, callsOf, SessionNoninterference, StreamNoninterference}
+use Rattle.session.specs.Same.{Continues, none, whole, part, ContinuedNoninterference, SayTheSame}
 use Rattle.session.proofs.Sessions.{called-agrees, session-noninterference}
 
 -- ---- acts and their calls
@@ -50,7 +50,7 @@ stream-agrees (a ∷ acts) stream p q l store s closed alike e =
       left = t .left ∙ ap (λ (z : SessionCalled). streamPlay acts (leftOf stream c (handedBack c (z .told))) (z .kept) .left) (sym (k .but-page));
     }
 
-to-streams : SessionDemand3 → StreamDemand3
+to-streams : SessionNoninterference → StreamNoninterference
 to-streams demand p q l store stream s acts on conceals alike e =
     let x = start p l s store in
     let y = start q l s store in
@@ -62,7 +62,7 @@ to-streams demand p q l store stream s acts on conceals alike e =
       left = k .left;
     }
 
-pub stream-noninterference : StreamDemand3
+pub stream-noninterference : StreamNoninterference
 stream-noninterference = to-streams session-noninterference
 
 -- ---- a stream's calls continue
@@ -181,7 +181,7 @@ found {owed} (part {c = c} {cs = cs} {x = x} behind e k) =
       come-to = ap (λ (l : List ℕ). callsOf (actOf c ∷ r .acts) l x) (sym is) ∙ one-more c cs x (behind ++ r .new) (r .acts) h;
     }
 
-to-lists : StreamDemand3 → ContinuedDemand3
+to-lists : StreamNoninterference → ContinuedNoninterference
 to-lists demand p q l store s calls on conceals alike k e =
     let x = start p l s store in
     let y = start q l s store in

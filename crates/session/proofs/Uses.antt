@@ -13,7 +13,7 @@ use Rattle.rules.specs.declared.Personality.the-variants as Personality
 use Rattle.rules.specs.declared.Sending.{Sending}
 use Rattle.rules.specs.declared.Sending.the-variants as Sending
 use Rattle.rules.specs.Cell.{protected}
-use Rattle.rules.specs.Noninterference.{AlikePages, revealing}
+use Rattle.rules.specs.theorems.Noninterference.{AlikePages, revealing}
 use Rattle.rules.specs.RowList.{agrees}
 use Rattle.rules.specs.RowCalls.{ListStep}
 use Rattle.rules.proofs.RowSteps.{disagreeing}
@@ -26,7 +26,7 @@ use Rattle.session.proofs.Completed.{unless-completed, none-completed}
 use Rattle.session.proofs.CodeSessions.{code-session-noninterference, code-stream-noninterference}
 
 pub one-alike : (n : ℕ) → AlikePages (one n) (other n)
-one-alike n = record { length = refl; bits = bits; cells = cells }
+one-alike n = record { size = refl; bits = bits; cells = cells }
   where
     bits : (i : ℕ) → i < length (one n) → protected (getD (one n) i 0) ≡ protected (getD (other n) i 0)
     bits zero h = refl
@@ -63,7 +63,7 @@ bad-list : At 1919 (replicate 47 7) home zeros
 bad-list = at 1919 _ _ _ _ _ _ refl
 
 unlisted : agrees (replicate 47 7) (one 1919) home ≡ false
-unlisted = disagreeing .length (one 1919) (replicate 47 7) home (λ e. omega (arith, e, length-replicate {A = ℕ} 47 7))
+unlisted = disagreeing .wrong-length (one 1919) (replicate 47 7) home (λ e. omega (arith, e, length-replicate {A = ℕ} 47 7))
 
 pub uses : Uses
 uses = record {

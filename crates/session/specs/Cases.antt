@@ -6,10 +6,10 @@ use Prim.Native.Nat.{ℕ}
 use lib.ListN.{replicate}
 use Rattle.rules.specs.Possible.{blank}
 use Rattle.rules.specs.Calls.{Step, Run, Press}
-use Rattle.rules.specs.Bench.{wy50, wy60}
-use Rattle.rules.specs.Inputs.{esc, pageOf, protectAt, placedOn}
+use Rattle.rules.specs.cases.Bench.{wy50, wy60}
+use Rattle.rules.specs.cases.Inputs.{esc, pageOf, protectAt, placedOn}
 use Rattle.rules.specs.RowCalls.{Bare, ListStep, ListRun, Next, Rebuild}
-use Rattle.rules.specs.RowCases.{openRows}
+use Rattle.rules.specs.cases.RowCases.{openRows}
 use Rattle.saved.specs.Store.{lastNumber}
 use Rattle.saved.specs.Cases.{zeros}
 use Rattle.session.specs.Sessions.{SessionCall, Terminal, Save, Restore, Kept, start, Told, Heard, Saved, Restored, SessionGiven, sessionPlay}

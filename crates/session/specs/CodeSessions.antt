@@ -6,7 +6,7 @@ use Prim.Native.Nat.{ℕ}
 use Rattle.rules.specs.declared.State.{State}
 use Rattle.rules.specs.Calls.{Given}
 use Rattle.rules.specs.RowCalls.{RowCall}
-use Rattle.rules.specs.Noninterference.{AlikePages, revealing}
+use Rattle.rules.specs.theorems.Noninterference.{AlikePages, revealing}
 use Rattle.terminal.specs.RowNoninterference.{RowMade}
 use Rattle.saved.specs.declared.SaveAnswer.{SaveAnswer}
 use Rattle.saved.specs.declared.RestoreResult.{RestoreResult}
@@ -39,15 +39,15 @@ pub data StreamPerformed : Kept → List ℕ → List Act → StreamPlayed → T
       → StreamPerformed (r .kept) (leftOf stream (callOf a stream) (handedBack (callOf a stream) (r .told))) acts t
       → StreamPerformed x stream (a ∷ acts) (record { session = sessionAfter r (t .session); left = t .left })
 
-abbrev pub CodeSessionDemand3 : Type 0
-CodeSessionDemand3 =
+abbrev pub CodeSessionNoninterference : Type 0
+CodeSessionNoninterference =
     (p q l store : List ℕ) (s : State) (calls : List SessionCall) (a b : SessionPlayed) → s .core .modes .protect ≡ true
     → revealing (s .sending) ≡ false
     → AlikePages p q → sessionCompleted calls (start p l s store) ≡ false
     → SessionPerformed (start p l s store) calls a → SessionPerformed (start q l s store) calls b → SessionIndistinguishable p q a b
 
-abbrev pub CodeStreamDemand3 : Type 0
-CodeStreamDemand3 =
+abbrev pub CodeStreamNoninterference : Type 0
+CodeStreamNoninterference =
     (p q l store stream : List ℕ) (s : State) (acts : List Act) (a b : StreamPlayed) → s .core .modes .protect ≡ true → revealing (s .sending) ≡ false
     → AlikePages p q → sessionCompleted (callsOf acts stream (start p l s store)) (start p l s store) ≡ false
     → StreamPerformed (start p l s store) stream acts a → StreamPerformed (start q l s store) stream acts b → StreamIndistinguishable p q a b

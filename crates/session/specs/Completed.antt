@@ -11,8 +11,8 @@ use Rattle.rules.specs.Calls.{Call, Press}
 use Rattle.rules.specs.Next.{nextRule}
 use Rattle.rules.specs.RowList.{agrees}
 use Rattle.rules.specs.RowCalls.{suits, Session, RowCall, Bare, ListStep, ListRun, Next, Rebuild, handed}
-use Rattle.rules.specs.Noninterference.{AlikePages, revealing}
-use Rattle.rules.specs.Completed.{Completing, CompletedInRun, CompletedIn}
+use Rattle.rules.specs.theorems.Noninterference.{AlikePages, revealing}
+use Rattle.rules.specs.theorems.Completed.{Completing, CompletedInRun, CompletedIn}
 use Rattle.session.specs.Sessions.{SessionCall, Terminal, Save, Restore, Kept, start, sessionPlay, sessionCompleted, SessionIndistinguishable}
 
 -- in one call of the terminal: by the byte of a step, or by a byte that a run or `next` takes; one with a list, if the list is taken

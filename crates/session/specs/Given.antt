@@ -9,10 +9,11 @@ use Rattle.rules.specs.Cell.{pick}
 use Rattle.rules.specs.Step.{stepRule}
 use Rattle.rules.specs.Calls.{Step, Run, Press, runRule}
 use Rattle.rules.specs.RowCalls.{stepRowsRule, runRowsRule, nextRowsRule, Session, RowCall, Bare, ListStep, ListRun, Next, Rebuild, handed}
-use Rattle.rules.specs.RowCalls.{rowCallRule, RowDemand3}
+use Rattle.rules.specs.RowCalls.{rowCallRule}
+use Rattle.rules.specs.theorems.RowNoninterference.{RowNoninterference}
 use Rattle.saved.specs.Calls.{saveRule, restoreRule}
 use Rattle.session.specs.Sessions.{SessionCall, Terminal, Save, Restore, Kept, start, Heard, Saved, Restored, sessionRule, sessionPlay}
-use Rattle.session.specs.Sessions.{handedBack, SessionDemand3}
+use Rattle.session.specs.Sessions.{handedBack, SessionNoninterference}
 
 -- each call's answer is the one that its rules give, and with it stand the state, the list and the store after it
 pub record GivenBack (p l : List ℕ) (s : State) (store : List ℕ) : Type 0 where
@@ -59,5 +60,5 @@ pub record HandedBack (x : Session) (store : List ℕ) : Type 0 where
   pub restore : (n : ℕ) → handedBack (Restore n) (sessionRule (record { terminal = x; store = store }) (Restore n) .told) ≡ []
 
 -- demand 3 with row lists, and so demand 3, is the statement over the terminal's calls alone: it excludes and asks no more, and gives no less
-abbrev pub CarriesDemand3 : Type 0
-CarriesDemand3 = SessionDemand3 → RowDemand3
+abbrev pub CarriesNoninterference : Type 0
+CarriesNoninterference = SessionNoninterference → RowNoninterference

@@ -5,9 +5,9 @@ use mathlib.Core.Bool.{true, false}
 use mathlib.Core.List.{List, [], _∷_, _++_}
 use Prim.Native.Nat.{ℕ}
 use Rattle.rules.specs.declared.State.{State}
-use Rattle.rules.specs.Noninterference.{AlikePages, revealing}
+use Rattle.rules.specs.theorems.Noninterference.{AlikePages, revealing}
 use Rattle.session.specs.Sessions.{SessionCall, Kept, start, sessionRule, sessionPlay, sessionCompleted, SessionIndistinguishable}
-use Rattle.session.specs.Sessions.{SessionDemand3, Act, hostBytes, handedBack, streamPlay, callsOf, StreamDemand3}
+use Rattle.session.specs.Sessions.{SessionNoninterference, Act, hostBytes, handedBack, streamPlay, callsOf, StreamNoninterference}
 
 -- owed is what calls handed back and no call was handed since. A call over host bytes is handed all of it and then new bytes, or a part of it, and
 -- then owed is what it hands back and behind that the part it was not handed; a call over none leaves it
@@ -25,8 +25,8 @@ pub record OverStream (calls : List SessionCall) (x : Kept) : Type 0 where
   pub come-to : callsOf acts stream x ≡ calls
 
 -- the statement over lists of calls that continue
-abbrev pub ContinuedDemand3 : Type 0
-ContinuedDemand3 =
+abbrev pub ContinuedNoninterference : Type 0
+ContinuedNoninterference =
     (p q l store : List ℕ) (s : State) (calls : List SessionCall) → s .core .modes .protect ≡ true → revealing (s .sending) ≡ false → AlikePages p q
     → Continues [] calls (start p l s store) → sessionCompleted calls (start p l s store) ≡ false
     → SessionIndistinguishable p q (sessionPlay calls (start p l s store)) (sessionPlay calls (start q l s store))
@@ -43,5 +43,5 @@ pub record SayTheSame : Type 0 where
   pub continued : (acts : List Act) (stream : List ℕ) (x : Kept) → Continues [] (callsOf acts stream x) x
   pub over-stream : (calls : List SessionCall) (x : Kept) → Continues [] calls x → OverStream calls x
   -- so either statement gives the other, as far as lists of calls are a stream's
-  pub to-streams : SessionDemand3 → StreamDemand3
-  pub to-lists : StreamDemand3 → ContinuedDemand3
+  pub to-streams : SessionNoninterference → StreamNoninterference
+  pub to-lists : StreamNoninterference → ContinuedNoninterference

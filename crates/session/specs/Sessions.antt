@@ -9,7 +9,7 @@ use Rattle.rules.specs.declared.State.{State}
 use Rattle.rules.specs.Cell.{pick, either}
 use Rattle.rules.specs.Calls.{Step, Run, Press, Given}
 use Rattle.rules.specs.RowCalls.{Session, RowCall, Bare, ListStep, ListRun, Next, Rebuild, left, rowCallRule, bareCall}
-use Rattle.rules.specs.Noninterference.{AlikePages, KeptPages, revealing, anyCompleted}
+use Rattle.rules.specs.theorems.Noninterference.{AlikePages, KeptPages, revealing, anyCompleted}
 use Rattle.saved.specs.Calls.{saveRule, restoreRule}
 
 -- a call of the terminal, that is a step, a run, `next`, a key press, a form with the row list or the rebuild, with a room of any length ("narrow
@@ -91,8 +91,8 @@ pub record SessionIndistinguishable (p q : List ℕ) (a b : SessionPlayed) : Typ
 -- "With equal stores at the start, the same calls, cuts and rooms in both runs": starts as in demand 3, of "both personalities, either width", with
 -- protect mode on and not inside an ESC 6 or ESC 7 send; any state, list and store, the same in both; any calls in which the first terminal
 -- completes none of the six
-abbrev pub SessionDemand3 : Type 0
-SessionDemand3 =
+abbrev pub SessionNoninterference : Type 0
+SessionNoninterference =
     (p q l store : List ℕ) (s : State) (calls : List SessionCall) → s .core .modes .protect ≡ true → revealing (s .sending) ≡ false → AlikePages p q
     → sessionCompleted calls (start p l s store) ≡ false
     → SessionIndistinguishable p q (sessionPlay calls (start p l s store)) (sessionPlay calls (start q l s store))
@@ -173,8 +173,8 @@ pub record StreamIndistinguishable (p q : List ℕ) (a b : StreamPlayed) : Type 
   pub session : SessionIndistinguishable p q (a .session) (b .session)
   pub left : a .left ≡ b .left
 
-abbrev pub StreamDemand3 : Type 0
-StreamDemand3 =
+abbrev pub StreamNoninterference : Type 0
+StreamNoninterference =
     (p q l store stream : List ℕ) (s : State) (acts : List Act) → s .core .modes .protect ≡ true → revealing (s .sending) ≡ false → AlikePages p q
     → sessionCompleted (callsOf acts stream (start p l s store)) (start p l s store) ≡ false
     → StreamIndistinguishable p q (streamPlay acts stream (start p l s store)) (streamPlay acts stream (start q l s store))

@@ -13,7 +13,7 @@ use Rattle.rules.specs.declared.Sending.the-variants as Sending
 use Rattle.rules.specs.State.{withScreen, withModes, withProtect}
 use Rattle.rules.specs.Possible.{powerOn}
 use Rattle.rules.specs.RowCalls.{ListStep}
-use Rattle.rules.specs.RowCases.{openRows}
+use Rattle.rules.specs.cases.RowCases.{openRows}
 use Rattle.saved.specs.Cases.{zeros}
 use Rattle.session.specs.Sessions.{SessionCall, Terminal, Kept, start, SessionPlayed, sessionPlay, sessionCompleted, SessionIndistinguishable}
 use Rattle.session.specs.Sessions.{Act, StreamPlayed, streamPlay, callsOf, StreamIndistinguishable}

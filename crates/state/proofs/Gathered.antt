@@ -10,21 +10,21 @@ use native.Mathlib.Numerals.{add-one}
 use borrow.Author.Tests.{lt-ltb, le-ltb}
 use lib.ListN.{length, getD, take, set, replicate, length-append, getD-replicate}
 use lib.Seq.{length-take-le, take-take, take-suc, take-suc-set, take-append-le, getD-append-add}
-use Rattle.rules.specs.Cell.{among}
+use Rattle.rules.specs.Cell.{between}
 use Rattle.rules.specs.State.{keyPlace, shortText, longText}
 use Rattle.rules.specs.Arguments.{isKey}
 use Rattle.rules.specs.Slot.{slotMost}
 use Rattle.rules.specs.declared.Slot.{Slot}
 use Rattle.rules.specs.declared.Slot.the-variants as Slot
-use Rattle.state.proofs.Tests.{either-cases, among-range}
+use Rattle.state.proofs.Tests.{either-cases, between-range}
 
 -- the place of a key's value
 pub key-there : (v : ℕ) → isKey v ≡ true → keyPlace v < 32
 unfolding isKey
 key-there v h =
-    ⊎-elim (λ e. let r = among-range 0x40 16 v e in rw (lt-ltb v 0x60 (omega arith)) (omega arith))
-    (λ e. let r = among-range 0x60 16 v e in rw (le-ltb v 0x60 (omega arith)) (omega arith))
-    (either-cases (among 0x40 16 v) (among 0x60 16 v) h)
+    ⊎-elim (λ e. let r = between-range 0x40 0x4f v e in rw (lt-ltb v 0x60 (omega arith)) (omega arith))
+    (λ e. let r = between-range 0x60 0x6f v e in rw (le-ltb v 0x60 (omega arith)) (omega arith))
+    (either-cases (between 0x40 0x4f v) (between 0x60 0x6f v) h)
 
 -- every text fits the bytes that can be gathered
 pub most-fits : (x : Slot) → slotMost x ≤ 46

@@ -16,7 +16,7 @@ use Rattle.rules.specs.Cell.{both}
 use Rattle.rules.specs.Slot.{isText, allText, textOk, textsOk}
 use Rattle.rules.specs.declared.ShortText.{ShortText}
 use Rattle.state.proofs.Tests.{both-left, both-right}
-use Rattle.state.proofs.Lists.{listed, elements}
+use Rattle.state.proofs.Lists.{tabulated, elements}
 
 -- each of a list of bytes, those before them first, is below 7Fh
 abbrev below : Bool → List ℕ → Bool
@@ -39,7 +39,7 @@ below-text b (suc n) (x ∷ l) h = rw (
 
 -- eight bytes, one by one
 pub plain : (b : Bool) (n : ℕ) (l : List ℕ) → length l ≡ 8
-    → below (both b (ltb n 9)) (listed 8 (λ (i : ℕ). getD l i 0)) ≡ true
+    → below (both b (ltb n 9)) (tabulated 8 (λ (i : ℕ). getD l i 0)) ≡ true
     → (b ≡ true) × (textOk 0 8 n l ≡ true)
 unfolding textOk
 plain b n l e h =

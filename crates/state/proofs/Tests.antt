@@ -6,7 +6,7 @@ use mathlib.Core.Logic.{_⊎_, inl, inr}
 use Prim.Native.Nat.{ℕ, _+_, _≤_, _<_}
 use borrow.Author.Tests.{lt-ltb, le-ltb, le-leb, lt-leb, eq-eqb, ne-eqb, ltb-true, leb-true}
 use lib.Dec.{T, ltb, leb}
-use Rattle.rules.specs.Cell.{pick, both, either, among}
+use Rattle.rules.specs.Cell.{pick, both, either, between}
 
 -- a return under tests on numbers: the definition's tests are rewritten by the facts of the branches on the way
 pub ruleset tests = (lt-ltb, le-ltb, le-leb, lt-leb, eq-eqb, ne-eqb)
@@ -29,9 +29,9 @@ pub either-cases : (a b : Bool) → either a b ≡ true → (a ≡ true) ⊎ (b 
 either-cases true b h = inl refl
 either-cases false b h = inr h
 
-pub among-range : (first n v : ℕ) → among first n v ≡ true → (first ≤ v) × (v < first + n)
-among-range first n v h =
-    (leb-true first v (both-left (leb first v) (ltb v (first + n)) h), ltb-true v (first + n) (both-right (leb first v) (ltb v (first + n)) h))
+pub between-range : (first last v : ℕ) → between first last v ≡ true → (first ≤ v) × (v < last + 1)
+between-range first last v h =
+    (leb-true first v (both-left (leb first v) (ltb v (last + 1)) h), ltb-true v (last + 1) (both-right (leb first v) (ltb v (last + 1)) h))
 
 pub both-true : (a : Bool) → both a true ≡ a
 both-true true = refl

@@ -102,7 +102,7 @@ pub fn with_mode(m: Modes, k: Mode, b: bool) -> Modes
     let mut t = m;
     match k {
         Mode::WriteProtect => {
-            t.mark = b;
+            t.writeprotect = b;
             t
         }
         Mode::Insert => {

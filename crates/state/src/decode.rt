@@ -8,8 +8,8 @@ ghost use Rattle.rules.specs.Arguments.{attributeContents};
 ghost use Rattle.rules.specs.Possible.{pendingOk};
 ghost use Rattle.rules.specs.declared.Command.the-variants as Command;
 ghost use Rattle.rules.specs.declared.Decoded.the-variants as Decoded;
-use crate::logic::among;
 use crate::logic::and;
+use crate::logic::between;
 use crate::logic::or;
 use crate::possible::feature_place;
 use crate::possible::is_attribute;
@@ -163,7 +163,7 @@ pub fn attribute_contents(a: u8) -> Contents
 fn feature(f: u8) -> Decoded
     ensures { λ r. ⌜ r ≡ featureRule f ⌝ }
 {
-    if among(0x3a, 2, f) {
+    if between(0x3a, 0x3b, f) {
         return Decoded::Do(Command::Set(Setting::Wish(f == 0x3b)));
     }
     judged(feature_place(f) < 5, Command::Set(Setting::Feature(f)))
@@ -177,7 +177,7 @@ fn field(n: u8, a: u8) -> Decoded
         return Decoded::Reject(Answer::BadArgument);
     }
     judged(
-        and(among(0x30, 4, n), is_attribute(a)),
+        and(between(0x30, 0x33, n), is_attribute(a)),
         Command::Set(Setting::Attribute(n - 0x30, a)),
     )
 }
@@ -282,13 +282,13 @@ fn argument(a: Argument, b: u8) -> Decoded
         Argument::Split => split(b),
         Argument::SplitRow => Decoded::Do(Command::Window(Window::Split(b))),
         Argument::Attribute => judged(is_attribute(b), Command::Attribute(b)),
-        Argument::Graphic => judged(among(0x30, 16, b), Command::Store(Contents::Graphic(b))),
+        Argument::Graphic => judged(between(0x30, 0x3f, b), Command::Store(Contents::Graphic(b))),
         Argument::FillAttribute => judged(
             is_attribute(b),
             Command::Clear(Clear::Segment(attribute_contents(b))),
         ),
         Argument::FillCode => judged(
-            or(b == 0, among(0x20, 95, b)),
+            or(b == 0, between(0x20, 0x7e, b)),
             Command::Clear(Clear::Segment(Contents::Text(b))),
         ),
         Argument::Feature => feature(b),

@@ -55,7 +55,7 @@ pub fn power_on_state(m: Personality) -> State
             },
             modes: Modes {
                 protect: false,
-                mark: false,
+                writeprotect: false,
                 insert: false,
                 autoscroll: true,
                 locked: false,

@@ -8,8 +8,8 @@ ghost use Rattle.rules.specs.Cell.{both};
 ghost use Rattle.rules.specs.Possible.{unsplitOk, splitOk, screenOk, attributesOk, featuresOk, pendingOk, rememberedOk, tabsOk, coreOk, setupOk, possible};
 ghost use Rattle.rules.specs.Arguments.{isAttribute, featurePlace};
 ghost use Rattle.rules.specs.Slot.{slotMost, slotLow, allText, textOk, textsOk};
-use crate::logic::among;
 use crate::logic::and;
+use crate::logic::between;
 use crate::logic::or;
 use crate::sending::sending_ok;
 use crate::texts::is_text;
@@ -164,7 +164,10 @@ fn labels_ok(labels: [ShortText; 16]) -> bool
 pub fn is_attribute(a: u8) -> bool
     ensures { λ r. ⌜ r ≡ isAttribute a ⌝ }
 {
-    or(a == 0x20, or(among(0x30, 16, a), among(0x70, 15, a)))
+    or(
+        a == 0x20,
+        or(between(0x30, 0x3f, a), between(0x70, 0x7e, a)),
+    )
 }
 
 fn attributes_ok(a: [u8; 4]) -> bool
@@ -178,19 +181,19 @@ fn attributes_ok(a: [u8; 4]) -> bool
 pub fn feature_place(f: u8) -> u8
     ensures { λ r. ⌜ r ≡ featurePlace f ⌝ }
 {
-    if among(0x30, 2, f) {
+    if between(0x30, 0x31, f) {
         return 0;
     }
-    if among(0x32, 4, f) {
+    if between(0x32, 0x35, f) {
         return 1;
     }
-    if or(among(0x36, 2, f), f == 0x41) {
+    if or(between(0x36, 0x37, f), f == 0x41) {
         return 2;
     }
-    if among(0x38, 2, f) {
+    if between(0x38, 0x39, f) {
         return 3;
     }
-    if among(0x3c, 5, f) { 4 } else { 5 }
+    if between(0x3c, 0x40, f) { 4 } else { 5 }
 }
 
 // Each feature from its own list.

@@ -6,8 +6,8 @@ ghost use lib.ListN.{length, set, take, replicate};
 ghost use Rattle.rules.specs.State.{shortText, longText, noText, noLong};
 ghost use Rattle.rules.specs.Arguments.{isKey, isLabel};
 ghost use Rattle.rules.specs.Slot.{slotOk, slotEnd, slotMost, slotLow, isText};
-use crate::logic::among;
 use crate::logic::and;
+use crate::logic::between;
 use crate::logic::or;
 use rules::LongText;
 use rules::ShortText;
@@ -35,13 +35,13 @@ pub fn no_long() -> LongText
 pub fn is_key(v: u8) -> bool
     ensures { λ r. ⌜ r ≡ isKey v ⌝ }
 {
-    or(among(0x40, 16, v), among(0x60, 16, v))
+    or(between(0x40, 0x4f, v), between(0x60, 0x6f, v))
 }
 
 pub fn is_label(v: u8) -> bool
     ensures { λ r. ⌜ r ≡ isLabel v ⌝ }
 {
-    or(among(0x30, 8, v), among(0x50, 8, v))
+    or(between(0x30, 0x37, v), between(0x50, 0x57, v))
 }
 
 pub fn slot_ok(x: Slot) -> bool

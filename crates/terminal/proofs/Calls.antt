@@ -35,7 +35,7 @@ use Rattle.rules.specs.State.{number, pageLength, shortBytes, keyPlace, sends, 
 use Rattle.rules.specs.Arguments.{isKey}
 use Rattle.rules.specs.Slot.{allText, textOk}
 use Rattle.rules.specs.Possible.{powerOn, blank, screenOk, sendingOk, good}
-use Rattle.rules.specs.Good.{GoodSend}
+use Rattle.rules.specs.theorems.Good.{GoodSend}
 use Rattle.rules.specs.Send.{commandOf, places, bytesOf, beyond, standing, sentFrom, leftFrom}
 use Rattle.rules.specs.Step.{Outcome, goesOn, stepRule}
 use Rattle.rules.specs.Next.{atEvent, nextRule, replyCommand}
@@ -48,7 +48,7 @@ use Rattle.rules.proofs.Next.{next-tells, next-inside, next-unheard, next-refus
 use Rattle.rules.proofs.Run.{run-unheard}
 use Rattle.rules.proofs.Sends.{ok-good, not-sending, sent-fits}
 use Rattle.carry.specs.Went.{Went}
-use Rattle.terminal.specs.Promise.{PoweredOn, Stepped, Completed, sending, KeySent}
+use Rattle.terminal.specs.Promise.{PoweredOn, Stepped, RunDone, sending, KeySent}
 use Rattle.terminal.specs.Loop.{stateOf, ranTo, callTo}
 use Rattle.terminal.proofs.Carrying.{over-none}
 use Rattle.terminal.proofs.Loop.{runBehind, run-rests}
@@ -78,9 +78,9 @@ power-on-refused m p s n e = rw (ne-eqb (length p) 1920 n) (record { answer = re
 -- ---- a run that takes nothing and replies nothing
 
 pub nothing-taken : {o : Ran} {p : List ℕ} {s : State} {l : List ℕ} (a : Answer) (w : List ℕ) → o ≡ ended p s (number a) l
-    → Completed o (record { answer = a; taken = 0; replied = 0; refused = 0; state = s }) l p w w
+    → RunDone o (record { answer = a; taken = 0; replied = 0; refused = 0; state = s }) l p w w
 nothing-taken {p = p} {s = s} {l = l} a w e =
-    subst (λ (o : Ran). Completed o (record { answer = a; taken = 0; replied = 0; refused = 0; state = s }) l p w w) (sym e) (record {
+    subst (λ (o : Ran). RunDone o (record { answer = a; taken = 0; replied = 0; refused = 0; state = s }) l p w w) (sym e) (record {
       answer = refl;
       taken = refl;
       replied = refl;
@@ -105,7 +105,7 @@ module _ (p : List ℕ) (s : State) (g : good p s ≡ false) where
   step-refused b w = rw g (record { answer = refl; taken = refl; state = refl; replied = refl; page = refl; room = over-none w; fits = omega arith })
 
   pub run-refused : (stop : Bool) (l w : List ℕ)
-      → Completed (callTo stop p s l (length w)) (record { answer = Answer.BadCall; taken = 0; replied = 0; refused = 0; state = s }) l p w w
+      → RunDone (callTo stop p s l (length w)) (record { answer = Answer.BadCall; taken = 0; replied = 0; refused = 0; state = s }) l p w w
   run-refused true l w = nothing-taken Answer.BadCall w (next-refused p s l (length w) g)
   run-refused false l w = let r = refused p s l (length w) g in nothing-taken Answer.BadCall w r
 
@@ -121,7 +121,7 @@ module _ (p : List ℕ) (s : State) (g : good p s ≡ true) where
 
   module _ (u : sends (s .sending) ≡ true) where
     pub run-none : (stop : Bool) (a : Answer) (l w : List ℕ) → eqb (length w) 0 ≡ true → number a ≡ pick (eqb (length l) 0) 0 6
-        → Completed (callTo stop p s l (length w)) (record { answer = a; taken = 0; replied = 0; refused = 0; state = s }) l p w w
+        → RunDone (callTo stop p s l (length w)) (record { answer = a; taken = 0; replied = 0; refused = 0; state = s }) l p w w
     run-none stop a l w z e = nothing-taken a w (by stop ∙ ap (λ (n : ℕ). ended p s n l) (sym e))
       where
         by : (stop : Bool) → callTo stop p s l (length w) ≡ ended p s (pick (eqb (length l) 0) 0 6) l
@@ -215,7 +215,7 @@ module _ (p : List ℕ) (s : State) (g : good p s ≡ true) where
         by false t false u d e = absurd (false≢true e)
 
     pub run-sent : (stop : Bool) (l : List ℕ) → either (sends y) (both stop (sends (s .sending))) ≡ true
-        → Completed (callTo stop p s l (length w)) (record { answer = Answer.Done; taken = 0; replied = n; refused = 0; state = withSending s y }) l p w w₁
+        → RunDone (callTo stop p s l (length w)) (record { answer = Answer.Done; taken = 0; replied = n; refused = 0; state = withSending s y }) l p w w₁
     unfolding behind
     run-sent stop l e =
         rw (sent-call stop l e, ← (x .left), append-nil) (record {
@@ -262,7 +262,7 @@ module _ (p : List ℕ) (s : State) (g : good p s ≡ true) where
         rw size (sym (drop-drop j n w₁) ∙ (ap (drop j) rest-is ∙ drop-drop j n w))
 
     pub run-on : (stop : Bool) {r : RunResult} {l p′ w′ : List ℕ} → either (sends y) (both stop (sends (s .sending))) ≡ false
-        → Completed (runBehind stop p (s .core) (s .gathered) (s .setup) l w₁ n) r l p′ w₁ w′ → Completed (callTo stop p s l (length w)) r l p′ w w′
+        → RunDone (runBehind stop p (s .core) (s .gathered) (s .setup) l w₁ n) r l p′ w₁ w′ → RunDone (callTo stop p s l (length w)) r l p′ w w′
     unfolding behind over
     run-on stop {r} {l} {p′} {w′} done k =
         rw (on-call stop l done) (record {
@@ -291,7 +291,7 @@ has-room t n e u = omega (arith, eqb-false n 0 (ap (λ (z : Bool). both z (eqb n
 
 -- ---- the single step
 
-by-event : (o : Outcome) {b : ℕ} {p′ w w′ : List ℕ} {r : RunResult} → eqb (pick (o .taken) 1 0) 1 ≡ o .taken → Completed (atEvent o b []) r (b ∷ []) p′ w w′
+by-event : (o : Outcome) {b : ℕ} {p′ w w′ : List ℕ} {r : RunResult} → eqb (pick (o .taken) 1 0) 1 ≡ o .taken → RunDone (atEvent o b []) r (b ∷ []) p′ w w′
     → Stepped o (record { answer = r .answer; taken = eqb (r .taken) 1; replied = r .replied; state = r .state }) p′ w w′
 unfolding atEvent
 by-event o e h = record {
@@ -306,16 +306,16 @@ by-event o e h = record {
 
 -- the run over its byte to the first event
 pub one-byte : (b : ℕ) (p : List ℕ) (s : State) {p′ w w′ : List ℕ} {r : RunResult}
-    → Completed (nextRule p s (b ∷ []) (length w)) r (b ∷ []) p′ w w′
+    → RunDone (nextRule p s (b ∷ []) (length w)) r (b ∷ []) p′ w w′
     → Stepped (stepRule p s b (length w)) (record { answer = r .answer; taken = eqb (r .taken) 1; replied = r .replied; state = r .state }) p′ w w′
 one-byte b p s {p′} {w} {w′} {r} h =
-    of (stepRule p s b (length w)) (subst (λ (o : Ran). Completed o r (b ∷ []) p′ w w′) (next-tells .step p s b (length w)) h)
+    of (stepRule p s b (length w)) (subst (λ (o : Ran). RunDone o r (b ∷ []) p′ w w′) (next-tells .step p s b (length w)) h)
   where
     counted : (t : Bool) → eqb (pick t 1 0) 1 ≡ t
     counted true = refl
     counted false = refl
 
-    of : (o : Outcome) → Completed (atEvent o b []) r (b ∷ []) p′ w w′
+    of : (o : Outcome) → RunDone (atEvent o b []) r (b ∷ []) p′ w w′
         → Stepped o (record { answer = r .answer; taken = eqb (r .taken) 1; replied = r .replied; state = r .state }) p′ w w′
     of o h = by-event o (counted (o .taken)) h
 

@@ -23,13 +23,13 @@ use Rattle.rules.specs.Search.{guardedAt}
 use Rattle.rules.specs.State.{number, widthOf, pageLength, idle}
 use Rattle.rules.specs.RowList.{Beside}
 use Rattle.rules.specs.Possible.{screenOk}
-use Rattle.rules.specs.Good.{GoodPlan}
+use Rattle.rules.specs.theorems.Good.{GoodPlan}
 use Rattle.rules.specs.Decode.{decodeRule}
 use Rattle.rules.specs.Plan.{planRule}
 use Rattle.rules.specs.Carry.{Effect, effect, quiet, planWidth, carried}
 use Rattle.rules.specs.Step.{obeyed, innerRule}
 use Rattle.rules.specs.Room.{over}
-use Rattle.rules.proofs.Marks.{length-guards}
+use Rattle.rules.proofs.Searching.{length-guards}
 use Rattle.rules.proofs.Commands.{kindOf}
 use Rattle.rules.proofs.Good.{PlanKept, plan-kept}
 use Rattle.page.proofs.RowList.{beside-is}

@@ -35,9 +35,9 @@ use Rattle.rules.specs.Step.{innerRule}
 use Rattle.rules.specs.Decode.{argumentRule, decodeRule, idleRule, escapeRule, lookup}
 use Rattle.rules.specs.Change.{editShifted, rowsShifted}
 use Rattle.rules.specs.Carry.{effect, applied}
-use Rattle.rules.specs.Good.{GoodWrite}
+use Rattle.rules.specs.theorems.Good.{GoodWrite}
 use Rattle.rules.proofs.Lengths.{length-applied}
-use Rattle.rules.proofs.Marks.{guard-at}
+use Rattle.rules.proofs.Searching.{guard-at}
 use Rattle.rules.proofs.Rows.{by-width, columns-width, row-inside, placed}
 use Rattle.rules.proofs.Screens.{screen-inside}
 use Rattle.page.proofs.Changes.{one-filled}
@@ -73,7 +73,7 @@ ground-fits c size s a = record {
   first = omega (arith, s .placed .row, s .placed .least);
   past = refl;
   row = omega (arith, s .placed .row);
-  base = base-small (c .modes .mark) (c .attribute) a;
+  base = base-small (c .modes .writeprotect) (c .attribute) a;
 }
 
 pub fits-size : {z : Ground} {p q : List ℕ} → Fits z p → length q ≡ length p → Fits z q
@@ -272,11 +272,11 @@ module _ {stop : Bool} {p₀ : List ℕ} {o₀ : Ran} {input w₀ : List ℕ} {g
       let r = ready R in
       let b = getD input i 0 in
       turn (i + 1) R refl h (λ room.
-      rw (q ∙ sym (base-is b (d .modes .mark) (d .attribute))) (stores-on p d (r .0) (r .1 .0) (u .tabs) room b quiet s k e))
+      rw (q ∙ sym (base-is b (d .modes .writeprotect) (d .attribute))) (stores-on p d (r .0) (r .1 .0) (u .tabs) room b quiet s k e))
   act d {p} {i} R quiet (inserts {v} e s q free) h k =
       let r = ready R in
       let b = getD input i 0 in
-      let same = q ∙ sym (base-is b (d .modes .mark) (d .attribute)) in
+      let same = q ∙ sym (base-is b (d .modes .writeprotect) (d .attribute)) in
       turn (i + 1) R refl h (λ room.
       rw same (inserts-on p d (r .0) (r .1 .0) (u .tabs) room b quiet s k e (ap (guarded (d .modes .protect)) (sym same) ∙ free)))
   act d {p} {i} {k = k} R quiet (places s o) h l =

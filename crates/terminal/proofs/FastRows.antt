@@ -19,7 +19,7 @@ use Rattle.rules.specs.Search.{guardedAt}
 use Rattle.rules.specs.State.{widthOf, pageLength, segmentEnd, cursorOf, withCursor}
 use Rattle.rules.specs.Possible.{screenOk}
 use Rattle.rules.specs.RowList.{rowList, Beside}
-use Rattle.rules.proofs.Marks.{guard-at}
+use Rattle.rules.proofs.Searching.{guard-at}
 use Rattle.rules.proofs.Screens.{screen-inside}
 use Rattle.rules.proofs.RowSteps.{length-list}
 use Rattle.rules.specs.declared.Write.{Write}
@@ -32,10 +32,10 @@ use Rattle.terminal.proofs.FastSteps.{rolls-off, blank-free}
 use Rattle.terminal.proofs.FastPaths.{passes-same}
 
 -- a text cell that is stored is open, but for write-protect mode with protect mode on
-text-open : (on mark : Bool) (a b : ℕ) → b ≤ 0x7e → both on mark ≡ false → guarded on (written (Contents.Text 0) mark a + b) ≡ false
+text-open : (on writes : Bool) (a b : ℕ) → b ≤ 0x7e → both on writes ≡ false → guarded on (written (Contents.Text 0) writes a + b) ≡ false
 text-open true true a b h f = absurd (false≢true (sym f))
 text-open true false a b h f = ne-eqb ((0 + 0 + 256 * 0 + 1024 * a + b) / 128 % 2) 1 (λ e. omega arith)
-text-open false mark a b h f = refl
+text-open false writes a b h f = refl
 
 -- what an act writes leaves which cells are guarded, if the text of a run guards none
 module _ (z : Ground) (free : (b : ℕ) → b ≤ 0x7e → guarded (z .protect) (z .base + b) ≡ false) (off : z .rolls ≡ true → z .protect ≡ false) where
@@ -65,25 +65,25 @@ module _ (z : Ground) (free : (b : ℕ) → b ≤ 0x7e → guarded (z .protect) 
   typed-guards (refused u o k e) = typed-guards u
 
 -- none was closed
-not-both : (on mark : Bool) → not (both on mark) ≡ true → both on mark ≡ false
-not-both on mark e = not-true (both on mark) e
+not-both : (on writes : Bool) → not (both on writes) ≡ true → both on writes ≡ false
+not-both on writes e = not-true (both on writes) e
 
 text-guards : (c : Core) {l : List ℕ} {i₀ : ℕ} {p₀ : List ℕ} {at i r : ℕ} {p : List ℕ} → screenOk (c .screen) ≡ true
-    → i₀ ≤ length l → FastPath c l i₀ p₀ at i p r → closedNone (eqb i i₀) (c .modes .protect) (c .modes .mark) ≡ true
+    → i₀ ≤ length l → FastPath c l i₀ p₀ at i p r → closedNone (eqb i i₀) (c .modes .protect) (c .modes .writeprotect) ≡ true
     → guardedAt (c .modes .protect) p ≡ guardedAt (c .modes .protect) p₀
 text-guards c ok h still f = refl
 text-guards c {i₀ = i₀} {p₀ = p₀} {i = i} {p = p} ok h (passing quiet t) f = by (eqb i i₀) refl f
   where
-    by : (t : Bool) → eqb i i₀ ≡ t → closedNone t (c .modes .protect) (c .modes .mark) ≡ true
+    by : (t : Bool) → eqb i i₀ ≡ t → closedNone t (c .modes .protect) (c .modes .writeprotect) ≡ true
         → guardedAt (c .modes .protect) p ≡ guardedAt (c .modes .protect) p₀
     by true u f = ap (guardedAt (c .modes .protect)) (passes-same t h (screen-inside (c .screen) ok .below) (eqb-true i i₀ u) .1 .0)
     by false u f =
-        typed-guards (groundOf c) (λ b k. text-open (c .modes .protect) (c .modes .mark) (c .attribute) b k (not-both (c .modes .protect) (c .modes .mark) f)) (rolls-off (c .modes)) t
+        typed-guards (groundOf c) (λ b k. text-open (c .modes .protect) (c .modes .writeprotect) (c .attribute) b k (not-both (c .modes .protect) (c .modes .writeprotect) f)) (rolls-off (c .modes)) t
 
 pub path-behind : (c : Core) {l : List ℕ} {i₀ : ℕ} {p₀ : List ℕ} {at i r : ℕ} {p : List ℕ} {rows : List ℕ} → screenOk (c .screen) ≡ true
     → i₀ ≤ length l → FastPath c l i₀ p₀ at i p r
     → Beside (widthOf (c .screen)) (guardedAt (c .modes .protect) p₀) rows
-    → Behind (closedNone (eqb i i₀) (c .modes .protect) (c .modes .mark)) (widthOf (c .screen)) (guardedAt (c .modes .protect) p) rows
+    → Behind (closedNone (eqb i i₀) (c .modes .protect) (c .modes .writeprotect)) (widthOf (c .screen)) (guardedAt (c .modes .protect) p) rows
 path-behind c {p₀ = p₀} ok h t (inl e) = inl e
 path-behind c {p₀ = p₀} ok h t (inr e) =
     let w = widthOf (c .screen) in
@@ -91,8 +91,8 @@ path-behind c {p₀ = p₀} ok h t (inr e) =
 
 -- with the core after the run, whose modes and width are those before it
 pub moved-behind : (c : Core) (t : Bool) (at : ℕ) (same : Bool) {d : Core} (p : List ℕ) {rows : List ℕ} → d ≡ pick t c (coreAt c at)
-    → Behind (closedNone same (c .modes .protect) (c .modes .mark)) (widthOf (c .screen)) (guardedAt (c .modes .protect) p) rows
-    → Behind (closedNone same (d .modes .protect) (d .modes .mark)) (widthOf (d .screen)) (guardedAt (d .modes .protect) p) rows
+    → Behind (closedNone same (c .modes .protect) (c .modes .writeprotect)) (widthOf (c .screen)) (guardedAt (c .modes .protect) p) rows
+    → Behind (closedNone same (d .modes .protect) (d .modes .writeprotect)) (widthOf (d .screen)) (guardedAt (d .modes .protect) p) rows
 unfolding withCursor
 moved-behind c true at same p e b = rw e b
 moved-behind c false at same p e b = rw e b

@@ -44,7 +44,7 @@ use Rattle.rules.specs.Plan.{writing, settling, unlessGuarded, storing, advanci
 use Rattle.rules.specs.Carry.{effect, applied, landed, done, carried}
 use Rattle.rules.specs.Step.{obeyed, innerRule}
 use Rattle.rules.proofs.Tests.{both-true, both-parts}
-use Rattle.rules.proofs.Marks.{hit, hit-last, last-none, around-here, length-guards, length-others, guard-at, open-at}
+use Rattle.rules.proofs.Searching.{hit, hit-last, last-none, around-here, length-guards, length-others, guard-at, open-at}
 use Rattle.rules.proofs.Rows.{by-width, columns-width}
 use Rattle.rules.proofs.Lengths.{length-applied}
 use Rattle.rules.proofs.Screens.{screen-inside}
@@ -128,7 +128,7 @@ module _ (p : List ℕ) (c : Core) (size : length p ≡ pageLength (c .screen)) 
     at = cursorOf (c .screen)
 
     abbrev v : ℕ
-    v = written (Contents.Text b) (c .modes .mark) (c .attribute)
+    v = written (Contents.Text b) (c .modes .writeprotect) (c .attribute)
 
     decoded : decodeRule (c .pending) b ≡ Decoded.Do (Command.Store (Contents.Text b))
     unfolding decodeRule idleRule

@@ -33,7 +33,7 @@ use Rattle.rules.specs.declared.RunResult.{RunResult}
 use Rattle.rules.specs.declared.Sending.{Sending}
 use Rattle.rules.specs.declared.Sending.the-variants as Sending
 use Rattle.rules.specs.declared.SetupChange.the-variants as SetupChange
-use Rattle.rules.specs.Cell.{pick, both, either, among}
+use Rattle.rules.specs.Cell.{pick, both, either, between}
 use Rattle.rules.specs.Row.{columns}
 use Rattle.rules.specs.Search.{guardedAt}
 use Rattle.rules.specs.RowList.{Beside}
@@ -44,8 +44,8 @@ use Rattle.rules.specs.Step.{Outcome, innerRule, stepRule}
 use Rattle.rules.specs.Room.{over}
 use Rattle.rules.specs.Calls.{Ran, ended, behind, refusal, joined, repeated}
 use Rattle.rules.specs.Next.{isEvent, tells}
-use Rattle.rules.specs.Steps.{preceded}
-use Rattle.rules.specs.Left.{leaves}
+use Rattle.rules.specs.theorems.Steps.{preceded}
+use Rattle.rules.specs.theorems.Left.{leaves}
 use Rattle.rules.proofs.Tests.{pick-if}
 use Rattle.rules.proofs.Kept.{good-parts, possible-parts, step-keeps, step-good}
 use Rattle.rules.proofs.Left.{step-left}
@@ -56,7 +56,7 @@ use Rattle.rules.proofs.Run.{run-waits, run-stop, run-go, run-done, preceded-jo
 use Rattle.page.proofs.RowList.{beside-is}
 use Rattle.carry.specs.Carried.{Carried}
 use Rattle.carry.specs.Rows.{BesideAfter}
-use Rattle.terminal.specs.Promise.{Completed}
+use Rattle.terminal.specs.Promise.{RunDone}
 use Rattle.terminal.specs.Loop.{isNothing, stateWith, stateOf, ranTo}
 use Rattle.terminal.proofs.Carrying.{over-none}
 
@@ -104,7 +104,7 @@ no-event true e h u = h
 no-event false e h u = absurd (false≢true u)
 
 refusal-one : (n : ℕ) → refusal n ≤ 1
-refusal-one n = pick-if (λ (k : ℕ). k ≤ 1) (among 1 4 n) (λ e. omega arith) (λ e. omega arith)
+refusal-one n = pick-if (λ (k : ℕ). k ≤ 1) (between 1 4 n) (λ e. omega arith) (λ e. omega arith)
 
 pub run-rests : (bs p : List ℕ) (s : State) (room : ℕ) → sends (s .sending) ≡ true → repeated bs p s room ≡ ended p s 0 bs
 run-rests [] p s room u = run-done p s room
@@ -175,15 +175,15 @@ front n w w₀ h e =
 -- ---- the loop
 
 -- a result by another name
-pub ran-is : {o : Ran} {r r′ : RunResult} {l p w w′ : List ℕ} → r ≡ r′ → Completed o r′ l p w w′ → Completed o r l p w w′
-ran-is {o} {l = l} {p = p} {w = w} {w′ = w′} e h = subst (λ (x : RunResult). Completed o x l p w w′) (sym e) h
+pub ran-is : {o : Ran} {r r′ : RunResult} {l p w w′ : List ℕ} → r ≡ r′ → RunDone o r′ l p w w′ → RunDone o r l p w w′
+ran-is {o} {l = l} {p = p} {w = w} {w′ = w′} e h = subst (λ (x : RunResult). RunDone o x l p w w′) (sym e) h
 
 -- a run that ended where it stands, i bytes taken, n bytes replied, f bytes refused
 ended-there : {o : Ran} {s : State} {input w₀ p w : List ℕ} {i n f : ℕ} {x : Answer} {rest : List ℕ} → drop i input ≡ rest → n ≤ length w → n ≤ length w₀
     → i ≤ length input → drop n w ≡ drop n w₀ → o ≡ preceded i f (take n w) (ended p s (number x) rest)
-    → Completed o (record { answer = x; taken = i; replied = n; refused = f; state = s }) input p w₀ w
+    → RunDone o (record { answer = x; taken = i; replied = n; refused = f; state = s }) input p w₀ w
 ended-there {s = s} {input = input} {w₀ = w₀} {p = p} {w = w} {i = i} {n = n} {f = f} {x = x} e fits used within untouched is =
-    subst (λ (o : Ran). Completed o (record { answer = x; taken = i; replied = n; refused = f; state = s }) input p w₀ w) (sym is)
+    subst (λ (o : Ran). RunDone o (record { answer = x; taken = i; replied = n; refused = f; state = s }) input p w₀ w) (sym is)
     (record {
       answer = refl;
       taken = sym (add-zero i);
@@ -251,14 +251,14 @@ module _ {stop : Bool} {p₀ : List ℕ} {o₀ : Ran} {input w₀ p w : List ℕ
 
   -- the loop ends here with the answer x
   ending : (x : Answer) (rest : List ℕ) → drop i input ≡ rest → ranTo stop rest p s (length w₀ - n) ≡ ended p s (number x) rest
-      → Completed (o₀) (record { answer = x; taken = i; replied = n; refused = f; state = s }) input p w₀ w
+      → RunDone (o₀) (record { answer = x; taken = i; replied = n; refused = f; state = s }) input p w₀ w
   ending x rest e h =
       ended-there {x = x} {rest = rest} e room-size (R .used) (R .within) (R .untouched)
       (R .same ∙ ap (λ (l : List ℕ). preceded i f (take n w) (ranTo stop l p s (length w₀ - n))) e ∙ ap (preceded i f (take n w)) h)
 
   pub finish : {z : RunResult} → length input ≤ i
       → z ≡ record { answer = Answer.Done; taken = i; replied = n; refused = f; state = s }
-      → Completed o₀ z input p w₀ w
+      → RunDone o₀ z input p w₀ w
   finish h result = ran-is result (ending Answer.Done [] (drop-of-length-le input h) (ran-done stop p s (length w₀ - n)))
 
   -- the next byte, on what is left of the room
@@ -294,7 +294,7 @@ module _ {stop : Bool} {p₀ : List ℕ} {o₀ : Ran} {input w₀ p w : List ℕ
     -- it answers 6: the loop stops before it
     pub stops : {z : RunResult} → eqb (number (r .answer)) 6 ≡ true
         → z ≡ record { answer = Answer.NoRoom; taken = i; replied = n; refused = f; state = s }
-        → Completed o₀ z input p′ w₀ w′
+        → RunDone o₀ z input p′ w₀ w′
     stops t result =
         let a6 : o .answer ≡ 6 = made .answer ∙ sym (S .answer) ∙ eqb-true _ _ t in
         let l = step-left p s b (length w₀ - n) (λ z. absurd (omega (arith, z, a6))) in
@@ -440,7 +440,7 @@ module _ {stop : Bool} {p₀ : List ℕ} {o₀ : Ran} {input w₀ p w : List ℕ
             refused = f + m;
             state = stateWith (r .core) y k v;
           }
-          → Completed o₀ z input p′ w₀ w′
+          → RunDone o₀ z input p′ w₀ w′
       halt e {x} a result =
           let ends = ran-ends b (drop (suc i) input) p s (length w₀ - n) (R .fine) refl stop not-six (tells-so e) (left-so e) in
           ran-is result

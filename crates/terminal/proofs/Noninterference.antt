@@ -8,9 +8,9 @@ use lib.Seq.{take-append-seam}
 use Rattle.rules.specs.declared.State.{State}
 use Rattle.rules.specs.Room.{over}
 use Rattle.rules.specs.Calls.{Call, Given, ofStep, ofRun, ofPress, callRule, Played, after, play}
-use Rattle.rules.specs.Noninterference.{Indistinguishable}
+use Rattle.rules.specs.theorems.Noninterference.{Indistinguishable}
 use Rattle.rules.proofs.Noninterference.{noninterference}
-use Rattle.terminal.specs.Noninterference.{Made, stepped, ran, sent, Performed, none, next, CodeDemand3}
+use Rattle.terminal.specs.Noninterference.{Made, stepped, ran, sent, Performed, none, next, CodeNoninterference}
 
 -- the reply at the front of the room
 pub front : (l w w′ : List ℕ) (n : ℕ) → n ≡ length l → w′ ≡ over l w → take n w′ ≡ l
@@ -31,6 +31,6 @@ unfolding play
 performed-is none = refl
 performed-is (next {g = g} {r = r} m h) = rw (made-is m) (ap (after g) (performed-is h))
 
-pub code-noninterference : CodeDemand3
+pub code-noninterference : CodeNoninterference
 code-noninterference p q s t calls a b on conceals alike free f g =
     subst₂ (Indistinguishable p q) (performed-is f) (performed-is g) (noninterference p q s t calls on conceals alike free)

@@ -32,7 +32,7 @@ use Rattle.rules.proofs.Tests.{both-parts, both-true}
 use Rattle.rules.proofs.Kept.{good-parts}
 use Rattle.rules.proofs.RowSteps.{same-is, length-list, disagreeing}
 use Rattle.page.proofs.RowList.{listed}
-use Rattle.terminal.specs.Promise.{Stepped, Completed}
+use Rattle.terminal.specs.Promise.{Stepped, RunDone}
 use Rattle.terminal.proofs.Carrying.{over-none}
 use Rattle.terminal.proofs.Calls.{nothing-taken, step-refused, run-refused}
 
@@ -61,23 +61,23 @@ module _ (p l : List ℕ) (s : State) where
         by false e = record { answer = refl; taken = refl; state = refl; replied = refl; page = refl; room = over-none w; fits = omega arith }
 
     pub run-unlisted : (i w : List ℕ)
-        → Completed (runRowsRule p l s i (length w)) (record { answer = Answer.BadCall; taken = 0; replied = 0; refused = 0; state = s }) i p w w
+        → RunDone (runRowsRule p l s i (length w)) (record { answer = Answer.BadCall; taken = 0; replied = 0; refused = 0; state = s }) i p w w
     unfolding runRowsRule
     run-unlisted i w = by (agrees l p s) refl
       where
         by : (t : Bool) → agrees l p s ≡ t
-            → Completed (pick t (runRule p s i (length w)) (ended p s 7 i))
+            → RunDone (pick t (runRule p s i (length w)) (ended p s 7 i))
             (record { answer = Answer.BadCall; taken = 0; replied = 0; refused = 0; state = s }) i p w w
         by true e = run-refused p s (bad-page (good p s) (rw e at bad)) false i w
         by false e = nothing-taken Answer.BadCall w refl
 
   pub next-unsuited : both (good p s) (suits l p s) ≡ false → (i w : List ℕ)
-      → Completed (nextRowsRule p l s i (length w)) (record { answer = Answer.BadCall; taken = 0; replied = 0; refused = 0; state = s }) i p w w
+      → RunDone (nextRowsRule p l s i (length w)) (record { answer = Answer.BadCall; taken = 0; replied = 0; refused = 0; state = s }) i p w w
   unfolding nextRowsRule
   next-unsuited bad i w = by (suits l p s) refl
     where
       by : (t : Bool) → suits l p s ≡ t
-          → Completed (pick t (nextRule p s i (length w)) (ended p s 7 i))
+          → RunDone (pick t (nextRule p s i (length w)) (ended p s 7 i))
           (record { answer = Answer.BadCall; taken = 0; replied = 0; refused = 0; state = s }) i p w w
       by true e = run-refused p s (bad-page (good p s) (rw e at bad)) true i w
       by false e = nothing-taken Answer.BadCall w refl
@@ -103,8 +103,8 @@ module _ (p l : List ℕ) (s : State) where
     unfolding stepRowsRule
     step-listed b h = rw (both-parts (good p s) (agrees l p s) fine .1) h
 
-    pub run-listed : {i : List ℕ} {r : RunResult} {p′ w w′ : List ℕ} → Completed (runRule p s i (length w)) r i p′ w w′
-        → Completed (runRowsRule p l s i (length w)) r i p′ w w′
+    pub run-listed : {i : List ℕ} {r : RunResult} {p′ w w′ : List ℕ} → RunDone (runRule p s i (length w)) r i p′ w w′
+        → RunDone (runRowsRule p l s i (length w)) r i p′ w w′
     unfolding runRowsRule
     run-listed h = rw (both-parts (good p s) (agrees l p s) fine .1) h
 
@@ -140,8 +140,8 @@ module _ (p l : List ℕ) (s : State) (fine : both (good p s) (suits l p s) ≡ 
       by true z e = inl (eqb-true (length l) 0 z)
       by false z e = inr (same-is l (rowsOf p s) e)
 
-  pub next-suited : {i : List ℕ} {r : RunResult} {p′ w w′ : List ℕ} → Completed (nextRule p s i (length w)) r i p′ w w′
-      → Completed (nextRowsRule p l s i (length w)) r i p′ w w′
+  pub next-suited : {i : List ℕ} {r : RunResult} {p′ w w′ : List ℕ} → RunDone (nextRule p s i (length w)) r i p′ w w′
+      → RunDone (nextRowsRule p l s i (length w)) r i p′ w w′
   unfolding nextRowsRule
   next-suited h = rw (both-parts (good p s) (suits l p s) fine .1) h
 

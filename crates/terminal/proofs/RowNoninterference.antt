@@ -4,9 +4,10 @@ use mathlib.Core.Path.{_≡_, refl, ap, subst₂}
 use mathlib.Core.List.{List}
 use Prim.Native.Nat.{ℕ}
 use Rattle.rules.specs.Calls.{Given, Called, ofStep, ofRun}
-use Rattle.rules.specs.RowCalls.{Session, RowCall, rowCallRule, RowPlayed, rowAfter, rowPlay, RowIndistinguishable}
+use Rattle.rules.specs.RowCalls.{Session, RowCall, rowCallRule, RowPlayed, rowAfter, rowPlay}
+use Rattle.rules.specs.theorems.RowNoninterference.{RowIndistinguishable}
 use Rattle.rules.proofs.RowNoninterference.{row-noninterference}
-use Rattle.terminal.specs.RowNoninterference.{RowMade, bare, listStepped, listRan, heard, rebuiltRows, RowPerformed, none, next, CodeRowDemand3}
+use Rattle.terminal.specs.RowNoninterference.{RowMade, bare, listStepped, listRan, heard, rebuiltRows, RowPerformed, none, next, CodeRowNoninterference}
 use Rattle.terminal.proofs.Noninterference.{front, made-is}
 
 row-made-is : {x : Session} {p′ l′ : List ℕ} {c : RowCall} {g : Given} → RowMade x c g p′ l′
@@ -26,6 +27,6 @@ unfolding rowPlay
 row-performed-is none = refl
 row-performed-is (next {g = g} {r = r} m h) = rw (row-made-is m) (ap (rowAfter _) (row-performed-is h))
 
-pub code-row-noninterference : CodeRowDemand3
+pub code-row-noninterference : CodeRowNoninterference
 code-row-noninterference p q l s calls a b on conceals alike free f g =
     subst₂ (RowIndistinguishable p q) (row-performed-is f) (row-performed-is g) (row-noninterference p q l s calls on conceals alike free)

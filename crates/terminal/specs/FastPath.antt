@@ -21,7 +21,7 @@ use Rattle.terminal.specs.declared.fast.Ground.{Ground}
 
 -- what the number of a text cell that a core stores has beside its code
 abbrev pub textBase : Core → ℕ
-textBase c = written (Contents.Text 0) (c .modes .mark) (c .attribute)
+textBase c = written (Contents.Text 0) (c .modes .writeprotect) (c .attribute)
 
 -- the ground of a core
 abbrev pub groundOf : Core → Ground

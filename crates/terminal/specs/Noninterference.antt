@@ -12,8 +12,8 @@ use Rattle.rules.specs.Cell.{pick}
 use Rattle.rules.specs.State.{number}
 use Rattle.rules.specs.Step.{stepRule}
 use Rattle.rules.specs.Calls.{runRule, pressRule, Call, Step, Run, Press, Given, Played, after}
-use Rattle.rules.specs.Noninterference.{Alike, revealing, anyCompleted, Indistinguishable}
-use Rattle.terminal.specs.Promise.{Stepped, Completed, KeySent}
+use Rattle.rules.specs.theorems.Noninterference.{Alike, revealing, anyCompleted, Indistinguishable}
+use Rattle.terminal.specs.Promise.{Stepped, RunDone, KeySent}
 
 -- what the caller of a step sees: the numbers of its result, the reply at the front of the room w, and the state
 abbrev pub stepSeen : StepResult → List ℕ → Given
@@ -37,7 +37,7 @@ pressSeen s r w = record { answer = number (r .answer); counts = r .replied ∷ 
 pub data Made (p : List ℕ) (s : State) : Call → Given → List ℕ → Type 0 where
   stepped : {b : ℕ} {w w′ p′ : List ℕ} {r : StepResult} → Stepped (stepRule p s b (length w)) r p′ w w′
       → Made p s (Step b (length w)) (stepSeen r w′) p′
-  ran : {l w w′ p′ : List ℕ} {r : RunResult} → Completed (runRule p s l (length w)) r l p′ w w′
+  ran : {l w w′ p′ : List ℕ} {r : RunResult} → RunDone (runRule p s l (length w)) r l p′ w w′
       → Made p s (Run l (length w)) (runSeen r l w′) p′
   sent : {v : ℕ} {w w′ : List ℕ} {r : PressResult} → KeySent (pressRule p s v (length w)) r w w′
       → Made p s (Press v (length w)) (pressSeen s r w′) p
@@ -49,7 +49,7 @@ pub data Performed : List ℕ → State → List Call → Played → Type 0 wher
       → Performed p s (c ∷ cs) (after g r)
 
 -- demand 3, of terminals that run the code
-abbrev pub CodeDemand3 : Type 0
-CodeDemand3 =
+abbrev pub CodeNoninterference : Type 0
+CodeNoninterference =
     (p q : List ℕ) (s t : State) (calls : List Call) (a b : Played) → s .core .modes .protect ≡ true → revealing (s .sending) ≡ false → Alike p q s t → anyCompleted calls p s ≡ false
     → Performed p s calls a → Performed q t calls b → Indistinguishable p q a b

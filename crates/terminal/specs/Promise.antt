@@ -34,7 +34,7 @@ pub record Stepped (o : Outcome) (r : StepResult) (p w w′ : List ℕ) : Type 0
   pub fits : r .replied ≤ length w
 
 -- l is the input; `rest` of it is what `rest` hands back
-pub record Completed (o : Ran) (r : RunResult) (l p w w′ : List ℕ) : Type 0 where
+pub record RunDone (o : Ran) (r : RunResult) (l p w w′ : List ℕ) : Type 0 where
   pub answer : number (r .answer) ≡ o .answer
   pub taken : r .taken ≡ o .taken
   pub replied : r .replied ≡ length (o .reply)

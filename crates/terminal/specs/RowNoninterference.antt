@@ -11,9 +11,10 @@ use Rattle.rules.specs.declared.RunResult.{RunResult}
 use Rattle.rules.specs.Cell.{pick}
 use Rattle.rules.specs.State.{number}
 use Rattle.rules.specs.Calls.{Call, Given}
-use Rattle.rules.specs.Noninterference.{AlikePages, revealing, anyCompleted}
-use Rattle.rules.specs.RowCalls.{stepRowsRule, runRowsRule, nextRowsRule, rowsAfter, rebuildAnswer, rebuilt, Session, RowCall, Bare, ListStep, ListRun, Next, Rebuild, handed, RowPlayed, rowAfter, bareCalls, RowIndistinguishable}
-use Rattle.terminal.specs.Promise.{Stepped, Completed}
+use Rattle.rules.specs.theorems.Noninterference.{AlikePages, revealing, anyCompleted}
+use Rattle.rules.specs.RowCalls.{stepRowsRule, runRowsRule, nextRowsRule, rowsAfter, rebuildAnswer, rebuilt, Session, RowCall, Bare, ListStep, ListRun, Next, Rebuild, handed, RowPlayed, rowAfter, bareCalls}
+use Rattle.rules.specs.theorems.RowNoninterference.{RowIndistinguishable}
+use Rattle.terminal.specs.Promise.{Stepped, RunDone}
 use Rattle.terminal.specs.Noninterference.{stepSeen, runSeen, Made}
 
 -- a call that was made on the page, the list and the state of x: its result, the page p′ and the list l′ are as it promises
@@ -21,10 +22,10 @@ pub data RowMade (x : Session) : RowCall → Given → List ℕ → List ℕ →
   bare : {c : Call} {g : Given} {p′ : List ℕ} → Made (x .page) (x .state) c g p′ → RowMade x (Bare c) g p′ (x .rows)
   listStepped : {b : ℕ} {w w′ p′ l′ : List ℕ} {r : StepResult} → Stepped (stepRowsRule (x .page) (x .rows) (x .state) b (length w)) r p′ w w′
       → l′ ≡ rowsAfter (x .page) (x .rows) (x .state) p′ (r .state) → RowMade x (ListStep b (length w)) (stepSeen r w′) p′ l′
-  listRan : {i w w′ p′ l′ : List ℕ} {r : RunResult} → Completed (runRowsRule (x .page) (x .rows) (x .state) i (length w)) r i p′ w w′
+  listRan : {i w w′ p′ l′ : List ℕ} {r : RunResult} → RunDone (runRowsRule (x .page) (x .rows) (x .state) i (length w)) r i p′ w w′
       → l′ ≡ rowsAfter (x .page) (x .rows) (x .state) p′ (r .state) → RowMade x (ListRun i (length w)) (runSeen r i w′) p′ l′
   heard : {with : Bool} {i w w′ p′ l′ : List ℕ} {r : RunResult}
-      → Completed (nextRowsRule (x .page) (handed with x) (x .state) i (length w)) r i p′ w w′
+      → RunDone (nextRowsRule (x .page) (handed with x) (x .state) i (length w)) r i p′ w w′
       → l′ ≡ pick with (rowsAfter (x .page) (x .rows) (x .state) p′ (r .state)) (x .rows) → RowMade x (Next with i (length w)) (runSeen r i w′) p′ l′
   rebuiltRows : (a : Answer) {l′ : List ℕ} → number a ≡ rebuildAnswer (x .page) (x .rows) (x .state) → l′ ≡ rebuilt (x .page) (x .rows) (x .state)
       → RowMade x Rebuild (record { answer = number a; counts = []; reply = []; rest = []; state = x .state }) (x .page) l′
@@ -37,8 +38,8 @@ pub data RowPerformed : Session → List RowCall → RowPlayed → Type 0 where
       → RowPerformed x (c ∷ cs) (rowAfter (record { called = record { given = g; page = p′ }; rows = l′ }) r)
 
 -- demand 3, of terminals that run the code
-abbrev pub CodeRowDemand3 : Type 0
-CodeRowDemand3 =
+abbrev pub CodeRowNoninterference : Type 0
+CodeRowNoninterference =
     (p q l : List ℕ) (s : State) (calls : List RowCall) (a b : RowPlayed) → s .core .modes .protect ≡ true → revealing (s .sending) ≡ false → AlikePages p q
     → anyCompleted (bareCalls calls (record { page = p; rows = l; state = s })) p s ≡ false
     → RowPerformed (record { page = p; rows = l; state = s }) calls a → RowPerformed (record { page = q; rows = l; state = s }) calls b

@@ -8,9 +8,9 @@ use lib.ListN.{length}
 use Rattle.rules.specs.Cell.{both, either}
 use Rattle.rules.specs.RowList.{rowList}
 
--- no cell has become guarded: the run took nothing (same), or not both of protect and write-protect mode are on (on, mark)
+-- no cell has become guarded: the run took nothing (same), or not both of protect and write-protect mode are on (on, writes)
 abbrev pub closedNone : Bool → Bool → Bool → Bool
-closedNone same on mark = either same (not (both on mark))
+closedNone same on writes = either same (not (both on writes))
 
 -- no list, or one that is right if no cell has become guarded
 abbrev pub Behind : Bool → ℕ → List Bool → List ℕ → Type 0

@@ -9,7 +9,7 @@ ghost use Prim.Native.Nat.{_*_, _<_};
 ghost use Rattle.rules.specs.Row.{columns};
 ghost use Rattle.rules.specs.State.{number, widthOf, pageLength, sends};
 ghost use Rattle.rules.specs.Possible.{screenOk, good};
-ghost use Rattle.rules.specs.Good.{GoodSend};
+ghost use Rattle.rules.specs.theorems.Good.{GoodSend};
 ghost use Rattle.rules.specs.Search.{guardedAt};
 ghost use Rattle.rules.specs.RowList.{Beside};
 ghost use Rattle.rules.specs.Cell.{pick};
@@ -18,7 +18,7 @@ ghost use Rattle.rules.specs.Next.{isEvent};
 ghost use Rattle.rules.specs.declared.Answer.the-variants as Answer;
 ghost use Rattle.carry.specs.Went.{Went};
 ghost use Rattle.terminal.specs.Loop.{keepsSetup, isNothing, stateWith, callTo};
-ghost use Rattle.terminal.specs.Promise.{Completed};
+ghost use Rattle.terminal.specs.Promise.{RunDone};
 ghost use Rattle.terminal.specs.Rows.{closedNone, Behind};
 use crate::fast::fast_path;
 use crate::fast::moved;
@@ -181,14 +181,14 @@ fn finished(
 }
 
 // The row list after the fast path, which took nothing if it is the `same`: only with protect and write-protect mode on has it closed cells.
-fn follow_path(rows: &mut [u16], page: &[u16], wide: bool, protect: bool, mark: bool, same: bool)
-    requires { ⌜ (length (now page) ≡ 24 * columns wide) × Behind (closedNone same protect mark) (columns wide) (guardedAt protect (now page)) (now rows) ⌝ }
+fn follow_path(rows: &mut [u16], page: &[u16], wide: bool, protect: bool, writes: bool, same: bool)
+    requires { ⌜ (length (now page) ≡ 24 * columns wide) × Behind (closedNone same protect writes) (columns wide) (guardedAt protect (now page)) (now rows) ⌝ }
     ensures { λ r. ⌜ Beside (columns wide) (guardedAt protect (now (page .entry))) (now (rows .exit)) ⌝ }
 {
     if rows.len() == 0 {
         return;
     }
-    if or(same, !and(protect, mark)) {
+    if or(same, !and(protect, writes)) {
         return;
     }
     let width = columns(wide);
@@ -207,7 +207,7 @@ pub(crate) fn run_beside(
     stop: bool,
 ) -> RunResult
     requires { ⌜ (good (now page) state ≡ true) × Beside (widthOf (state .core .screen)) (guardedAt (state .core .modes .protect) (now page)) (now rows) ⌝ }
-    ensures { λ r. ⌜ Completed (callTo stop (now (page .entry)) state (now (input .entry)) (length (now (reply .entry)))) r (now (input .entry)) (now (page .exit)) (now (reply .entry)) (now (reply .exit)) × Beside (widthOf (r .state .core .screen)) (guardedAt (r .state .core .modes .protect) (now (page .exit))) (now (rows .exit)) ⌝ }
+    ensures { λ r. ⌜ RunDone (callTo stop (now (page .entry)) state (now (input .entry)) (length (now (reply .entry)))) r (now (input .entry)) (now (page .exit)) (now (reply .entry)) (now (reply .exit)) × Beside (widthOf (r .state .core .screen)) (guardedAt (r .state .core .modes .protect) (now (page .exit))) (now (rows .exit)) ⌝ }
 {
     let mut c = state.core;
     let mut g = state.gathered;
@@ -237,7 +237,7 @@ pub(crate) fn run_beside(
             page,
             c.screen.wide,
             c.modes.protect,
-            c.modes.mark,
+            c.modes.writeprotect,
             same,
         );
         if input.len() <= taken {

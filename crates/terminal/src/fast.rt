@@ -222,7 +222,7 @@ fn ground_of(core: Core) -> Ground
         insert: core.modes.insert,
         rolls: scrolls(core.modes),
         wide: x.wide,
-        base: written_cell(Contents::Text(0), core.modes.mark, core.attribute),
+        base: written_cell(Contents::Text(0), core.modes.writeprotect, core.attribute),
         home: segment_start(x) as usize,
         end: segment_end(x) as usize,
         top: segment_top(x) as usize,

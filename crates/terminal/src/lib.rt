@@ -22,7 +22,7 @@ ghost use Rattle.rules.specs.Convert.{convertRule};
 ghost use Rattle.rules.specs.Next.{replyCommand};
 ghost use Rattle.rules.specs.RowCalls.{stepRowsRule, runRowsRule, suits, nextRowsRule, rowsAfter, rebuildAnswer, rebuilt};
 ghost use Rattle.rules.specs.declared.Answer.the-variants as Answer;
-ghost use Rattle.terminal.specs.Promise.{PoweredOn, Stepped, Completed, KeySent, Turns};
+ghost use Rattle.terminal.specs.Promise.{PoweredOn, Stepped, RunDone, KeySent, Turns};
 use bytes::run_beside;
 use key::press_key;
 use page::cell::NULL;
@@ -142,7 +142,7 @@ pub fn step(page: &mut [u16], state: State, byte: u8, reply: &mut [u8]) -> StepR
 
 // The run over many bytes. Ruled out: one that makes up a count, or counts the byte that answered 6 as taken.
 pub fn run(page: &mut [u16], state: State, input: &[u8], reply: &mut [u8]) -> RunResult
-    ensures { λ r. ⌜ Completed (runRule (now (page .entry)) state (now (input .entry)) (length (now (reply .entry)))) r (now (input .entry)) (now (page .exit)) (now (reply .entry)) (now (reply .exit)) ⌝ }
+    ensures { λ r. ⌜ RunDone (runRule (now (page .entry)) state (now (input .entry)) (length (now (reply .entry)))) r (now (input .entry)) (now (page .exit)) (now (reply .entry)) (now (reply .exit)) ⌝ }
 {
     if !is_good(page, state) {
         return refused(state);
@@ -191,7 +191,7 @@ pub fn run_rows(
     input: &[u8],
     reply: &mut [u8],
 ) -> RunResult
-    ensures { λ r. ⌜ Completed (runRowsRule (now (page .entry)) (now (rows .entry)) state (now (input .entry)) (length (now (reply .entry)))) r (now (input .entry)) (now (page .exit)) (now (reply .entry)) (now (reply .exit)) × (now (rows .exit) ≡ rowsAfter (now (page .entry)) (now (rows .entry)) state (now (page .exit)) (r .state)) ⌝ }
+    ensures { λ r. ⌜ RunDone (runRowsRule (now (page .entry)) (now (rows .entry)) state (now (input .entry)) (length (now (reply .entry)))) r (now (input .entry)) (now (page .exit)) (now (reply .entry)) (now (reply .exit)) × (now (rows .exit) ≡ rowsAfter (now (page .entry)) (now (rows .entry)) state (now (page .exit)) (r .state)) ⌝ }
 {
     if !is_listed(page, rows, state) {
         return refused(state);
@@ -217,7 +217,7 @@ pub fn next(
     input: &[u8],
     reply: &mut [u8],
 ) -> RunResult
-    ensures { λ r. ⌜ Completed (nextRowsRule (now (page .entry)) (now (rows .entry)) state (now (input .entry)) (length (now (reply .entry)))) r (now (input .entry)) (now (page .exit)) (now (reply .entry)) (now (reply .exit)) × (now (rows .exit) ≡ rowsAfter (now (page .entry)) (now (rows .entry)) state (now (page .exit)) (r .state)) ⌝ }
+    ensures { λ r. ⌜ RunDone (nextRowsRule (now (page .entry)) (now (rows .entry)) state (now (input .entry)) (length (now (reply .entry)))) r (now (input .entry)) (now (page .exit)) (now (reply .entry)) (now (reply .exit)) × (now (rows .exit) ≡ rowsAfter (now (page .entry)) (now (rows .entry)) state (now (page .exit)) (r .state)) ⌝ }
 {
     if !is_suited(page, rows, state) {
         return refused(state);

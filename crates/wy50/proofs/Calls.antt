@@ -32,7 +32,7 @@ use Rattle.rules.specs.Possible.{powerOn, possible, good}
 use Rattle.rules.specs.Fields.{positionRule}
 use Rattle.rules.specs.Carry.{Effect}
 use Rattle.rules.specs.Calls.{Ran, joined, repeated, behind, runInside, powerOnRule, runRule, pressRule}
-use Rattle.rules.proofs.Tests.{pick-if, among-parts}
+use Rattle.rules.proofs.Tests.{pick-if, between-parts}
 use Rattle.rules.proofs.Kept.{possible-parts, good-parts}
 use Rattle.rules.proofs.Left.{Ended, ends, clears, keeps, inner-ends}
 use Rattle.state.proofs.Tests.{both-left, both-right}
@@ -40,7 +40,7 @@ use Rattle.terminal.specs.Promise as terminal
 use Rattle.wy50.specs.declared.raw.RawSequence.{RawSequence}
 use Rattle.wy50.specs.declared.raw.RawState.{RawState}
 use Rattle.wy50.specs.Raw.{allBelow, flag, isPersonality, personalityAt, areFlags, sequenceOf, gatheredIn, blanked, laidOver, isSequence, isSending, numbers, packed, unpacked, named}
-use Rattle.wy50.specs.Promise.{rawGood, rawPossible, rawCursor, freshNumbers, rawPowerOn, rawStep, rawRan, badRun, rawRun, rawPress, PoweredOn, Stepped, Completed, Sent}
+use Rattle.wy50.specs.Promise.{rawGood, rawPossible, rawCursor, freshNumbers, rawPowerOn, rawStep, rawRan, badRun, rawRun, rawPress, PoweredOn, Stepped, RunDone, Sent}
 
 pub named-bells : (x : RawState) → named x ≡ true → x .bells < 256
 unfolding named
@@ -52,7 +52,7 @@ named-bells x h =
 
 ended-seven : {p : List ℕ} {c : Core} {e : Effect} → Ended p c e → e .answer ≡ 7 → ⊥
 ended-seven (ends a) h = omega (arith, a, h)
-ended-seven (clears m a) h = omega (arith, among-parts 2 3 m a, h)
+ended-seven (clears m a) h = omega (arith, between-parts 2 4 m a, h)
 ended-seven (keeps m a l) h = omega (arith, l .0, h)
 
 pub good-step : (p : List ℕ) (s : State) (b room : ℕ) → good p s ≡ true → stepRule p s b room .answer ≡ 7 → ⊥
@@ -161,8 +161,8 @@ module _ {n : ℕ} {y : RawState} where
       })
 
   -- a run of the terminal's
-  pub numbered : (x : RawState) {o : Ran} {t : RunResult} {l p′ w w′ : List ℕ} → terminal.Completed o t l p′ w w′ → n ≡ number (t .answer)
-      → y ≡ packed x (t .state) → Completed (rawRan x o) (record { answer = n; taken = t .taken; replied = t .replied; refused = t .refused; state = y }) l p′ w w′
+  pub numbered : (x : RawState) {o : Ran} {t : RunResult} {l p′ w w′ : List ℕ} → terminal.RunDone o t l p′ w w′ → n ≡ number (t .answer)
+      → y ≡ packed x (t .state) → RunDone (rawRan x o) (record { answer = n; taken = t .taken; replied = t .replied; refused = t .refused; state = y }) l p′ w w′
   numbered x h a v = record {
     answer = a ∙ h .answer;
     taken = h .taken;
@@ -177,8 +177,8 @@ module _ {n : ℕ} {y : RawState} where
   }
 
   pub completed : (p : List ℕ) (x : RawState) (l w : List ℕ) {s : State} {t : RunResult} {p′ w′ : List ℕ} → named x ≡ true → s ≡ unpacked x
-      → terminal.Completed (runRule p s l (length w)) t l p′ w w′ → n ≡ number (t .answer) → (n ≡ 7 → ⊥) → y ≡ packed x (t .state)
-      → Completed (rawRun p x l (length w)) (record { answer = n; taken = t .taken; replied = t .replied; refused = t .refused; state = y }) l p′ w w′
+      → terminal.RunDone (runRule p s l (length w)) t l p′ w w′ → n ≡ number (t .answer) → (n ≡ 7 → ⊥) → y ≡ packed x (t .state)
+      → RunDone (rawRun p x l (length w)) (record { answer = n; taken = t .taken; replied = t .replied; refused = t .refused; state = y }) l p′ w w′
   unfolding rawRun
   completed p x l w {s} on e h a z v =
       let g : good p s ≡ true = not-bad (good p s) (λ k. z (a ∙ h .answer ∙ bad-run-seven p s l (length w) k)) in
@@ -192,7 +192,7 @@ sent p x v w on e h a = rw (on, ← e) (record { answer = a ∙ h .answer; repli
 
 -- a bad call: numbers that name no state, or a 7 of the terminal's, which changed nothing
 pub nothing-done : (p : List ℕ) (x : RawState) (l w : List ℕ)
-    → Completed (badRun p x l) (record { answer = 7; taken = 0; replied = 0; refused = 0; state = x }) l p w w
+    → RunDone (badRun p x l) (record { answer = 7; taken = 0; replied = 0; refused = 0; state = x }) l p w w
 unfolding over
 nothing-done p x l w = record {
   answer = refl;
@@ -212,7 +212,7 @@ module _ (p : List ℕ) (x : RawState) (bad : rawGood p x ≡ false) (w : List �
   unfolding rawStep over
   step-refused b = rw bad (record { answer = refl; taken = refl; state = refl; replied = refl; page = refl; room = refl; fits = omega arith })
 
-  pub run-refused : (l : List ℕ) → Completed (rawRun p x l (length w)) (record { answer = 7; taken = 0; replied = 0; refused = 0; state = x }) l p w w
+  pub run-refused : (l : List ℕ) → RunDone (rawRun p x l (length w)) (record { answer = 7; taken = 0; replied = 0; refused = 0; state = x }) l p w w
   unfolding rawRun
   run-refused l = rw bad (nothing-done p x l w)
 
@@ -246,11 +246,11 @@ module _ (p : List ℕ) (x : RawState) (w : List ℕ) {n : ℕ} {s : State} {p�
       let k = step-left p s b w g in
       rw (h .page, k .0, h .room, k .1) (step-refused p x (raw-good p x on (ap (good p) (sym e) ∙ g)) w b)
 
-  run-bad : (l : List ℕ) {t : RunResult} → terminal.Completed (runRule p s l (length w)) t l p′ w w′ → n ≡ number (t .answer) → n ≡ 7 → good p s ≡ false
+  run-bad : (l : List ℕ) {t : RunResult} → terminal.RunDone (runRule p s l (length w)) t l p′ w w′ → n ≡ number (t .answer) → n ≡ 7 → good p s ≡ false
   run-bad l h a z = not-good (good p s) (λ k. good-run p s l (length w) k (sym (a ∙ h .answer) ∙ z))
 
-  pub run-seven : (l : List ℕ) {t : RunResult} → terminal.Completed (runRule p s l (length w)) t l p′ w w′ → n ≡ number (t .answer) → n ≡ 7
-      → Completed (rawRun p x l (length w)) (record { answer = 7; taken = 0; replied = 0; refused = 0; state = x }) l p′ w w′
+  pub run-seven : (l : List ℕ) {t : RunResult} → terminal.RunDone (runRule p s l (length w)) t l p′ w w′ → n ≡ number (t .answer) → n ≡ 7
+      → RunDone (rawRun p x l (length w)) (record { answer = 7; taken = 0; replied = 0; refused = 0; state = x }) l p′ w w′
   run-seven l h a z =
       let g = run-bad l h a z in
       let k = run-left p s l w g in

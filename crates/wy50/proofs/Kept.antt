@@ -15,7 +15,7 @@ use Rattle.rules.specs.declared.Personality.{Personality}
 use Rattle.rules.specs.Cell.{pick}
 use Rattle.rules.specs.Possible.{powerOn, pendingOk, good}
 use Rattle.rules.specs.Convert.{convertRule}
-use Rattle.rules.specs.Cell.{among}
+use Rattle.rules.specs.Cell.{between}
 use Rattle.rules.specs.Step.{Outcome, stepRule}
 use Rattle.rules.specs.Calls.{pressed, powerOnRule, runRule, pressRule}
 use Rattle.rules.proofs.Kept.{PossibleCore, possible-parts, possible-whole, good-parts, good-whole, step-good, run-good, powerOn-good}
@@ -107,7 +107,7 @@ module _ (p : List ℕ) (x : RawState) (b room : ℕ) where
   step = stepRule p (unpacked x) b room
 
   -- an answer that changes nothing
-  kept-by : (n : ℕ) → (n ≡ 0 → ⊥) → among 2 3 n ≡ false → step .answer ≡ n → named x ≡ true → (packed x (step .state) ≡ x) × (step .page ≡ p)
+  kept-by : (n : ℕ) → (n ≡ 0 → ⊥) → between 2 4 n ≡ false → step .answer ≡ n → named x ≡ true → (packed x (step .state) ≡ x) × (step .page ≡ p)
   kept-by n z m e on =
       let l = step-left p (unpacked x) b room (λ f. z (sym e ∙ f)) in
       let s : step .state ≡ unpacked x = l .state ∙ rw (e, m) in

@@ -29,7 +29,7 @@ use Rattle.terminal.proofs.RowCalls.{rows-unlisted}
 use Rattle.wy50.specs.declared.raw.RawState.{RawState}
 use Rattle.wy50.specs.declared.raw.RawRun.{RawRun}
 use Rattle.wy50.specs.Raw.{gatheredBack, packed, unpacked, named}
-use Rattle.wy50.specs.Promise.{rawGood, rawRan, Completed}
+use Rattle.wy50.specs.Promise.{rawGood, rawRan, RunDone}
 use Rattle.wy50.specs.Rows.{rawListed, rawSuited, rawNext, rawRowsAfter, Heard}
 use Rattle.wy50.proofs.Calls.{good-step, not-bad, not-good, raw-good, unnamed-bad, numbered, nothing-done}
 use Rattle.wy50.proofs.RowCalls.{numbers-rows}
@@ -94,7 +94,7 @@ suited-false p l x n = by (rawGood p x) refl (suits l p (unpacked x)) refl
     by false e u f = refl
 
 unheard : (p l : List ℕ) (x : RawState) (i w : List ℕ) → rawSuited p l x ≡ false
-    → Completed (rawNext p l x i (length w)) (record { answer = 7; taken = 0; replied = 0; refused = 0; state = x }) i p w w
+    → RunDone (rawNext p l x i (length w)) (record { answer = 7; taken = 0; replied = 0; refused = 0; state = x }) i p w w
 unfolding rawNext
 unheard p l x i w bad = rw bad (nothing-done p x i w)
 
@@ -124,7 +124,7 @@ heard-unnamed p l x i w off = refused p l x i w (suited-false p l x (λ g f. fal
 -- ---- named
 
 module _ (p l : List ℕ) (x : RawState) (i w : List ℕ) {n : ℕ} {s : State} {t : RunResult} {p′ w′ l′ : List ℕ} (on : named x ≡ true) (e : s ≡ unpacked x)
-    (h : terminal.Completed (nextRowsRule p l s i (length w)) t i p′ w w′) (k : l′ ≡ rowsAfter p l s p′ (t .state)) (a : n ≡ number (t .answer)) where
+    (h : terminal.RunDone (nextRowsRule p l s i (length w)) t i p′ w w′) (k : l′ ≡ rowsAfter p l s p′ (t .state)) (a : n ≡ number (t .answer)) where
   unsuited : suits l p s ≡ false → nextRowsRule p l s i (length w) ≡ ended p s 7 i
   unfolding nextRowsRule
   unsuited f = rw f
@@ -133,8 +133,8 @@ module _ (p l : List ℕ) (x : RawState) (i w : List ℕ) {n : ℕ} {s : State} 
   unfolding nextRowsRule
   suited f = rw f
 
-  suited-run : {r : RawRun} → rawGood p x ≡ true → suits l p s ≡ true → Completed (rawRan x (nextRule p s i (length w))) r i p′ w w′
-      → Completed (rawNext p l x i (length w)) r i p′ w w′
+  suited-run : {r : RawRun} → rawGood p x ≡ true → suits l p s ≡ true → RunDone (rawRan x (nextRule p s i (length w))) r i p′ w w′
+      → RunDone (rawNext p l x i (length w)) r i p′ w w′
   unfolding rawNext rawSuited
   suited-run g f c = rw (g, ap (suits l p) (sym e) ∙ f, ← e) c
 

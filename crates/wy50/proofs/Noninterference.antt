@@ -20,10 +20,10 @@ use Rattle.rules.specs.declared.Sending.the-variants as Sending
 use Rattle.rules.specs.declared.State.{State}
 use Rattle.rules.specs.Calls.{Call, Step, Run, Press, ofStep, ofRun, ofPress, Given, Called, callRule}
 use Rattle.rules.proofs.Related.{Related, related-length}
-use Rattle.rules.specs.Noninterference.{revealing}
+use Rattle.rules.specs.theorems.Noninterference.{revealing}
 use Rattle.rules.proofs.Tests.{pick-if}
 use Rattle.rules.proofs.Noninterference.{Closed, AgreeCall, call-agrees, start-related, related-kept}
-use Rattle.rules.specs.Completed.{CompletedIn}
+use Rattle.rules.specs.theorems.Completed.{CompletedIn}
 use Rattle.rules.proofs.Completed.{call-completed, not-true}
 use Rattle.rules.specs.Possible.{good}
 use Rattle.state.proofs.Tests.{both-left}
@@ -33,7 +33,7 @@ use Rattle.wy50.specs.declared.raw.RawState.{RawState}
 use Rattle.wy50.specs.Raw.{flag, find, textSending, rawSending, sendingOf, numbers, packed, unpacked, named}
 use Rattle.wy50.specs.Promise.{rawGood, rawStep, rawRun, rawPress}
 use Rattle.wy50.proofs.Kept.{bad-step, bad-run, bad-press}
-use Rattle.wy50.specs.Noninterference.{RawGiven, RawCalled, rawCall, RawCompleted, first, later, Made, stepped, ran, sent, Performed, none, next, Concealing, RawIndistinguishable, RawDemand3, RawCharacterised}
+use Rattle.wy50.specs.Noninterference.{RawGiven, RawCalled, rawCall, RawCompleted, first, later, Made, stepped, ran, sent, Performed, none, next, Concealing, RawIndistinguishable, RawNoninterference, RawCharacterised}
 
 -- ---- one call in both terminals
 
@@ -189,7 +189,7 @@ performed-agrees {p = p} {q = q} h closed free (next {p = a} {p′ = a₁} {x = 
     let t = performed-agrees (r .related) (r .closed) free₁ f l₁ in
     record { given = ap₂ _∷_ (sym (r .given)) (t .given); state = t .state; pages = t .pages }
 
-pub raw-noninterference : RawDemand3
+pub raw-noninterference : RawNoninterference
 raw-noninterference p q x calls gs hs y z a b on conceals alike free f g =
     performed-agrees (start-related p q alike) record { on = on; conceals = conceals } free f g
 

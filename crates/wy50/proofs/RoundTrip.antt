@@ -214,7 +214,7 @@ raw-sending-back y h = same-send-equal (rawSending (sendingOf y)) y h
 modes-back : (m : Modes) → modesOf (rawModes m) ≡ m
 modes-back m = λ i. record {
   protect = isOn-flag (m .protect) i;
-  mark = isOn-flag (m .mark) i;
+  writeprotect = isOn-flag (m .writeprotect) i;
   insert = isOn-flag (m .insert) i;
   autoscroll = isOn-flag (m .autoscroll) i;
   locked = isOn-flag (m .locked) i;
@@ -223,7 +223,7 @@ modes-back m = λ i. record {
 
 modes-named : (m : Modes) → areFlags (rawModes m) ≡ true
 modes-named m =
-    rw (flag-below (m .protect), flag-below (m .mark), flag-below (m .insert))
+    rw (flag-below (m .protect), flag-below (m .writeprotect), flag-below (m .insert))
     (rw (flag-below (m .autoscroll), flag-below (m .locked), flag-below (m .local)))
 
 -- six tests, and each of them
@@ -238,10 +238,10 @@ six a b c d e f h =
 
 raw-modes-back : (m : RawModes) → areFlags m ≡ true → rawModes (modesOf m) ≡ m
 raw-modes-back m h =
-    let t = six (ltb (m .protect) 2) (ltb (m .mark) 2) (ltb (m .insert) 2) (ltb (m .autoscroll) 2) (ltb (m .locked) 2) (ltb (m .local) 2) h in
+    let t = six (ltb (m .protect) 2) (ltb (m .writeprotect) 2) (ltb (m .insert) 2) (ltb (m .autoscroll) 2) (ltb (m .locked) 2) (ltb (m .local) 2) h in
     λ i. record {
       protect = flag-isOn (m .protect) (t .0) i;
-      mark = flag-isOn (m .mark) (t .1) i;
+      writeprotect = flag-isOn (m .writeprotect) (t .1) i;
       insert = flag-isOn (m .insert) (t .2) i;
       autoscroll = flag-isOn (m .autoscroll) (t .3) i;
       locked = flag-isOn (m .locked) (t .4) i;

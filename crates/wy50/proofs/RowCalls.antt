@@ -28,7 +28,7 @@ use Rattle.terminal.specs.Promise as terminal
 use Rattle.terminal.proofs.RowCalls.{rows-unlisted}
 use Rattle.wy50.specs.declared.raw.RawState.{RawState}
 use Rattle.wy50.specs.Raw.{flag, numbers, gatheredBack, packed, unpacked, named}
-use Rattle.wy50.specs.Promise.{rawGood, Stepped, Completed}
+use Rattle.wy50.specs.Promise.{rawGood, Stepped, RunDone}
 use Rattle.wy50.specs.Rows.{rawListed, rawStepRows, rawRunRows, rawRowsAfter, rawCanRebuild, rawRebuildAnswer, rawRebuilt}
 use Rattle.wy50.proofs.RoundTrip.{possible-fits, unpacked-numbers}
 use Rattle.wy50.proofs.Calls.{good-step, bad-seven, good-run, bad-run-seven, not-bad, not-good, raw-good, numbered, nothing-done, step-left, run-left}
@@ -69,7 +69,7 @@ module _ (p l : List ℕ) (x : RawState) (w : List ℕ) (bad : rawListed p l x �
       (rw bad (record { answer = refl; taken = refl; state = refl; replied = refl; page = refl; room = refl; fits = omega arith }), rows-left p x)
 
   run-refused : (i : List ℕ)
-      → Completed (rawRunRows p l x i (length w)) (record { answer = 7; taken = 0; replied = 0; refused = 0; state = x }) i p w w × (l ≡ rawRowsAfter p l x p x)
+      → RunDone (rawRunRows p l x i (length w)) (record { answer = 7; taken = 0; replied = 0; refused = 0; state = x }) i p w w × (l ≡ rawRowsAfter p l x p x)
   unfolding rawRunRows
   run-refused i = (rw bad (nothing-done p x i w), rows-left p x)
 
@@ -78,7 +78,7 @@ module _ (p l : List ℕ) (x : RawState) (w : List ℕ) (off : named x ≡ false
   step-unnamed b = step-refused p l x w (unnamed p l x off) b
 
   pub run-unnamed : (i : List ℕ)
-      → Completed (rawRunRows p l x i (length w)) (record { answer = 7; taken = 0; replied = 0; refused = 0; state = x }) i p w w × (l ≡ rawRowsAfter p l x p x)
+      → RunDone (rawRunRows p l x i (length w)) (record { answer = 7; taken = 0; replied = 0; refused = 0; state = x }) i p w w × (l ≡ rawRowsAfter p l x p x)
   run-unnamed i = run-refused p l x w (unnamed p l x off) i
 
 -- ---- named
@@ -172,10 +172,10 @@ module _ (p l : List ℕ) (x : RawState) (w : List ℕ) {n : ℕ} {s : State} {p
           k ∙ rw (page, state) (sym (rows-unlisted p l s)) ∙ rows-left p l x w bad p′ x,
         )
 
-  module _ (i : List ℕ) {t : RunResult} (h : terminal.Completed (runRowsRule p l s i (length w)) t i p′ w w′) (k : l′ ≡ rowsAfter p l s p′ (t .state))
+  module _ (i : List ℕ) {t : RunResult} (h : terminal.RunDone (runRowsRule p l s i (length w)) t i p′ w w′) (k : l′ ≡ rowsAfter p l s p′ (t .state))
       (a : n ≡ number (t .answer)) where
     pub rows-completed : {y : RawState} → (n ≡ 7 → ⊥) → y ≡ packed x (t .state)
-        → Completed (rawRunRows p l x i (length w)) (record { answer = n; taken = t .taken; replied = t .replied; refused = t .refused; state = y }) i p′ w w′
+        → RunDone (rawRunRows p l x i (length w)) (record { answer = n; taken = t .taken; replied = t .replied; refused = t .refused; state = y }) i p′ w w′
         × (l′ ≡ rawRowsAfter p l x p′ y)
     unfolding rawRunRows rawRowsAfter rowsAfter
     rows-completed {y} z v =
@@ -194,7 +194,7 @@ module _ (p l : List ℕ) (x : RawState) (w : List ℕ) {n : ℕ} {s : State} {p
         )
 
     pub rows-run-seven : n ≡ 7
-        → Completed (rawRunRows p l x i (length w)) (record { answer = 7; taken = 0; replied = 0; refused = 0; state = x }) i p′ w w′
+        → RunDone (rawRunRows p l x i (length w)) (record { answer = 7; taken = 0; replied = 0; refused = 0; state = x }) i p′ w w′
         × (l′ ≡ rawRowsAfter p l x p′ x)
     rows-run-seven z =
         let seven : runRowsRule p l s i (length w) .answer ≡ 7 = sym (a ∙ h .answer) ∙ z in

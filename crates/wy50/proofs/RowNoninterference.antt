@@ -23,7 +23,7 @@ use Rattle.wy50.specs.Raw.{packed, unpacked, named}
 use Rattle.wy50.specs.Promise.{rawGood, rawStep, rawRan, rawRun, badStep, badRun}
 use Rattle.wy50.specs.Rows.{rawListed, rawStepRows, rawRunRows, rawSuited, rawNext, rawRowsAfter, rawCanRebuild}
 use Rattle.wy50.specs.Noninterference.{RawGiven, RawCalled, ofRawStep, ofRawRun, rawCall, RawCompleted, first, later}
-use Rattle.wy50.specs.RowNoninterference.{RawSession, RawRowCalled, left, listed, ofRawNext, handed, heard, runOf, rawRowCall, bareCall, bareCalls, RowMade, bare, listStepped, listRan, nextHeard, rebuiltRows, RowPerformed, none, next, RawRowIndistinguishable, RawRowDemand3}
+use Rattle.wy50.specs.RowNoninterference.{RawSession, RawRowCalled, left, listed, ofRawNext, handed, heard, runOf, rawRowCall, bareCall, bareCalls, RowMade, bare, listStepped, listRan, nextHeard, rebuiltRows, RowPerformed, none, next, RawRowIndistinguishable, RawRowNoninterference}
 use Rattle.state.proofs.Tests.{both-left}
 use Rattle.wy50.proofs.Noninterference.{RawClosed, AgreeRaw, good-named, numbered-closed, unpacked-on, unpacked-closed, both-good, raw-agrees, made-is}
 
@@ -222,6 +222,6 @@ performed-agrees {p = p} {q = q} {a = a} {l = l} {x = x} h closed free
       pages = e .pages;
     }
 
-pub raw-row-noninterference : RawRowDemand3
+pub raw-row-noninterference : RawRowNoninterference
 raw-row-noninterference p q l x calls gs hs ls ms y z on conceals alike free f g =
     performed-agrees (start-related p q alike) record { on = on; conceals = conceals } free f g

@@ -18,7 +18,7 @@ use Rattle.rules.specs.Cell.{pick}
 use Rattle.rules.specs.Calls.{Ran, runRule}
 use Rattle.rules.specs.Next.{nextRule}
 use Rattle.rules.specs.RowCalls.{RowCall}
-use Rattle.rules.specs.Noninterference.{revealing}
+use Rattle.rules.specs.theorems.Noninterference.{revealing}
 use Rattle.rules.proofs.Related.{Related}
 use Rattle.rules.proofs.Noninterference.{Closed, start-related, related-kept}
 use Rattle.saved.specs.declared.RestoreAnswer.the-variants as RestoreAnswer
@@ -33,7 +33,7 @@ use Rattle.wy50.specs.Promise.{rawGood, rawRan, rawRun, badRun}
 use Rattle.wy50.specs.Rows.{rawListed, rawRunRows, rawSuited, rawNext}
 use Rattle.wy50.specs.Noninterference.{rawCall, RawCompleted}
 use Rattle.wy50.specs.RowNoninterference.{RawSession, RawRowCalled, left, handed, rawRowCall, bareCall}
-use Rattle.wy50.specs.Sessions.{RawKept, rawStart, Heard, RawSessionCalled, rawSessionRule, RawSessionCompleted, first, later, RawSessionMade, terminal, saved, restored, RawSessionGiven, rawGivenBy, RawSessionPerformed, none, next, RawSessionIndistinguishable, RawSessionDemand3, rawHandedBack, rawCallsOf, RawStreamPerformed, RawStreamDemand3, RawSessionCharacterised, RawGivenBack, RawHandedBack}
+use Rattle.wy50.specs.Sessions.{RawKept, rawStart, Heard, RawSessionCalled, rawSessionRule, RawSessionCompleted, first, later, RawSessionMade, terminal, saved, restored, RawSessionGiven, rawGivenBy, RawSessionPerformed, none, next, RawSessionIndistinguishable, RawSessionNoninterference, rawHandedBack, rawCallsOf, RawStreamPerformed, RawStreamNoninterference, RawSessionCharacterised, RawGivenBack, RawHandedBack}
 use Rattle.wy50.proofs.Noninterference.{RawClosed, numbered-closed, unpacked-closed}
 use Rattle.wy50.proofs.RowNoninterference.{row-call-agrees, row-made-is}
 
@@ -182,7 +182,7 @@ performed-agrees {l = l} {store = store} {x = x} h closed free (next {cs = cs} {
     let g₁ : RawSessionPerformed (withPage r (k .page) .kept) cs ks z = subst (λ (w : RawSessionCalled). RawSessionPerformed (w .kept) cs ks z) (k .but-page) g in
     more-agrees k (performed-agrees (k .related) (k .closed) (rest-free h l store x closed free m) f g₁)
 
-pub raw-session-noninterference : RawSessionDemand3
+pub raw-session-noninterference : RawSessionNoninterference
 raw-session-noninterference p q l store x calls gs hs y z on conceals alike free f g =
     performed-agrees (start-related p q alike) record { on = on; conceals = conceals } free f g
 
@@ -204,6 +204,6 @@ stream-agrees {stream = stream} {a = a} {l = l} {store = store} {x = x} h closed
     let e = stream-agrees (k .related) (k .closed) free₁ f g₁ in
     (more-agrees k (e .0), e .1)
 
-pub raw-stream-noninterference : RawStreamDemand3
+pub raw-stream-noninterference : RawStreamNoninterference
 raw-stream-noninterference p q l store stream x acts gs hs y z u v on conceals alike free f g =
     stream-agrees (start-related p q alike) record { on = on; conceals = conceals } free f g

@@ -32,7 +32,7 @@ abbrev pub stateWith : List ℕ → State
 stateWith gathered = record {
   core = record {
     screen = record { wide = true; active = 0; split = 13; cursor0 = 101; cursor1 = 2002 };
-    modes = record { protect = true; mark = false; insert = true; autoscroll = false; locked = true; local = false };
+    modes = record { protect = true; writeprotect = false; insert = true; autoscroll = false; locked = true; local = false };
     bells = 7;
     pending = Pending.Text (Slot.Key 0x41) 3;
     personality = Personality.Wy60;
@@ -63,9 +63,9 @@ noKey = record { len = 0; bytes = replicate 8 0 }
 
 -- its numbers, but for the bytes gathered and those that decide whether they name a state
 abbrev pub gathering : List ℕ → ℕ → ℕ → ℕ → ℕ → RawSequence → RawSending → ℕ → ℕ → ℕ → RawState
-gathering g wide mark bells personality q y tab shifted wish = record {
+gathering g wide writes bells personality q y tab shifted wish = record {
   screen = record { wide = wide; active = 0; split = 13; cursor0 = 101; cursor1 = 2002 };
-  modes = record { protect = 1; mark = mark; insert = 1; autoscroll = 0; locked = 1; local = 0 };
+  modes = record { protect = 1; writeprotect = writes; insert = 1; autoscroll = 0; locked = 1; local = 0 };
   bells = bells;
   personality = personality;
   remembered = 9;
@@ -106,10 +106,10 @@ pub record States : Type 0 where
 -- ---- modes, sequences and sends
 
 abbrev pub modes : Bool → Bool → Bool → Bool → Bool → Bool → Modes
-modes p m i a k l = record { protect = p; mark = m; insert = i; autoscroll = a; locked = k; local = l }
+modes p m i a k l = record { protect = p; writeprotect = m; insert = i; autoscroll = a; locked = k; local = l }
 
 abbrev pub flags : ℕ → ℕ → ℕ → ℕ → ℕ → ℕ → RawModes
-flags p m i a k l = record { protect = p; mark = m; insert = i; autoscroll = a; locked = k; local = l }
+flags p m i a k l = record { protect = p; writeprotect = m; insert = i; autoscroll = a; locked = k; local = l }
 
 -- each mode alone
 abbrev pub eachMode : List Modes

@@ -7,15 +7,15 @@ use mathlib.Core.Logic.{_⊎_}
 use Prim.Native.Nat.{ℕ}
 use lib.ListN.{length, take, drop}
 use Rattle.rules.specs.Calls.{Call, Step, Run, Press, Pressed}
-use Rattle.rules.specs.Noninterference.{AlikePages, KeptPages}
-use Rattle.rules.specs.Completed.{CompletedIn}
+use Rattle.rules.specs.theorems.Noninterference.{AlikePages, KeptPages}
+use Rattle.rules.specs.theorems.Completed.{CompletedIn}
 use Rattle.wy50.specs.declared.raw.RawSending.{RawSending}
 use Rattle.wy50.specs.declared.raw.RawState.{RawState}
 use Rattle.wy50.specs.declared.raw.RawStep.{RawStep}
 use Rattle.wy50.specs.declared.raw.RawRun.{RawRun}
 use Rattle.wy50.specs.declared.raw.RawPress.{RawPress}
 use Rattle.wy50.specs.Raw.{unpacked, named}
-use Rattle.wy50.specs.Promise.{RawOutcome, RawRan, rawStep, rawRun, rawPress, Stepped, Completed, Sent}
+use Rattle.wy50.specs.Promise.{RawOutcome, RawRan, rawStep, rawRun, rawPress, Stepped, RunDone, Sent}
 
 -- what a call gives back, with the state's numbers after it; counts as the rules have them
 pub record RawGiven : Type 0 where
@@ -78,7 +78,7 @@ pressSeen x r w = record { answer = r .answer; counts = r .replied ∷ []; reply
 pub data Made (p : List ℕ) (x : RawState) : Call → RawGiven → List ℕ → Type 0 where
   stepped : {b : ℕ} {w w′ p′ : List ℕ} {r : RawStep} → Stepped (rawStep p x b (length w)) r p′ w w′
       → Made p x (Step b (length w)) (stepSeen r w′) p′
-  ran : {l w w′ p′ : List ℕ} {r : RawRun} → Completed (rawRun p x l (length w)) r l p′ w w′
+  ran : {l w w′ p′ : List ℕ} {r : RawRun} → RunDone (rawRun p x l (length w)) r l p′ w w′
       → Made p x (Run l (length w)) (runSeen r l w′) p′
   sent : {v : ℕ} {w w′ : List ℕ} {r : RawPress} → Sent (rawPress p x v (length w)) r w w′
       → Made p x (Press v (length w)) (pressSeen x r w′) p
@@ -101,8 +101,8 @@ pub record Concealing (y : RawSending) : Type 0 where
   pub segment : y .command ≡ 0x37 → ⊥
 
 -- demand 3, of two terminals that C runs; protect mode is on where its number is 1
-abbrev pub RawDemand3 : Type 0
-RawDemand3 =
+abbrev pub RawNoninterference : Type 0
+RawNoninterference =
     (p q : List ℕ) (x : RawState) (calls : List Call) (gs hs : List RawGiven) (y z : RawState) (a b : List ℕ) → x .modes .protect ≡ 1
     → Concealing (x .sending)
     → AlikePages p q → (RawCompleted calls p x → ⊥) → Performed p x calls gs y a → Performed q x calls hs z b → RawIndistinguishable p q gs hs y z a b

@@ -118,7 +118,7 @@ pub record Stepped (o : RawOutcome) (r : RawStep) (p w w′ : List ℕ) : Type 0
   pub fits : r .replied ≤ length w
 
 -- l is the input
-pub record Completed (o : RawRan) (r : RawRun) (l p w w′ : List ℕ) : Type 0 where
+pub record RunDone (o : RawRan) (r : RawRun) (l p w w′ : List ℕ) : Type 0 where
   pub answer : r .answer ≡ o .answer
   pub taken : r .taken ≡ o .taken
   pub replied : r .replied ≡ length (o .reply)

@@ -209,7 +209,7 @@ isSending y = sameSending (rawSending (sendingOf y)) y
 abbrev pub rawModes : Modes → RawModes
 rawModes m = record {
   protect = flag (m .protect);
-  mark = flag (m .mark);
+  writeprotect = flag (m .writeprotect);
   insert = flag (m .insert);
   autoscroll = flag (m .autoscroll);
   locked = flag (m .locked);
@@ -219,7 +219,7 @@ rawModes m = record {
 abbrev pub modesOf : RawModes → Modes
 modesOf m = record {
   protect = isOn (m .protect);
-  mark = isOn (m .mark);
+  writeprotect = isOn (m .writeprotect);
   insert = isOn (m .insert);
   autoscroll = isOn (m .autoscroll);
   locked = isOn (m .locked);
@@ -229,7 +229,7 @@ modesOf m = record {
 -- each mode is 0 or 1
 abbrev pub areFlags : RawModes → Bool
 areFlags m =
-    both (both (ltb (m .protect) 2) (both (ltb (m .mark) 2) (ltb (m .insert) 2)))
+    both (both (ltb (m .protect) 2) (both (ltb (m .writeprotect) 2) (ltb (m .insert) 2)))
     (both (ltb (m .autoscroll) 2) (both (ltb (m .locked) 2) (ltb (m .local) 2)))
 
 abbrev pub rawKey : ShortText → RawKey

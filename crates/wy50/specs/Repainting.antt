@@ -30,13 +30,13 @@ pub data RawBytesVerdict (v : ℕ) (a b bytes : List ℕ) : ℕ → Type 0 where
 -- row, column and length of each span in turn; and the spans that a list of numbers holds
 unfoldable pub spanNumbers : List Span → List ℕ
 spanNumbers [] = []
-spanNumbers (s ∷ l) = s .row ∷ s .column ∷ s .length ∷ spanNumbers l
+spanNumbers (s ∷ l) = s .row ∷ s .column ∷ s .size ∷ spanNumbers l
 
 unfoldable pub spansIn : List ℕ → List Span
 spansIn [] = []
 spansIn (r ∷ []) = []
 spansIn (r ∷ c ∷ []) = []
-spansIn (r ∷ c ∷ n ∷ l) = record { row = r; column = c; length = n } ∷ spansIn l
+spansIn (r ∷ c ∷ n ∷ l) = record { row = r; column = c; size = n } ∷ spansIn l
 
 -- the answer, how many spans and bytes there are, and the two lent lists
 pub record RawProposed : Type 0 where

@@ -7,7 +7,7 @@ use Prim.Native.Nat.{ℕ}
 use lib.ListN.{length, take, drop}
 use Rattle.rules.specs.Cell.{pick}
 use Rattle.rules.specs.Calls.{Call, Step, Run}
-use Rattle.rules.specs.Noninterference.{AlikePages, KeptPages}
+use Rattle.rules.specs.theorems.Noninterference.{AlikePages, KeptPages}
 use Rattle.rules.specs.Next.{nextRule, replyCommand}
 use Rattle.rules.specs.RowCalls.{RowCall, Bare, ListStep, ListRun, Next, Rebuild}
 use Rattle.wy50.specs.declared.raw.RawState.{RawState}
@@ -15,7 +15,7 @@ use Rattle.wy50.specs.declared.raw.RawStep.{RawStep}
 use Rattle.wy50.specs.declared.raw.RawRun.{RawRun}
 use Rattle.wy50.specs.declared.raw.RawNext.{RawNext}
 use Rattle.wy50.specs.Raw.{unpacked}
-use Rattle.wy50.specs.Promise.{RawRan, Stepped, Completed}
+use Rattle.wy50.specs.Promise.{RawRan, Stepped, RunDone}
 use Rattle.wy50.specs.Rows.{rawListed, rawStepRows, rawRunRows, rawSuited, rawNext, nextRun, rawRowsAfter, rawRebuildAnswer, rawRebuilt}
 use Rattle.wy50.specs.Noninterference.{RawGiven, RawCalled, ofRawStep, ofRawRun, rawCall, RawCompleted, stepSeen, runSeen, Made, Concealing}
 
@@ -99,10 +99,10 @@ pub data RowMade (x : RawSession) : RowCall → RawGiven → List ℕ → List �
   bare : {c : Call} {g : RawGiven} {p′ : List ℕ} → Made (x .page) (x .state) c g p′ → RowMade x (Bare c) g p′ (x .rows)
   listStepped : {b : ℕ} {w w′ p′ l′ : List ℕ} {r : RawStep} → Stepped (rawStepRows (x .page) (x .rows) (x .state) b (length w)) r p′ w w′
       → l′ ≡ rawRowsAfter (x .page) (x .rows) (x .state) p′ (r .state) → RowMade x (ListStep b (length w)) (stepSeen r w′) p′ l′
-  listRan : {i w w′ p′ l′ : List ℕ} {r : RawRun} → Completed (rawRunRows (x .page) (x .rows) (x .state) i (length w)) r i p′ w w′
+  listRan : {i w w′ p′ l′ : List ℕ} {r : RawRun} → RunDone (rawRunRows (x .page) (x .rows) (x .state) i (length w)) r i p′ w w′
       → l′ ≡ rawRowsAfter (x .page) (x .rows) (x .state) p′ (r .state) → RowMade x (ListRun i (length w)) (runSeen r i w′) p′ l′
   nextHeard : {with : Bool} {i w w′ p′ l′ : List ℕ} {r : RawNext}
-      → Completed (rawNext (x .page) (handed with x) (x .state) i (length w)) (nextRun r) i p′ w w′
+      → RunDone (rawNext (x .page) (handed with x) (x .state) i (length w)) (nextRun r) i p′ w w′
       → r .command ≡ replyCommand (unpacked (x .state) .sending) i (r .taken) (r .replied)
       → l′ ≡ pick with (rawRowsAfter (x .page) (x .rows) (x .state) p′ (r .state)) (x .rows)
       → RowMade x (Next with i (length w)) (nextSeen r i w′) p′ l′
@@ -123,8 +123,8 @@ pub record RawRowIndistinguishable (p q : List ℕ) (gs hs : List RawGiven) (ls 
   pub state : y .state ≡ z .state
   pub pages : KeptPages p q (y .page) (z .page)
 
-abbrev pub RawRowDemand3 : Type 0
-RawRowDemand3 =
+abbrev pub RawRowNoninterference : Type 0
+RawRowNoninterference =
     (p q l : List ℕ) (x : RawState) (calls : List RowCall) (gs hs : List RawGiven) (ls ms : List (List ℕ)) (y z : RawSession) → x .modes .protect ≡ 1
     → Concealing (x .sending) → AlikePages p q → (RawCompleted (bareCalls calls (record { page = p; rows = l; state = x })) p x → ⊥)
     → RowPerformed (record { page = p; rows = l; state = x }) calls gs ls y → RowPerformed (record { page = q; rows = l; state = x }) calls hs ms z

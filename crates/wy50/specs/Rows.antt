@@ -13,7 +13,7 @@ use Rattle.wy50.specs.declared.raw.RawState.{RawState}
 use Rattle.wy50.specs.Raw.{packed, unpacked, named}
 use Rattle.wy50.specs.declared.raw.RawRun.{RawRun}
 use Rattle.wy50.specs.declared.raw.RawNext.{RawNext}
-use Rattle.wy50.specs.Promise.{rawGood, RawOutcome, raw, badStep, RawRan, rawRan, badRun, Completed}
+use Rattle.wy50.specs.Promise.{rawGood, RawOutcome, raw, badStep, RawRan, rawRan, badRun, RunDone}
 
 -- page and numbers are good, and the list l agrees with them
 unfoldable pub rawListed : List ℕ → List ℕ → RawState → Bool
@@ -51,6 +51,6 @@ abbrev pub nextRun : RawNext → RawRun
 nextRun r = record { answer = r .answer; taken = r .taken; replied = r .replied; refused = r .refused; state = r .state }
 
 pub record Heard (p l : List ℕ) (x : RawState) (bytes : List ℕ) (r : RawNext) (p′ l′ w w′ : List ℕ) : Type 0 where
-  pub run : Completed (rawNext p l x bytes (lib.ListN.length w)) (nextRun r) bytes p′ w w′
+  pub run : RunDone (rawNext p l x bytes (lib.ListN.length w)) (nextRun r) bytes p′ w w′
   pub command : r .command ≡ replyCommand (unpacked x .sending) bytes (r .taken) (r .replied)
   pub rows : l′ ≡ rawRowsAfter p l x p′ (r .state)

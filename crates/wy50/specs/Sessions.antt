@@ -8,7 +8,7 @@ use Prim.Native.Nat.{ℕ}
 use lib.ListN.{getD, drop}
 use Rattle.rules.specs.Calls.{Step, Run}
 use Rattle.rules.specs.RowCalls.{RowCall, Bare, ListStep, ListRun, Next}
-use Rattle.rules.specs.Noninterference.{AlikePages, KeptPages}
+use Rattle.rules.specs.theorems.Noninterference.{AlikePages, KeptPages}
 use Rattle.session.specs.Sessions.{SessionCall, Terminal, Save, Restore, Act, callOf, hostBytes, leftOf}
 use Rattle.wy50.specs.declared.raw.RawState.{RawState}
 use Rattle.wy50.specs.declared.raw.RawSave.{RawSave}
@@ -91,8 +91,8 @@ pub record RawSessionIndistinguishable (p q : List ℕ) (gs hs : List RawSession
   pub store : y .store ≡ z .store
   pub pages : KeptPages p q (y .terminal .page) (z .terminal .page)
 
-abbrev pub RawSessionDemand3 : Type 0
-RawSessionDemand3 =
+abbrev pub RawSessionNoninterference : Type 0
+RawSessionNoninterference =
     (p q l store : List ℕ) (x : RawState) (calls : List SessionCall) (gs hs : List RawSessionGiven) (y z : RawKept) → x .modes .protect ≡ 1
     → Concealing (x .sending) → AlikePages p q → (RawSessionCompleted calls (rawStart p l x store) → ⊥)
     → RawSessionPerformed (rawStart p l x store) calls gs y → RawSessionPerformed (rawStart q l x store) calls hs z
@@ -121,8 +121,8 @@ pub data RawStreamPerformed : RawKept → List ℕ → List Act → List RawSess
       → RawStreamPerformed (r .kept) (leftOf stream (callOf a stream) (rawHandedBack (callOf a stream) (r .told))) acts gs y end
       → RawStreamPerformed x stream (a ∷ acts) (rawGivenBy r ∷ gs) y end
 
-abbrev pub RawStreamDemand3 : Type 0
-RawStreamDemand3 =
+abbrev pub RawStreamNoninterference : Type 0
+RawStreamNoninterference =
     (p q l store stream : List ℕ) (x : RawState) (acts : List Act) (gs hs : List RawSessionGiven) (y z : RawKept) (u v : List ℕ)
     → x .modes .protect ≡ 1
     → Concealing (x .sending) → AlikePages p q → (RawSessionCompleted (rawCallsOf acts stream (rawStart p l x store)) (rawStart p l x store) → ⊥)

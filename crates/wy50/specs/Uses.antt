@@ -6,7 +6,7 @@ use Prim.Native.Nat.{ℕ}
 use lib.ListN.{replicate}
 use Rattle.rules.specs.Calls.{Call}
 use Rattle.rules.specs.RowCalls.{RowCall}
-use Rattle.rules.specs.RowCases.{openRows}
+use Rattle.rules.specs.cases.RowCases.{openRows}
 use Rattle.saved.specs.Cases.{zeros}
 use Rattle.session.specs.Sessions.{SessionCall, Act}
 use Rattle.session.specs.Uses.{one, other}
@@ -25,7 +25,7 @@ use Rattle.wy50.specs.Cases.{sequence, send, noKey}
 abbrev pub guarding : ℕ → ℕ → ℕ → RawSending → RawState
 guarding personality wide cursor y = record {
   screen = record { wide = wide; active = 0; split = 0; cursor0 = cursor; cursor1 = 0 };
-  modes = record { protect = 1; mark = 0; insert = 0; autoscroll = 1; locked = 0; local = 0 };
+  modes = record { protect = 1; writeprotect = 0; insert = 0; autoscroll = 1; locked = 0; local = 0 };
   bells = 0;
   personality = personality;
   remembered = 0;

@@ -17,7 +17,7 @@ ghost use Rattle.wy50.specs.Converting.{rawConvert, Turns};
 ghost use Rattle.mend.specs.Mend.{Gives};
 ghost use Rattle.wy50.specs.Mending.{rawMend};
 ghost use Rattle.wy50.specs.Saved.{rawSave, saveGiven, rawRestore, stateAfter};
-ghost use Rattle.wy50.specs.Promise.{rawPowerOn, rawStep, rawRun, rawPress, PoweredOn, Stepped, Completed, Sent};
+ghost use Rattle.wy50.specs.Promise.{rawPowerOn, rawStep, rawRun, rawPress, PoweredOn, Stepped, RunDone, Sent};
 use mend::MendResult;
 use mend::mend;
 use pack::flag;
@@ -139,7 +139,7 @@ pub extern "C" fn wy50_run(
     input: &[u8],
     reply: &mut [u8],
 ) -> RawRun
-    ensures { λ r. ⌜ Completed (rawRun (now (page .entry)) state (now (input .entry)) (length (now (reply .entry)))) r (now (input .entry)) (now (page .exit)) (now (reply .entry)) (now (reply .exit)) ⌝ }
+    ensures { λ r. ⌜ RunDone (rawRun (now (page .entry)) state (now (input .entry)) (length (now (reply .entry)))) r (now (input .entry)) (now (page .exit)) (now (reply .entry)) (now (reply .exit)) ⌝ }
 {
     if !is_named(state) {
         return RawRun {
@@ -239,7 +239,7 @@ pub extern "C" fn wy50_run_rows(
     input: &[u8],
     reply: &mut [u8],
 ) -> RawRun
-    ensures { λ r. ⌜ Completed (rawRunRows (now (page .entry)) (now (rows .entry)) state (now (input .entry)) (length (now (reply .entry)))) r (now (input .entry)) (now (page .exit)) (now (reply .entry)) (now (reply .exit)) × (now (rows .exit) ≡ rawRowsAfter (now (page .entry)) (now (rows .entry)) state (now (page .exit)) (r .state)) ⌝ }
+    ensures { λ r. ⌜ RunDone (rawRunRows (now (page .entry)) (now (rows .entry)) state (now (input .entry)) (length (now (reply .entry)))) r (now (input .entry)) (now (page .exit)) (now (reply .entry)) (now (reply .exit)) × (now (rows .exit) ≡ rawRowsAfter (now (page .entry)) (now (rows .entry)) state (now (page .exit)) (r .state)) ⌝ }
 {
     if !is_named(state) {
         return RawRun {

@@ -150,7 +150,7 @@ fn raw_modes(m: Modes) -> RawModes
 {
     RawModes {
         protect: flag(m.protect),
-        mark: flag(m.mark),
+        writeprotect: flag(m.writeprotect),
         insert: flag(m.insert),
         autoscroll: flag(m.autoscroll),
         locked: flag(m.locked),

@@ -24,11 +24,11 @@ pub struct RawScreen {
     pub cursor1: u16,
 }
 
-// Each 0 or 1. `mark` is write-protect mode, `local` local edit.
+// Each 0 or 1. `local` is local edit.
 #[repr(C)]
 pub struct RawModes {
     pub protect: u8,
-    pub mark: u8,
+    pub writeprotect: u8,
     pub insert: u8,
     pub autoscroll: u8,
     pub locked: u8,

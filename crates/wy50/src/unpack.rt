@@ -169,7 +169,7 @@ fn is_sending(x: RawSending) -> bool
 fn are_flags(m: RawModes) -> bool
     ensures { λ r. ⌜ r ≡ areFlags m ⌝ }
 {
-    let first = and(m.protect < 2, and(m.mark < 2, m.insert < 2));
+    let first = and(m.protect < 2, and(m.writeprotect < 2, m.insert < 2));
     let second = and(m.autoscroll < 2, and(m.locked < 2, m.local < 2));
     and(first, second)
 }
@@ -223,7 +223,7 @@ fn modes_of(m: RawModes) -> Modes
 {
     Modes {
         protect: m.protect == 1,
-        mark: m.mark == 1,
+        writeprotect: m.writeprotect == 1,
         insert: m.insert == 1,
         autoscroll: m.autoscroll == 1,
         locked: m.locked == 1,

@@ -83,7 +83,7 @@ fn mode(told: bool, on: bool, name: &[u8]) -> bool {
 pub fn modes(m: Modes) {
     out::text(b"Modes     ");
     let a = mode(false, m.protect, b"protect");
-    let b = mode(a, m.mark, b"write-protect");
+    let b = mode(a, m.writeprotect, b"write-protect");
     let c = mode(b, m.insert, b"insert");
     let d = mode(c, m.autoscroll, b"autoscroll");
     let e = mode(d, m.locked, b"keyboard locked");

@@ -6,7 +6,7 @@ use denote.Ref.{now}
 use lib.ListN.{length}
 use borrow.Author.Tests.{not-true, not-false}
 use Rattle.rules.specs.Search.{guardedAt}
-use Rattle.rules.proofs.Marks.{length-guards, edit-range}
+use Rattle.rules.proofs.Searching.{length-guards, edit-range}
 use Rattle.rules.proofs.Rows.{page-small}
 use Rattle.rules.proofs.Fields.{page-of}
 use Rattle.fields.proofs.Reading.{read-as, no-page-text, past-page, no-start, a-start}

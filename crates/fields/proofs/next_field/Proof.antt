@@ -5,7 +5,7 @@ use native.Mathlib.Omega.{arith}
 use denote.Ref.{now}
 use lib.ListN.{length}
 use Rattle.rules.specs.Search.{guardedAt}
-use Rattle.rules.proofs.Marks.{length-guards, edit-range}
+use Rattle.rules.proofs.Searching.{length-guards, edit-range}
 use Rattle.rules.proofs.Rows.{page-small}
 use Rattle.rules.proofs.Fields.{page-of}
 use Rattle.fields.proofs.Reading.{no-page-field, no-field, a-field, made}

@@ -6,7 +6,7 @@ use denote.Ref.{now}
 use lib.ListN.{length}
 use Rattle.rules.specs.Search.{firstIn}
 use Rattle.rules.specs.Fields.{fieldStarts, nextStart}
-use Rattle.rules.proofs.Marks.{hit, miss}
+use Rattle.rules.proofs.Searching.{hit, miss}
 use Rattle.rules.proofs.Fields.{length-starts, first-past}
 use borrow.Author.Needs.{needs}
 use Rattle.fields.proofs.next_start.Statement.{statement}

@@ -2,7 +2,7 @@
 use mathlib.Core.Path.{sym, _∙_}
 use native.Mathlib.Omega.{arith}
 use denote.Ref.{now}
-use Rattle.rules.proofs.Fields.{marked-start, row-start, inner-cell, inner-start}
+use Rattle.rules.proofs.Fields.{protected-start, row-start, inner-cell, inner-start}
 use borrow.Author.Needs.{needs}
 use Rattle.fields.proofs.starts_field.Statement.{statement}
 use Rattle.fields.proofs.starts_field.Tie as tie
@@ -14,7 +14,7 @@ starts-field-spec =
     -- is-guarded-at-requires
     (λ c κs. search needs)
     -- returns
-    (λ c. sym (marked-start (c .before .before .before .pre .0) (now (c .before .before .before .args .page)) (c .before .before .before .args .at) (c .before .before .before .pre .1) (sym (c .before .is-guarded-at .ensures) ∙ c .if1 .taken)))
+    (λ c. sym (protected-start (c .before .before .before .pre .0) (now (c .before .before .before .args .page)) (c .before .before .before .args .at) (c .before .before .before .pre .1) (sym (c .before .is-guarded-at .ensures) ∙ c .if1 .taken)))
     -- column-of-requires
     (λ c κs. search needs)
     -- returns-2

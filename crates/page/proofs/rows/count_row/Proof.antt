@@ -20,7 +20,7 @@ inside s =
     let h : suc (x .row) * x .width ≤ 24 * x .width = mul-le-mul-right (x .width) (s .pre .1 .1 .1) in
     omega (arith, h, suc-mul (x .row) (x .width), s .pre .1 .0, page-small (s .pre .0))
 
--- the marks of the part that is lent
+-- the guards of the part that is lent
 part : (s : tie.Start)
     → let x = s .args in let a = x .row * x .width in
     guardedAt (x .protect) (take (a + x .width - a) (drop a (now (x .page)))) ≡ rowAt (x .width) (guardedAt (x .protect) (now (x .page))) (x .row)

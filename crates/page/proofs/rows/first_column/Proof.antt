@@ -6,20 +6,20 @@ use borrow.Author.Needs.{needs}
 use denote.Ref.{now}
 use lib.ListN.{length}
 use Rattle.rules.specs.Search.{guardedAt, others}
-use Rattle.rules.proofs.Marks.{length-guards, length-others, first-range}
+use Rattle.rules.proofs.Searching.{length-guards, length-others, first-range}
 use Rattle.page.proofs.RowSearch.{column-none, column-some}
 use Rattle.page.proofs.rows.first_column.Statement.{statement}
 use Rattle.page.proofs.rows.first_column.Tie as tie
 
-abbrev start : tie.After-first-marked → tie.Start
+abbrev start : tie.After-first-sought → tie.Start
 start c = c .before .before .before
 
-range : (c : tie.After-first-marked) → c .first-marked .result ≤ length (now (start c .args .part))
+range : (c : tie.After-first-sought) → c .first-sought .result ≤ length (now (start c .args .part))
 range c =
     let x = start c .args in
     let g = guardedAt (x .protect) (now (x .part)) in
     let n = length-others g ∙ length-guards (x .protect) (now (x .part)) in
-    omega (arith, c .first-marked .ensures, first-range (others g) 0 (length (now (x .part))) (omega arith) (omega arith))
+    omega (arith, c .first-sought .ensures, first-range (others g) 0 (length (now (x .part))) (omega arith) (omega arith))
 
 pub first-column-spec : {M : Type 1} → statement M
 first-column-spec =
@@ -27,7 +27,7 @@ first-column-spec =
     (tie.spec
     -- returns
     (λ c. let s = c .before .before in column-none _ (sym (s .pre .1) ∙ c .if1 .taken))
-    -- first-marked-requires
+    -- first-sought-requires
     (λ c κs. search needs)
     -- cast-result
     (λ c. omega (arith, range c, start c .pre .0))
@@ -37,4 +37,4 @@ first-column-spec =
     (λ c.
     let x = start c .args in
     column-some (guardedAt (x .protect) (now (x .part))) _ (length-guards (x .protect) (now (x .part)))
-    (λ e. c .before .if1 .left (start c .pre .1 ∙ e)) (c .first-marked .ensures)))
+    (λ e. c .before .if1 .left (start c .pre .1 ∙ e)) (c .first-sought .ensures)))

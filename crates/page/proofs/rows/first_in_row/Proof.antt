@@ -7,7 +7,7 @@ use denote.Ref.{now}
 use lib.ListN.{length, getD}
 use Rattle.rules.specs.Row.{rowEnd}
 use Rattle.rules.specs.Search.{guardedAt, others, firstIn}
-use Rattle.rules.proofs.Marks.{length-guards}
+use Rattle.rules.proofs.Searching.{length-guards}
 use Rattle.rules.proofs.RowSteps.{length-list}
 use Rattle.page.proofs.RowSearch.{Span, row-span, row-inside, row-skipped, row-known}
 use Rattle.page.proofs.rows.first_in_row.Statement.{statement}
@@ -84,11 +84,11 @@ first-in-row-spec =
     (λ c. omega (arith, known c))
     -- returns-2
     (λ c. known (c .before) .1 .1 (c .if2 .taken))
-    -- first-marked-requires
+    -- first-sought-requires
     (λ c κs.
     let r = row (c .before) in
     let s = start r in
     let p = span s in
     omega (arith, r .before .row-end .ensures, p, s .pre .1 .0))
     -- returns-3
-    (λ c. c .first-marked .ensures ∙ rw (row (c .before .before) .before .row-end .ensures)))
+    (λ c. c .first-sought .ensures ∙ rw (row (c .before .before) .before .row-end .ensures)))

@@ -8,7 +8,7 @@ use denote.Ref.{now}
 use lib.ListN.{length, getD}
 use Rattle.rules.specs.Search.{guardedAt}
 use Rattle.rules.specs.Row.{rowEnd}
-use Rattle.rules.proofs.Marks.{length-guards}
+use Rattle.rules.proofs.Searching.{length-guards}
 use Rattle.rules.proofs.Rows.{page-small, rows-small}
 use Rattle.rules.proofs.RowSteps.{length-list}
 use Rattle.page.specs.RowList.{FirstRow}
@@ -16,20 +16,20 @@ use Rattle.page.proofs.RowSearch.{cell-inside, row-below, row-found, ro
 use Rattle.page.proofs.rows.first_open.Statement.{statement}
 use Rattle.page.proofs.rows.first_open.Tie as tie
 
-abbrev marks : tie.Start → mathlib.Core.List.List mathlib.Core.Bool.Bool
-marks s = guardedAt (s .args .protect) (now (s .args .page))
+abbrev guards : tie.Start → mathlib.Core.List.List mathlib.Core.Bool.Bool
+guards s = guardedAt (s .args .protect) (now (s .args .page))
 
-long : (s : tie.Start) → length (marks s) ≡ 24 * s .args .width
+long : (s : tie.Start) → length (guards s) ≡ 24 * s .args .width
 long s = length-guards (s .args .protect) (now (s .args .page)) ∙ s .pre .1 .0
 
 rows : (s : tie.Start) → length (now (s .args .rows)) ≡ 48
-rows s = ap length (s .pre .1 .1 .0) ∙ length-list (s .args .width) (marks s)
+rows s = ap length (s .pre .1 .1 .0) ∙ length-list (s .args .width) (guards s)
 
 inside : (s : tie.Start) → s .args .from < 24 * s .args .width
-inside s = cell-inside (s .pre .0) (marks s) (long s) (s .pre .1 .1 .0) (s .args .bottom) (s .pre .1 .1 .1 .1) (s .args .from) (s .pre .1 .1 .1 .0)
+inside s = cell-inside (s .pre .0) (guards s) (long s) (s .pre .1 .1 .0) (s .args .bottom) (s .pre .1 .1 .1 .1) (s .args .from) (s .pre .1 .1 .1 .0)
 
 below : (s : tie.Start) → s .args .from / s .args .width + 1 ≤ s .args .bottom
-below s = row-below (s .pre .0) (marks s) (long s) (s .pre .1 .1 .0) (s .args .bottom) (s .pre .1 .1 .1 .1) (s .args .from) (s .pre .1 .1 .1 .0)
+below s = row-below (s .pre .0) (guards s) (long s) (s .pre .1 .1 .0) (s .args .bottom) (s .pre .1 .1 .1 .1) (s .args .from) (s .pre .1 .1 .1 .0)
 
 abbrev start : tie.Else1 → tie.Start
 start e = e .before .before .before .before .before
@@ -51,7 +51,7 @@ found : (r : tie.After-row-with-room) → (h : r .row-with-room .result < start 
     (1 ≤ getD l (2 * n + 1) 0) × ((getD l (2 * n + 1) 0 ≤ s .args .width) × (n * s .args .width ≤ 3168))
 found r h =
     let s = start (at r) in
-    let f = row-found (s .pre .0) (marks s) (long s) (s .pre .1 .1 .0) (s .args .bottom) (s .pre .1 .1 .1 .1) (next r) h in
+    let f = row-found (s .pre .0) (guards s) (long s) (s .pre .1 .1 .0) (s .args .bottom) (s .pre .1 .1 .1 .1) (next r) h in
     (f .0, (f .1 .0, rows-small (s .pre .0) (omega (arith, s .pre .1 .1 .1 .1))))
 
 pub first-open-spec : {M : Type 1} → statement M
@@ -65,7 +65,7 @@ first-open-spec =
     -- returns
     (λ c.
     let s = c .before .before .before .before .before in
-    here-found (s .pre .0) (marks s) (long s) (s .pre .1 .1 .0) (s .args .bottom) (s .pre .1 .1 .1 .1) (s .args .from) (s .pre .1 .1 .1 .0)
+    here-found (s .pre .0) (guards s) (long s) (s .pre .1 .1 .0) (s .args .bottom) (s .pre .1 .1 .1 .1) (s .args .from) (s .pre .1 .1 .1 .0)
     (c .before .before .first-in-row .ensures) (omega (arith, c .if1 .taken, c .before .row-end .ensures)))
     -- row-of-requires
     (λ c κs. start c .pre .0)
@@ -96,14 +96,14 @@ first-open-spec =
     let r = c .before .before in
     let s = start (at r) in
     let e = at r in
-    row-found (s .pre .0) (marks s) (long s) (s .pre .1 .1 .0) (s .args .bottom) (s .pre .1 .1 .1 .1) (next r) (c .before .if2 .taken) .1 .1
-    ∙ here-none (s .pre .0) (marks s) (long s) (s .pre .1 .1 .0) (s .args .bottom) (s .pre .1 .1 .1 .1) (s .args .from) (s .pre .1 .1 .1 .0)
+    row-found (s .pre .0) (guards s) (long s) (s .pre .1 .1 .0) (s .args .bottom) (s .pre .1 .1 .1 .1) (next r) (c .before .if2 .taken) .1 .1
+    ∙ here-none (s .pre .0) (guards s) (long s) (s .pre .1 .1 .0) (s .args .bottom) (s .pre .1 .1 .1 .1) (s .args .from) (s .pre .1 .1 .1 .0)
     (e .before .before .first-in-row .ensures) (omega (arith, e .if1 .left, e .before .row-end .ensures)))
     -- returns-3
     (λ c.
     let r = c .before in
     let s = start (at r) in
     let e = at r in
-    row-missing (s .pre .0) (marks s) (long s) (s .pre .1 .1 .0) (s .args .bottom) (s .pre .1 .1 .1 .1) (next r) (c .if2 .left)
-    ∙ here-none (s .pre .0) (marks s) (long s) (s .pre .1 .1 .0) (s .args .bottom) (s .pre .1 .1 .1 .1) (s .args .from) (s .pre .1 .1 .1 .0)
+    row-missing (s .pre .0) (guards s) (long s) (s .pre .1 .1 .0) (s .args .bottom) (s .pre .1 .1 .1 .1) (next r) (c .if2 .left)
+    ∙ here-none (s .pre .0) (guards s) (long s) (s .pre .1 .1 .0) (s .args .bottom) (s .pre .1 .1 .1 .1) (s .args .from) (s .pre .1 .1 .1 .0)
     (e .before .before .first-in-row .ensures) (omega (arith, e .if1 .left, e .before .row-end .ensures))))

@@ -1,12 +1,12 @@
 -- `page::rows::open_cell` meets its contract.
 use mathlib.Core.Path.{sym, _∙_}
 use borrow.Author.Needs.{needs}
-use Rattle.rules.specs.Search.{marksBy}
+use Rattle.rules.specs.Search.{whichCells}
 use Rattle.page.proofs.rows.open_cell.Statement.{statement}
 use Rattle.page.proofs.rows.open_cell.Tie as tie
 
 pub open-cell-spec : {M : Type 1} → statement M
-unfolding marksBy
+unfolding whichCells
 open-cell-spec =
     tie.close
     (tie.spec

@@ -8,7 +8,7 @@ use denote.Ref.{now}
 use lib.ListN.{length, getD, drop}
 use Rattle.rules.specs.Search.{guardedAt}
 use Rattle.rules.specs.RowList.{openCount}
-use Rattle.rules.proofs.Marks.{length-guards}
+use Rattle.rules.proofs.Searching.{length-guards}
 use Rattle.page.proofs.RowList.{count-step, count-none, count-most}
 use Rattle.page.proofs.rows.open_count.Statement.{statement}
 use Rattle.page.proofs.rows.open_count.Tie as tie

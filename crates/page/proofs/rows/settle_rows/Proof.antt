@@ -8,7 +8,7 @@ use borrow.Author.Needs.{needs}
 use denote.Ref.{now}
 use lib.ListN.{length}
 use Rattle.rules.specs.Search.{guardedAt, others, firstIn}
-use Rattle.rules.proofs.Marks.{around-here, around-wrapped, around-none}
+use Rattle.rules.proofs.Searching.{around-here, around-wrapped, around-none}
 use Rattle.page.proofs.RowSearch.{segment-rows}
 use Rattle.page.proofs.rows.settle_rows.Statement.{statement}
 use Rattle.page.proofs.rows.settle_rows.Tie as tie
@@ -16,15 +16,15 @@ use Rattle.page.proofs.rows.settle_rows.Tie as tie
 abbrev start : tie.After-row-of → tie.Start
 start r = r .before .before .before
 
-abbrev marks : tie.After-row-of → List Bool
-marks r = guardedAt (start r .args .protect) (now (start r .args .page))
+abbrev guards : tie.After-row-of → List Bool
+guards r = guardedAt (start r .args .protect) (now (start r .args .page))
 
 -- a search up to the end, by its row
 found : (r : tie.After-row-of) (from : ℕ) {n : ℕ}
-    → let x = start r .args in n ≡ firstIn (others (marks r)) from (r .row-of .result * x .width) → n ≡ firstIn (others (marks r)) from (x .end)
+    → let x = start r .args in n ≡ firstIn (others (guards r)) from (r .row-of .result * x .width) → n ≡ firstIn (others (guards r)) from (x .end)
 found r from h =
     let s = start r in
-    let m = others (marks r) in
+    let m = others (guards r) in
     h ∙ ap (λ (k : ℕ). firstIn m from (k * s .args .width)) (r .row-of .ensures) ∙ ap (firstIn m from) (s .pre .1 .1 .1 .1 .1 .1)
 
 -- what the search asks, from a cell before the end
@@ -49,7 +49,7 @@ settle-rows-spec =
     (λ c.
     let r = c .before .before in
     let x = start r .args in
-    around-here (others (marks r)) (x .first) (x .end) (x .from) (found r (x .from) (c .before .first-open .ensures)) (c .if1 .taken))
+    around-here (others (guards r)) (x .first) (x .end) (x .from) (found r (x .from) (c .before .first-open .ensures)) (c .if1 .taken))
     -- first-open-requires-2
     (λ c κs.
     let r = c .before .before in
@@ -60,12 +60,12 @@ settle-rows-spec =
     let n = c .before .before in
     let r = n .before .before in
     let x = start r .args in
-    around-wrapped (others (marks r)) (x .first) (x .end) (x .from) (found r (x .from) (n .before .first-open .ensures)) (n .if1 .left)
+    around-wrapped (others (guards r)) (x .first) (x .end) (x .from) (found r (x .from) (n .before .first-open .ensures)) (n .if1 .left)
     (found r (x .first) (c .before .first-open2 .ensures)) (c .if2 .taken))
     -- returns-3
     (λ c.
     let n = c .before .before in
     let r = n .before .before in
     let x = start r .args in
-    around-none (others (marks r)) (x .first) (x .end) (x .from) (found r (x .from) (n .before .first-open .ensures)) (n .if1 .left)
+    around-none (others (guards r)) (x .first) (x .end) (x .from) (found r (x .from) (n .before .first-open .ensures)) (n .if1 .left)
     (found r (x .first) (c .before .first-open2 .ensures)) (c .if2 .left)))

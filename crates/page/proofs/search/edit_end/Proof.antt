@@ -11,10 +11,10 @@ edit-end-spec =
     (tie.spec
     -- row-end-requires
     (λ c κs. search needs)
-    -- first-marked-requires
+    -- first-sought-requires
     (λ c κs.
     let x = c .before .before .args in
     let k = c .before .before .pre in
     omega (arith, row-after (k .0) (x .at), row-inside (k .0) (x .at) (k .1 .1)))
     -- returns
-    (λ c. rw (← c .before .row-end .ensures) (c .first-marked .ensures)))
+    (λ c. rw (← c .before .row-end .ensures) (c .first-sought .ensures)))

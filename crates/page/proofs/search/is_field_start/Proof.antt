@@ -4,7 +4,7 @@ use native.Mathlib.Omega.{arith}
 use borrow.Author.Needs.{needs}
 use denote.Ref.{now}
 use Rattle.rules.specs.Search.{guardedAt}
-use Rattle.rules.proofs.Marks.{start-at, length-guards}
+use Rattle.rules.proofs.Searching.{start-at, length-guards}
 use Rattle.page.proofs.search.is_field_start.Statement.{statement}
 use Rattle.page.proofs.search.is_field_start.Tie as tie
 

@@ -2,7 +2,7 @@
 use mathlib.Core.Path.{sym, _∙_}
 use borrow.Author.Needs.{needs}
 use denote.Ref.{now}
-use Rattle.rules.proofs.Marks.{guard-at}
+use Rattle.rules.proofs.Searching.{guard-at}
 use Rattle.page.proofs.search.is_guarded_at.Statement.{statement}
 use Rattle.page.proofs.search.is_guarded_at.Tie as tie
 

@@ -6,7 +6,7 @@ use borrow.Author.Needs.{needs}
 use borrow.Author.Tests.{not-false}
 use denote.Ref.{now}
 use Rattle.rules.specs.Search.{guardedAt, others, firstIn}
-use Rattle.rules.proofs.Marks.{length-guards, length-others}
+use Rattle.rules.proofs.Searching.{length-guards, length-others}
 use Rattle.page.proofs.OpenSearch.{past, none-open}
 use Rattle.page.proofs.search.near_open.Statement.{statement}
 use Rattle.page.proofs.search.near_open.Tie as tie

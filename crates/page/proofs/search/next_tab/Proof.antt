@@ -5,7 +5,7 @@ use native.Mathlib.Omega.{arith}
 use borrow.Author.Needs.{needs}
 use borrow.Author.Tests.{lt-ltb, le-ltb}
 use Rattle.rules.specs.Search.{firstIn}
-use Rattle.rules.proofs.Marks.{hit, miss, first-none}
+use Rattle.rules.proofs.Searching.{hit, miss, first-none}
 use Rattle.page.proofs.search.next_tab.Statement.{statement}
 use Rattle.page.proofs.search.next_tab.Tie as tie
 

@@ -4,7 +4,7 @@ use Prim.Native.Nat.{_≤_}
 use native.Mathlib.Omega.{arith}
 use borrow.Author.Needs.{needs}
 use Rattle.rules.specs.Search.{lastIn}
-use Rattle.rules.proofs.Marks.{hit-last, miss-last, last-none}
+use Rattle.rules.proofs.Searching.{hit-last, miss-last, last-none}
 use Rattle.page.proofs.search.previous_tab.Statement.{statement}
 use Rattle.page.proofs.search.previous_tab.Tie as tie
 

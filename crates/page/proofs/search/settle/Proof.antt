@@ -14,12 +14,12 @@ settle-spec =
     (tie.spec
     -- near-open-requires
     (λ c κs. search needs)
-    -- marked-around-requires
+    -- sought-around-requires
     (λ c κs. search needs)
     -- returns
     (λ c.
     let x = c .before .before .before .before .args in
-    c .marked-around .ensures ∙ around-from (others (guardedAt (x .protect) (now (x .page)))) (x .first) (x .end) (x .from) _ (c .before .near-open .ensures .1))
+    c .sought-around .ensures ∙ around-from (others (guardedAt (x .protect) (now (x .page)))) (x .first) (x .end) (x .from) _ (c .before .near-open .ensures .1))
     -- returns-2
     (λ c.
     let x = c .before .before .before .args in

@@ -4,20 +4,20 @@ use Prim.Native.Nat.{_+_, _≤_, _<_}
 use native.Mathlib.Omega.{arith}
 use borrow.Author.Needs.{needs}
 use Rattle.rules.specs.Plan.{windowPlan}
-use Rattle.rules.proofs.Tests.{among-parts}
+use Rattle.rules.proofs.Tests.{between-parts}
 use Rattle.plan.proofs.windows.split.Statement.{statement}
 use Rattle.plan.proofs.windows.split.Tie as tie
 
 -- in the branch taken the row is one to split at
-row-there : (c : tie.Then1) → (0x21 ≤ c .before .before .args .r) × (c .before .before .args .r < 0x21 + 23)
-row-there c = among-parts 0x21 23 (c .before .before .args .r) (sym (c .before .among .ensures) ∙ c .if1 .taken)
+row-there : (c : tie.Then1) → (0x21 ≤ c .before .before .args .r) × (c .before .before .args .r < 0x37 + 1)
+row-there c = between-parts 0x21 0x37 (c .before .before .args .r) (sym (c .before .between .ensures) ∙ c .if1 .taken)
 
 pub split-spec : {M : Type 1} → statement M
 unfolding windowPlan
 split-spec =
     tie.close
     (tie.spec
-    -- among-requires
+    -- between-requires
     (λ c κs. search needs)
     -- sub-split-screen
     (λ c. omega (arith, row-there c))
@@ -33,10 +33,10 @@ split-spec =
     ∙ rw (
       c .before .with-screen .ensures,
       c .before .before .split-screen .ensures,
-      ← c .before .before .before .before .among .ensures,
+      ← c .before .before .before .before .between .ensures,
       c .before .before .before .if1 .taken,
     ))
     -- refusing-requires
     (λ c κs. search needs)
     -- returns-2
-    (λ c. c .refusing .ensures ∙ rw (← c .before .before .among .ensures, c .before .if1 .left)))
+    (λ c. c .refusing .ensures ∙ rw (← c .before .before .between .ensures, c .before .if1 .left)))

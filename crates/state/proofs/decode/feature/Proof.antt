@@ -11,10 +11,10 @@ unfolding featureRule
 feature-spec =
     tie.close
     (tie.spec
-    -- among-requires
+    -- between-requires
     (λ c κs. omega arith)
     -- returns
-    (λ c. rw (sym (c .before .among .ensures) ∙ c .if1 .taken))
+    (λ c. rw (sym (c .before .between .ensures) ∙ c .if1 .taken))
     -- feature-place-requires
     (λ c κs. search needs)
     -- judged-requires
@@ -22,5 +22,5 @@ feature-spec =
     -- returns-2
     (λ c. c .judged .ensures ∙ rw (
       c .before .feature-place .ensures,
-      sym (c .before .before .before .among .ensures) ∙ c .before .before .if1 .left,
+      sym (c .before .before .before .between .ensures) ∙ c .before .before .if1 .left,
     )))

@@ -13,7 +13,7 @@ field-spec =
     (tie.spec
     -- returns
     (λ c. rw (lt-leb 0x30 (c .before .args .n) (c .if1 .taken)))
-    -- among-requires
+    -- between-requires
     (λ c κs. search needs)
     -- is-attribute-requires
     (λ c κs. search needs)
@@ -24,6 +24,6 @@ field-spec =
     -- returns-2
     (λ c. c .judged .ensures ∙ rw (
       c .before .and .ensures,
-      c .before .before .before .among .ensures,
+      c .before .before .before .between .ensures,
       c .before .before .is-attribute .ensures,
     )))

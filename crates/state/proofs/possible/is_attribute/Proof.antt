@@ -10,13 +10,13 @@ unfolding isAttribute
 is-attribute-spec =
     tie.close
     (tie.spec
-    -- among-requires
+    -- between-requires
     (λ c κs. search needs)
-    -- among-requires-2
+    -- between-requires-2
     (λ c κs. search needs)
     -- or-requires
     (λ c κs. search needs)
     -- or-requires-2
     (λ c κs. search needs)
     -- returns
-    (λ c. c .or2 .ensures ∙ rw (c .before .or .ensures, c .before .before .among2 .ensures, c .before .before .before .among .ensures)))
+    (λ c. c .or2 .ensures ∙ rw (c .before .or .ensures, c .before .before .between2 .ensures, c .before .before .before .between .ensures)))

@@ -10,11 +10,11 @@ unfolding isKey
 is-key-spec =
     tie.close
     (tie.spec
-    -- among-requires
+    -- between-requires
     (λ c κs. search needs)
-    -- among-requires-2
+    -- between-requires-2
     (λ c κs. search needs)
     -- or-requires
     (λ c κs. search needs)
     -- returns
-    (λ c. c .or .ensures ∙ rw (c .before .among2 .ensures, c .before .before .among .ensures)))
+    (λ c. c .or .ensures ∙ rw (c .before .between2 .ensures, c .before .before .between .ensures)))

@@ -18,7 +18,7 @@ use Rattle.rules.proofs.Sends.{not-sending}
 use Rattle.rules.proofs.Noninterference.{either-left, either-right}
 use Rattle.rules.specs.Search.{guardedAt}
 use Rattle.rules.specs.RowList.{Beside}
-use Rattle.terminal.specs.Promise.{Completed}
+use Rattle.terminal.specs.Promise.{RunDone}
 use Rattle.terminal.specs.Loop.{callTo}
 use Rattle.terminal.proofs.Calls.{run-none, run-sent, run-on, went-fits, went-long, has-room, send-ready, good-quiet}
 use Rattle.terminal.proofs.Loop.{Running, runBehind, ran-is, begin, stops, go, halt, finish, ready, room-size, back-size, more-replied, more-refused, nothing-made, event-ends, event-answer, no-event, stop-beside, go-beside, ended-beside}
@@ -88,8 +88,8 @@ whole r =
 
 on : (e : tie.Else2 Inv-loop μ-loop) {z : RunResult} {p w : List ℕ}
     → let r = sent (e .before) in let x = asked r .args in
-    Completed (whole r) z (now (x .input)) p (room r) w
-    → Completed (callTo (x .stop) (now (x .page)) (x .state) (now (x .input)) (length (now (x .reply)))) z (now (x .input)) p (now (x .reply)) w
+    RunDone (whole r) z (now (x .input)) p (room r) w
+    → RunDone (callTo (x .stop) (now (x .page)) (x .state) (now (x .input)) (length (now (x .reply)))) z (now (x .input)) p (now (x .reply)) w
 on e k =
     let r = sent (e .before) in
     let s = asked r in

@@ -1,0 +1,22 @@
+-- Worked cases, and the bench list: bytes, and what they come to by the rules.
+pub mod Bench
+pub mod Inputs
+pub mod Trials
+pub mod MovingCases
+pub mod WritingCases
+pub mod ReplyCases
+pub mod CallCases
+pub mod SendCases
+pub mod NarrowCases
+pub mod NextCases
+pub mod RowCases
+pub mod ByteCases
+pub mod PossibleCases
+pub mod LabelCases
+pub mod PersonalityCases
+pub mod FieldCases
+pub mod Cases
+pub mod Wide
+pub mod ConvertCases
+pub mod FrameCases
+pub mod WritableCases

@@ -1,0 +1,25 @@
+-- What is proved of the rules: the statements.
+pub mod Noninterference
+pub mod Completed
+pub mod Labels
+pub mod Good
+pub mod Kept
+pub mod Steps
+pub mod Bound
+pub mod Narrow
+pub mod Left
+pub mod Press
+pub mod Reach
+pub mod SendReach
+pub mod KeyStore
+pub mod ShiftedLine
+pub mod Areas
+pub mod Parts
+pub mod Frames
+pub mod CellReach
+pub mod Personalities
+pub mod Uses
+pub mod RowNoninterference
+pub mod RowSteps
+pub mod NextTells
+pub mod Conversion
