@@ -1,7 +1,8 @@
 -- The uses hold, each by the statement it is of.
---     one-alike     the two pages are alike
+--     one-alike        the two pages are alike
+--     letters-kept     what is said of the pages after calls, read out
 -- Assumes nothing.
-use mathlib.Core.Path.{_≡_, refl, sym}
+use mathlib.Core.Path.{_≡_, refl, sym, ap}
 use mathlib.Core.Bool.{Bool, true, false, false≢true}
 use mathlib.Core.List.{List, [], _∷_}
 use Prim.Native.Nat.{ℕ, zero, suc, _<_}
@@ -13,13 +14,14 @@ use Rattle.rules.specs.declared.Personality.the-variants as Personality
 use Rattle.rules.specs.declared.Sending.{Sending}
 use Rattle.rules.specs.declared.Sending.the-variants as Sending
 use Rattle.rules.specs.Cell.{protected}
-use Rattle.rules.specs.theorems.Noninterference.{AlikePages, revealing}
+use Rattle.rules.specs.theorems.Noninterference.{AlikePages, KeptPages, revealing}
 use Rattle.rules.specs.RowList.{agrees}
 use Rattle.rules.specs.RowCalls.{ListStep}
 use Rattle.rules.proofs.RowSteps.{disagreeing}
 use Rattle.saved.specs.Cases.{zeros}
-use Rattle.session.specs.Sessions.{Terminal, start, sessionCompleted}
-use Rattle.session.specs.Uses.{one, other, guarding, At, Uses}
+use Rattle.session.specs.Sessions.{Terminal, start, SessionPlayed, sessionCompleted, SessionIndistinguishable}
+use Rattle.session.specs.Sessions.{StreamPlayed, StreamIndistinguishable}
+use Rattle.session.specs.Uses.{one, other, guarding, LettersKept, Same, At, Uses}
 use Rattle.session.proofs.Sessions.{session-noninterference}
 use Rattle.session.proofs.Streams.{stream-noninterference}
 use Rattle.session.proofs.Completed.{unless-completed, none-completed}
@@ -36,6 +38,26 @@ one-alike n = record { size = refl; bits = bits; cells = cells }
     cells zero h e = absurd (false≢true (sym e))
     cells (suc i) h e = refl
 
+-- the statements read out
+zero-at : (n i : ℕ) → getD {A = ℕ} (replicate n 0) i 0 ≡ 0
+zero-at zero i = refl
+zero-at (suc n) zero = refl
+zero-at (suc n) (suc i) = zero-at n i
+
+pub letters-kept : (n : ℕ) {a b : List ℕ} → KeptPages (one n) (other n) a b → LettersKept a b
+letters-kept n k = record {
+  size = k .size;
+  first = k .first 0 refl;
+  second = k .second 0 refl;
+  cells = λ i. k .open-cells (suc i) (ap protected (zero-at n i));
+}
+
+same : (n : ℕ) {a b : SessionPlayed} → SessionIndistinguishable (one n) (other n) a b → Same a b
+same n x = record { given = x .given; state = x .state; rows = x .rows; store = x .store; pages = letters-kept n (x .pages) }
+
+same-stream : (n : ℕ) {a b : StreamPlayed} → StreamIndistinguishable (one n) (other n) a b → Same (a .session) (b .session) × (a .left ≡ b .left)
+same-stream n x = (same n (x .session), x .left)
+
 -- no calls complete nothing
 none-yet : (n : ℕ) (l store : List ℕ) (s : State) → sessionCompleted [] (start (one n) l s store) ≡ false
 unfolding sessionCompleted
@@ -47,12 +69,13 @@ at n l store m wide cursor sending conceals =
     let s = guarding m wide cursor sending in
     let h = one-alike n in
     record {
-      none = session-noninterference (one n) (other n) l store s [] refl conceals h (none-yet n l store s);
-      calls = λ cs. session-noninterference (one n) (other n) l store s cs refl conceals h;
-      uncompleted = λ cs. unless-completed (one n) (other n) l store s cs refl conceals h;
-      stream = λ bytes acts. stream-noninterference (one n) (other n) l store bytes s acts refl conceals h;
-      code-calls = λ cs a b. code-session-noninterference (one n) (other n) l store s cs a b refl conceals h;
-      code-stream = λ bytes acts a b. code-stream-noninterference (one n) (other n) l store bytes s acts a b refl conceals h;
+      none = same n (session-noninterference (one n) (other n) l store s [] refl conceals h (none-yet n l store s));
+      calls = λ cs k. same n (session-noninterference (one n) (other n) l store s cs refl conceals h k);
+      uncompleted = λ cs k. same n (unless-completed (one n) (other n) l store s cs refl conceals h k);
+      stream = λ bytes acts k. same-stream n (stream-noninterference (one n) (other n) l store bytes s acts refl conceals h k);
+      code-calls = λ cs a b k f g. same n (code-session-noninterference (one n) (other n) l store s cs a b refl conceals h k f g);
+      code-stream = λ bytes acts a b k f g.
+          same-stream n (code-stream-noninterference (one n) (other n) l store bytes s acts a b refl conceals h k f g);
     }
 
 -- a list that is too short

@@ -2,8 +2,8 @@
 use mathlib.Core.Path.{_≡_}
 use mathlib.Core.Bool.{Bool, true, false}
 use mathlib.Core.List.{List, [], _∷_}
-use Prim.Native.Nat.{ℕ}
-use lib.ListN.{replicate}
+use Prim.Native.Nat.{ℕ, suc}
+use lib.ListN.{length, getD, replicate}
 use Rattle.rules.specs.declared.State.{State}
 use Rattle.rules.specs.declared.Personality.{Personality}
 use Rattle.rules.specs.declared.Personality.the-variants as Personality
@@ -15,8 +15,8 @@ use Rattle.rules.specs.Possible.{powerOn}
 use Rattle.rules.specs.RowCalls.{ListStep}
 use Rattle.rules.specs.cases.RowCases.{openRows}
 use Rattle.saved.specs.Cases.{zeros}
-use Rattle.session.specs.Sessions.{SessionCall, Terminal, Kept, start, SessionPlayed, sessionPlay, sessionCompleted, SessionIndistinguishable}
-use Rattle.session.specs.Sessions.{Act, StreamPlayed, streamPlay, callsOf, StreamIndistinguishable}
+use Rattle.session.specs.Sessions.{SessionCall, Terminal, start, SessionPlayed, sessionPlay, sessionCompleted}
+use Rattle.session.specs.Sessions.{Act, StreamPlayed, streamPlay, callsOf}
 use Rattle.session.specs.Completed.{Completed}
 use Rattle.session.specs.CodeSessions.{SessionPerformed, StreamPerformed}
 
@@ -37,23 +37,38 @@ guarding m wide cursor sending = record {
   setup = powerOn m .setup;
 }
 
+-- what the statements say, read out: the letters are as they were, the other cells are the same in both pages
+pub record LettersKept (a b : List ℕ) : Type 0 where
+  pub size : length a ≡ length b
+  pub first : getD a 0 0 ≡ 0xc1
+  pub second : getD b 0 0 ≡ 0xc2
+  pub cells : (i : ℕ) → getD a (suc i) 0 ≡ getD b (suc i) 0
+
+-- and all that is given back and kept is the same
+pub record Same (a b : SessionPlayed) : Type 0 where
+  pub given : a .given ≡ b .given
+  pub state : a .kept .terminal .state ≡ b .kept .terminal .state
+  pub rows : a .kept .terminal .rows ≡ b .kept .terminal .rows
+  pub store : a .kept .store ≡ b .kept .store
+  pub pages : LettersKept (a .kept .terminal .page) (b .kept .terminal .page)
+
 -- the statements at one start, which both have but for the page
 pub record At (n : ℕ) (l : List ℕ) (s : State) (store : List ℕ) : Type 0 where
-  pub none : SessionIndistinguishable (one n) (other n) (sessionPlay [] (start (one n) l s store)) (sessionPlay [] (start (other n) l s store))
+  pub none : Same (sessionPlay [] (start (one n) l s store)) (sessionPlay [] (start (other n) l s store))
   pub calls : (cs : List SessionCall) → sessionCompleted cs (start (one n) l s store) ≡ false
-      → SessionIndistinguishable (one n) (other n) (sessionPlay cs (start (one n) l s store)) (sessionPlay cs (start (other n) l s store))
+      → Same (sessionPlay cs (start (one n) l s store)) (sessionPlay cs (start (other n) l s store))
   pub uncompleted : (cs : List SessionCall) → (Completed cs (start (one n) l s store) → ⊥)
-      → SessionIndistinguishable (one n) (other n) (sessionPlay cs (start (one n) l s store)) (sessionPlay cs (start (other n) l s store))
+      → Same (sessionPlay cs (start (one n) l s store)) (sessionPlay cs (start (other n) l s store))
   pub stream : (bytes : List ℕ) (acts : List Act) → sessionCompleted (callsOf acts bytes (start (one n) l s store)) (start (one n) l s store) ≡ false
-      → StreamIndistinguishable (one n) (other n) (streamPlay acts bytes (start (one n) l s store))
-      (streamPlay acts bytes (start (other n) l s store))
+      → let a = streamPlay acts bytes (start (one n) l s store) in
+      let b = streamPlay acts bytes (start (other n) l s store) in
+      Same (a .session) (b .session) × (a .left ≡ b .left)
   pub code-calls : (cs : List SessionCall) (a b : SessionPlayed) → sessionCompleted cs (start (one n) l s store) ≡ false
-      → SessionPerformed (start (one n) l s store) cs a → SessionPerformed (start (other n) l s store) cs b
-      → SessionIndistinguishable (one n) (other n) a b
+      → SessionPerformed (start (one n) l s store) cs a → SessionPerformed (start (other n) l s store) cs b → Same a b
   pub code-stream : (bytes : List ℕ) (acts : List Act) (a b : StreamPlayed)
       → sessionCompleted (callsOf acts bytes (start (one n) l s store)) (start (one n) l s store) ≡ false
       → StreamPerformed (start (one n) l s store) bytes acts a → StreamPerformed (start (other n) l s store) bytes acts b
-      → StreamIndistinguishable (one n) (other n) a b
+      → Same (a .session) (b .session) × (a .left ≡ b .left)
 
 pub record Uses : Type 0 where
   -- a page of each width, with its list and without one; a WY-60
@@ -71,5 +86,4 @@ pub record Uses : Type 0 where
   -- a call that is refused for its list
   pub refused : let s = guarding Personality.Wy50 false 1 Sending.Nothing in
       let cs = Terminal (ListStep 0x41 0) ∷ [] in
-      SessionIndistinguishable (one 1919) (other 1919) (sessionPlay cs (start (one 1919) (replicate 47 7) s zeros))
-      (sessionPlay cs (start (other 1919) (replicate 47 7) s zeros))
+      Same (sessionPlay cs (start (one 1919) (replicate 47 7) s zeros)) (sessionPlay cs (start (other 1919) (replicate 47 7) s zeros))
