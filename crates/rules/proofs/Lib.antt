@@ -48,4 +48,5 @@ pub mod WritableCases
 pub mod Personalities
 pub mod Fields
 pub mod FieldCases
+pub mod ListCases
 pub mod Uses

@@ -10,6 +10,7 @@ pub mod SendCases
 pub mod NarrowCases
 pub mod NextCases
 pub mod RowCases
+pub mod ListCases
 pub mod ByteCases
 pub mod PossibleCases
 pub mod LabelCases
