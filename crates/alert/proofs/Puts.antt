@@ -2,7 +2,7 @@
 --     none, and, one, full                    a text in parts
 --     within                                  where the text ends
 --     decimal-put                             a number
---     Left, begin, go, byte-on, text-done, done          a loop that puts a text: what is left to put makes of the room what the whole makes of the first
+-- Left, begin, go, byte-on, text-done, done          a loop that puts a text: what is left to put makes of the room what the whole makes of the first
 -- Assumes nothing.
 use mathlib.Core.Path.{_≡_, refl, sym, ap, subst, _∙_}
 use mathlib.Core.Bool.{Bool, true, false}

@@ -78,7 +78,8 @@ quiet-on : (m : Personality) → sends (wide m .state .sending) ≡ false
 unfolding stateOn powerOn
 quiet-on m = refl
 
-stays : (m : Personality) → (good (startOn true m .target) (startOn true m .state) ≡ true) × (columns (startOn true m .state .core .screen .wide) ≡ columns true)
+stays : (m : Personality)
+    → (good (startOn true m .target) (startOn true m .state) ≡ true) × (columns (startOn true m .state .core .screen .wide) ≡ columns true)
 unfolding startOn powerOn
 stays m = conversion .stays-good blank (powerOn m) (replicate wideCells 0) (ap (λ (r : Turned). r .answer) (done m (replicate wideCells 0) refl))
 

@@ -47,7 +47,8 @@ module _ (on : Bool) (p : List ℕ) (i : ℕ) where
   unfolding guardedCells
   more-cells h = rw (drop-cons p i 0 h, add-one) (by-test (guarded on (getD p i 0)))
     where
-      by-test : (t : Bool) → pick t (suc (guardedCells on (drop (suc i) p))) (guardedCells on (drop (suc i) p)) ≡ pick t 1 0 + guardedCells on (drop (suc i) p)
+      by-test : (t : Bool) → pick t (suc (guardedCells on (drop (suc i) p))) (guardedCells on (drop (suc i) p))
+          ≡ pick t 1 0 + guardedCells on (drop (suc i) p)
       by-test true = omega arith
       by-test false = omega arith
 

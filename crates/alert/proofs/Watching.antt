@@ -19,7 +19,8 @@ use Rattle.rules.specs.Cell.{pick}
 use Rattle.rules.specs.State.{sends}
 use Rattle.rules.specs.Step.{Outcome, stepRule}
 use Rattle.rules.specs.Calls.{runRule}
-use Rattle.alert.specs.Watch.{startOn, Took, Ended, goesOn, Watch, watch, watchedAs, stepped, resumed, finished, mostTimes, watched, watchedAll, FedBy, Fed, Came}
+use Rattle.alert.specs.Watch.{startOn, Took, Ended, goesOn, Watch, watch, watchedAs, stepped, resumed, finished, mostTimes, watched, watchedAll}
+use Rattle.alert.specs.Watch.{FedBy, Fed, Came}
 
 as-watched : (o : Outcome) (p d : List ℕ) (s : State) {p′ d′ : List ℕ} {t : State} {was is : Bool} → t ≡ o .state → p′ ≡ o .page
     → was ≡ s .core .modes .protect → is ≡ t .core .modes .protect → d′ ≡ pick (goesOn was is) p′ d → watch p′ d′ t ≡ watchedAs o (watch p d s)
@@ -114,6 +115,7 @@ fed-more {n} {m} {x} {y} e a b = record {
       ∙ sym (watched-append n x (a .bytes) (b .bytes));
 }
 
-pub came : (wide : Bool) (m : Personality) {first kept page drawn : List ℕ} {n : ℕ} {s t : State} → s ≡ startOn wide m .state → first ≡ startOn wide m .target
+pub came : (wide : Bool) (m : Personality) {first kept page drawn : List ℕ} {n : ℕ} {s t : State} → s ≡ startOn wide m .state
+    → first ≡ startOn wide m .target
     → Fed n (watch first kept s) (watch page drawn t) → Came page drawn t
 came wide m {kept = kept} {n = n} es ep f = record { wide = wide; personality = m; kept = kept; room = n; fed = rw ep at (rw es at f) }

@@ -41,7 +41,8 @@ countLine (Counted.Text u n) =
 countLine Counted.NoReturn = words "  Not counted: the reply has no final CR.\n"
 countLine Counted.BadFirst = words "  Not counted: the first piece is 0 or above the last.\n"
 countLine Counted.BadLast = words "  Not counted: the last piece is beyond those of the reply.\n"
-countLine (Counted.BadByte n) = words "  Not counted: the character at place " ++ decimalOf n ++ words " of the whole, from 0, is outside the alphabet.\n"
+countLine (Counted.BadByte n) = words "  Not counted: the character at place " ++ decimalOf n
+    ++ words " of the whole, from 0, is outside the alphabet.\n"
 
 unfoldable pub toldLine : Told → List ℕ
 toldLine (Told.Counted c) = countLine c

@@ -1,4 +1,5 @@
--- Where a stream starts, on a narrow or a wide page; the bytes of a host, one by one: the page and the state that they leave, and the page as it was when
+-- Where a stream starts, on a narrow or a wide page; the bytes of a host, one by one: the page and the state that they leave, and the page as it was
+-- when
 -- protect mode last went on.
 use Prim.Native.Nat.{ℕ, zero, suc, _<_}
 use mathlib.Core.Path.{_≡_}
@@ -91,7 +92,8 @@ pub record Fed (n : ℕ) (x y : Watch) : Type 0 where
 abbrev pub starting : Bool → Personality → List ℕ → Watch
 starting wide m drawn = watch (startOn wide m .target) drawn (startOn wide m .state)
 
--- some bytes from the start of a personality at a width leave this page and this state, and `drawn` is the page as it was when protect mode last went on
+-- some bytes from the start of a personality at a width leave this page and this state, and `drawn` is the page as it was when protect mode last went
+-- on
 pub record Came (page drawn : List ℕ) (s : State) : Type 0 where
   pub wide : Bool
   pub personality : Personality

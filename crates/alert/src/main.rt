@@ -36,7 +36,8 @@ fn unreadable(name: &[u8]) {
 
 // Prints what is told of the guarded cells.
 fn show_guarded(page: &[u16], drawn: &[u16], state: State)
-    requires { ⌜ (length (now page) ≡ pageLength (state .core .screen)) × ((length (now page) ≡ length (now drawn)) × Came (now page) (now drawn) state) ⌝ }
+    requires { ⌜ (length (now page) ≡ pageLength (state .core .screen))
+        × ((length (now page) ≡ length (now drawn)) × Came (now page) (now drawn) state) ⌝ }
 {
     let mut room = [0u8; 256];
     let width = columns(state.core.screen.wide) as usize;
@@ -54,7 +55,8 @@ fn show_message(page: &mut [u16], state: State, o: Options)
 }
 
 fn show(name: &[u8], page: &mut [u16], drawn: &[u16], p: Played, log: &[u8], o: Options)
-    requires { ⌜ (length (now page) ≡ pageLength (p .state .core .screen)) × ((length (now page) ≡ length (now drawn)) × Came (now page) (now drawn) (p .state)) ⌝ }
+    requires { ⌜ (length (now page) ≡ pageLength (p .state .core .screen))
+        × ((length (now page) ≡ length (now drawn)) × Came (now page) (now drawn) (p .state)) ⌝ }
 {
     let state = p.state;
     let core = state.core;
@@ -96,7 +98,8 @@ fn play_on(
     drawn: &mut [u16],
     o: Options,
 )
-    requires { ⌜ (length (now page) ≡ height * columnsOf wide) × ((length (now page) ≡ length (now before)) × (length (now page) ≡ length (now drawn))) ⌝ }
+    requires { ⌜ (length (now page) ≡ height * columnsOf wide)
+        × ((length (now page) ≡ length (now before)) × (length (now page) ≡ length (now drawn))) ⌝ }
 {
     let mut room = [0u8; 64];
     let mut log = io::buffer();

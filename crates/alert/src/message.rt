@@ -4,7 +4,8 @@ ghost use Prim.Native.Nat.{_≤_};
 ghost use lib.ListN.{length, take};
 ghost use Rattle.counter.specs.Pieces.{pieces};
 ghost use Rattle.alert.specs.Room.{Puts};
-ghost use Rattle.alert.specs.Message.{modeNote, isShown, pieceLine, pieceLines, countLine, toldLine, sent as sentOf, lastOf, message as messageOf};
+ghost use Rattle.alert.specs.Message.{modeNote, isShown, pieceLine, pieceLines, countLine, toldLine, sent as sentOf, lastOf};
+ghost use Rattle.alert.specs.Message.{message as messageOf};
 use crate::put;
 use counter::Counted;
 use counter::Told;
@@ -162,7 +163,8 @@ pub fn message(
     all: bool,
     last: usize,
 ) -> usize
-    ensures { λ r. ⌜ (now (page .exit) ≡ now (page .entry)) × Puts (messageOf (now (page .entry)) state first all last) 0 (now (room .entry)) r (now (room .exit)) ⌝ }
+    ensures { λ r. ⌜ (now (page .exit) ≡ now (page .entry))
+        × Puts (messageOf (now (page .entry)) state first all last) 0 (now (room .entry)) r (now (room .exit)) ⌝ }
 {
     let mut reply = [0u8; 3192];
     let a = count_alert(page, state, 1, 1, &mut reply);

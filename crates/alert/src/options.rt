@@ -13,7 +13,8 @@ const NONE: usize = 0xffff_ffff_ffff_ffff;
 
 const LIMIT: usize = 0x1000_0000_0000_0000;
 
-// A WY-60 or a WY-50, a wide page or a narrow one. The pieces wanted: from `first` on to `last`, or all. `file` is the argument that names the file, 0 where none does. `bad` is
+// A WY-60 or a WY-50, a wide page or a narrow one. The pieces wanted: from `first` on to `last`, or all. `file` is the argument that names the file,
+// 0 where none does. `bad` is
 // a command line of another form.
 pub struct Options {
     pub wy60: bool,

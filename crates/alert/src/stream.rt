@@ -192,7 +192,8 @@ fn sends(p: Played) -> bool
 
 // It goes on until it is over. Each time it sends a byte at least.
 fn finish(page: &mut [u16], p: Played, room: &mut [u8], log: &mut [u8]) -> Played
-    ensures { λ r. ⌜ ((d : List ℕ) → watch (now (page .exit)) d (r .state) ≡ finished (length (now (room .entry))) mostTimes (watch (now (page .entry)) d (p .state))) ⌝ }
+    ensures { λ r. ⌜ ((d : List ℕ)
+        → watch (now (page .exit)) d (r .state) ≡ finished (length (now (room .entry))) mostTimes (watch (now (page .entry)) d (p .state))) ⌝ }
 {
     let mut t = p;
     let mut left = LONGEST;
@@ -282,7 +283,8 @@ fn obey(
     log: &mut [u8],
 ) -> Played
     requires { ⌜ (length (now page) ≡ length (now before)) × (length (now page) ≡ length (now drawn)) ⌝ }
-    ensures { λ r. ⌜ watch (now (page .exit)) (now (drawn .exit)) (r .state) ≡ watched (length (now (room .entry))) (watch (now (page .entry)) (now (drawn .entry)) (p .state)) byte ⌝ }
+    ensures { λ r. ⌜ watch (now (page .exit)) (now (drawn .exit)) (r .state)
+        ≡ watched (length (now (room .entry))) (watch (now (page .entry)) (now (drawn .entry)) (p .state)) byte ⌝ }
 {
     let t = take(page, before, p, byte, room, log);
     remember(page, drawn, protects(p), protects(t));
@@ -299,7 +301,8 @@ fn feed(
     log: &mut [u8],
 ) -> Played
     requires { ⌜ (length (now page) ≡ length (now before)) × (length (now page) ≡ length (now drawn)) ⌝ }
-    ensures { λ r. ⌜ FedBy (now (input .entry)) (length (now (room .entry))) (watch (now (page .entry)) (now (drawn .entry)) (p .state)) (watch (now (page .exit)) (now (drawn .exit)) (r .state)) ⌝ }
+    ensures { λ r. ⌜ FedBy (now (input .entry)) (length (now (room .entry))) (watch (now (page .entry)) (now (drawn .entry)) (p .state))
+        (watch (now (page .exit)) (now (drawn .exit)) (r .state)) ⌝ }
 {
     let mut t = p;
     let mut i = 0;
@@ -331,7 +334,8 @@ fn piece(
     log: &mut [u8],
 ) -> Played
     requires { ⌜ (length (now page) ≡ length (now before)) × (length (now page) ≡ length (now drawn)) ⌝ }
-    ensures { λ r. ⌜ Fed (length (now (room .entry))) (watch (now (page .entry)) (now (drawn .entry)) (p .state)) (watch (now (page .exit)) (now (drawn .exit)) (r .state)) ⌝ }
+    ensures { λ r. ⌜ Fed (length (now (room .entry))) (watch (now (page .entry)) (now (drawn .entry)) (p .state))
+        (watch (now (page .exit)) (now (drawn .exit)) (r .state)) ⌝ }
 {
     let mut input = io::buffer();
     let got = libc::read(fd, &mut input);
@@ -353,7 +357,8 @@ fn pieces(
     log: &mut [u8],
 ) -> Played
     requires { ⌜ (length (now page) ≡ length (now before)) × (length (now page) ≡ length (now drawn)) ⌝ }
-    ensures { λ r. ⌜ Fed (length (now (room .entry))) (watch (now (page .entry)) (now (drawn .entry)) (start .state)) (watch (now (page .exit)) (now (drawn .exit)) (r .state)) ⌝ }
+    ensures { λ r. ⌜ Fed (length (now (room .entry))) (watch (now (page .entry)) (now (drawn .entry)) (start .state))
+        (watch (now (page .exit)) (now (drawn .exit)) (r .state)) ⌝ }
 {
     let mut p = start;
     let mut left = u64::MAX;
@@ -368,7 +373,8 @@ fn pieces(
     p
 }
 
-// The whole stream, from the power-on of a personality, on a wide page or a narrow one. `before` is for the comparison of pages, and `drawn` comes back
+// The whole stream, from the power-on of a personality, on a wide page or a narrow one. `before` is for the comparison of pages, and `drawn` comes
+// back
 // as the page was when protect mode last went on; the log comes back with the first bytes of the replies.
 pub fn play(
     fd: i32,
@@ -380,7 +386,8 @@ pub fn play(
     room: &mut [u8],
     log: &mut [u8],
 ) -> Played
-    requires { ⌜ (length (now page) ≡ height * columns wide) × ((length (now page) ≡ length (now before)) × (length (now page) ≡ length (now drawn))) ⌝ }
+    requires { ⌜ (length (now page) ≡ height * columns wide)
+        × ((length (now page) ≡ length (now before)) × (length (now page) ≡ length (now drawn))) ⌝ }
     ensures { λ r. ⌜ Came (now (page .exit)) (now (drawn .exit)) (r .state) ⌝ }
 {
     let state = start(page, wide, personality);

@@ -83,7 +83,8 @@ module _ (p : List ℕ) (c : Core) (x : Plan) (w : List ℕ) where
     carried-beside k b =
         rw (← wide, h) (beside-is m (ap₂ (λ (o : Modes) (q : List ℕ). guardedAt (o .protect) q) (sym (landed-modes _ (x .land) (x .next))) k) b)
 
-    pub carried-out : {p₁ p₂ : List ℕ} {c′ : Core} → p₁ ≡ applied m (c .modes .protect) (x .first) p → p₂ ≡ applied m (c .modes .protect) (x .second) p₁
+    pub carried-out : {p₁ p₂ : List ℕ} {c′ : Core} → p₁ ≡ applied m (c .modes .protect) (x .first) p
+        → p₂ ≡ applied m (c .modes .protect) (x .second) p₁
         → c′ ≡ landed (guardedAt (x .next .modes .protect) p₂) (x .land) (x .next)
         → Carried (carried p c x (length w)) (record { answer = x .answer; replied = 0; core = c′; change = Change.Set (x .change) }) p₂ w w
     unfolding carried done over

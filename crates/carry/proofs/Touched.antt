@@ -119,10 +119,12 @@ module _ {w : ℕ} (width : Width w) (x : Write) (good : GoodWrite w x) where
       by : (x : Write) → GoodWrite w x → (touchedTop w x ≤ touchedBottom w x) × (touchedBottom w x ≤ 24)
       by Write.Nothing g = omega arith
       by (Write.Fill a e v) g =
-          by-width (λ (w : ℕ). (a ≤ e) × (e ≤ 24 * w) → (a / w ≤ (e + (w - 1)) / w) × ((e + (w - 1)) / w ≤ 24)) (λ h. omega arith) (λ h. omega arith) width g
+          by-width (λ (w : ℕ). (a ≤ e) × (e ≤ 24 * w) → (a / w ≤ (e + (w - 1)) / w) × ((e + (w - 1)) / w ≤ 24)) (λ h. omega arith)
+          (λ h. omega arith) width g
       by (Write.FillAll a e v) g = omega arith
       by (Write.Column top bottom c v) g = omega arith
-      by (Write.Edit right at v) g = by-width (λ (w : ℕ). at < 24 * w → (at / w ≤ at / w + 1) × (at / w + 1 ≤ 24)) (λ h. omega arith) (λ h. omega arith) width g
+      by (Write.Edit right at v) g = by-width (λ (w : ℕ). at < 24 * w → (at / w ≤ at / w + 1) × (at / w + 1 ≤ 24)) (λ h. omega arith)
+          (λ h. omega arith) width g
       by (Write.Rows down top bottom) g = omega arith
 
   -- g are the guarded cells after it

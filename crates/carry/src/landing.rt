@@ -21,7 +21,8 @@ use state::screen::with_cursor;
 
 // Settle from a cell of the active segment: by the row list, or by the cells where there is none.
 fn settle_in(page: &[u16], rows: &[u16], x: Screen, protect: bool, from: u16) -> usize
-    requires { ⌜ (length (now page) ≡ pageLength x) × ((screenOk x ≡ true) × (GoodLand x (Land.Settle from) × Beside (widthOf x) (guardedAt protect (now page)) (now rows))) ⌝ }
+    requires { ⌜ (length (now page) ≡ pageLength x)
+        × ((screenOk x ≡ true) × (GoodLand x (Land.Settle from) × Beside (widthOf x) (guardedAt protect (now page)) (now rows))) ⌝ }
     ensures { λ r. ⌜ r ≡ settled (guardedAt protect (now (page .entry))) (segmentStart x) (segmentEnd x) from ⌝ }
 {
     let first = segment_start(x) as usize;
@@ -34,7 +35,9 @@ fn settle_in(page: &[u16], rows: &[u16], x: Screen, protect: bool, from: u16) ->
 }
 
 pub fn land(page: &[u16], rows: &[u16], core: Core, l: Land) -> Core
-    requires { ⌜ (length (now page) ≡ pageLength (core .screen)) × ((screenOk (core .screen) ≡ true) × (GoodLand (core .screen) l × Beside (widthOf (core .screen)) (guardedAt (core .modes .protect) (now page)) (now rows))) ⌝ }
+    requires { ⌜ (length (now page) ≡ pageLength (core .screen))
+        × ((screenOk (core .screen) ≡ true)
+        × (GoodLand (core .screen) l × Beside (widthOf (core .screen)) (guardedAt (core .modes .protect) (now page)) (now rows))) ⌝ }
     ensures { λ r. ⌜ r ≡ landed (guardedAt (core .modes .protect) (now (page .entry))) l core ⌝ }
 {
     match l {

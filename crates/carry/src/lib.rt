@@ -30,8 +30,10 @@ use writes::write_both;
 
 // A reply begins, as much of it as fits. No room answers 6, and nothing has changed.
 fn begin(page: &[u16], rows: &mut [u16], core: Core, plan: Plan, room: &mut [u8]) -> CoreResult
-    requires { ⌜ (length (now page) ≡ pageLength (plan .next .screen)) × (GoodPlan plan × (Beside (planWidth plan) (guardedAt (core .modes .protect) (now page)) (now rows) × (sends (plan .reply) ≡ true))) ⌝ }
-    ensures { λ r. ⌜ Carried (carried (now (page .entry)) core plan (length (now (room .entry)))) r (now (page .entry)) (now (room .entry)) (now (room .exit)) × BesideAfter (planWidth plan) (carried (now (page .entry)) core plan (length (now (room .entry)))) (now (rows .exit)) ⌝ }
+    requires { ⌜ (length (now page) ≡ pageLength (plan .next .screen))
+        × (GoodPlan plan × (Beside (planWidth plan) (guardedAt (core .modes .protect) (now page)) (now rows) × (sends (plan .reply) ≡ true))) ⌝ }
+    ensures { λ r. ⌜ Carried (carried (now (page .entry)) core plan (length (now (room .entry)))) r (now (page .entry)) (now (room .entry))
+        (now (room .exit)) × BesideAfter (planWidth plan) (carried (now (page .entry)) core plan (length (now (room .entry)))) (now (rows .exit)) ⌝ }
 {
     let next = plan.next;
     if room.len() == 0 {
@@ -67,8 +69,10 @@ pub fn carry_out(
     plan: Plan,
     room: &mut [u8],
 ) -> CoreResult
-    requires { ⌜ (length (now page) ≡ pageLength (plan .next .screen)) × (GoodPlan plan × Beside (planWidth plan) (guardedAt (core .modes .protect) (now page)) (now rows)) ⌝ }
-    ensures { λ r. ⌜ Carried (carried (now (page .entry)) core plan (length (now (room .entry)))) r (now (page .exit)) (now (room .entry)) (now (room .exit)) × BesideAfter (planWidth plan) (carried (now (page .entry)) core plan (length (now (room .entry)))) (now (rows .exit)) ⌝ }
+    requires { ⌜ (length (now page) ≡ pageLength (plan .next .screen))
+        × (GoodPlan plan × Beside (planWidth plan) (guardedAt (core .modes .protect) (now page)) (now rows)) ⌝ }
+    ensures { λ r. ⌜ Carried (carried (now (page .entry)) core plan (length (now (room .entry)))) r (now (page .exit)) (now (room .entry))
+        (now (room .exit)) × BesideAfter (planWidth plan) (carried (now (page .entry)) core plan (length (now (room .entry)))) (now (rows .exit)) ⌝ }
 {
     let reply = plan.reply;
     if is_sending(reply) {

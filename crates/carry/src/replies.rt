@@ -48,7 +48,8 @@ fn digit(n: u8) -> u8
 // ESC SPACE: the model's number and CR, a fixed byte string for each personality.
 fn send_identity(room: &mut [u8], m: Personality, from: u8) -> Sent
     requires { ⌜ from ≤ 3 ⌝ }
-    ensures { λ r. ⌜ stands (now (room .exit)) (r .replied) (r .left) ≡ gone (each Short.Identity from (drop from (model m ∷ 0x30 ∷ 0x0d ∷ []))) 0 (now (room .entry)) ⌝ }
+    ensures { λ r. ⌜ stands (now (room .exit)) (r .replied) (r .left)
+        ≡ gone (each Short.Identity from (drop from (model m ∷ 0x30 ∷ 0x0d ∷ []))) 0 (now (room .entry)) ⌝ }
 {
     match m {
         Personality::Wy50 => send_bytes(room, b"50\r", Short::Identity, from),
@@ -59,7 +60,8 @@ fn send_identity(room: &mut [u8], m: Personality, from: u8) -> Sent
 // ESC b: two digits, R, three digits, C.
 fn send_decimal(room: &mut [u8], r: u8, c: u8, from: u8) -> Sent
     requires { ⌜ from ≤ 7 ⌝ }
-    ensures { λ x. ⌜ stands (now (room .exit)) (x .replied) (x .left) ≡ gone (each Short.DecimalCursor from (drop from (decimal r c))) 0 (now (room .entry)) ⌝ }
+    ensures { λ x. ⌜ stands (now (room .exit)) (x .replied) (x .left)
+        ≡ gone (each Short.DecimalCursor from (drop from (decimal r c))) 0 (now (room .entry)) ⌝ }
 {
     let bytes = [
         digit(r / 10),
@@ -74,8 +76,10 @@ fn send_decimal(room: &mut [u8], r: u8, c: u8, from: u8) -> Sent
 }
 
 fn send_short(page: &[u16], core: Core, reply: Short, from: u8, room: &mut [u8]) -> Sent
-    requires { ⌜ (length (now page) ≡ pageLength (core .screen)) × ((screenOk (core .screen) ≡ true) × ((from < shortLength reply) × (0 < length (now room)))) ⌝ }
-    ensures { λ r. ⌜ stands (now (room .exit)) (r .replied) (r .left) ≡ gone (places (now (page .entry)) core (Sending.Short reply from)) 0 (now (room .entry)) ⌝ }
+    requires { ⌜ (length (now page) ≡ pageLength (core .screen))
+        × ((screenOk (core .screen) ≡ true) × ((from < shortLength reply) × (0 < length (now room)))) ⌝ }
+    ensures { λ r. ⌜ stands (now (room .exit)) (r .replied) (r .left)
+        ≡ gone (places (now (page .entry)) core (Sending.Short reply from)) 0 (now (room .entry)) ⌝ }
 {
     let x = core.screen;
     let row = cursor_row(x);
@@ -105,7 +109,8 @@ fn send_short(page: &[u16], core: Core, reply: Short, from: u8, room: &mut [u8])
 
 // A text's extent is read from the core at each call.
 pub fn send(page: &[u16], core: Core, sending: Sending, room: &mut [u8]) -> Sent
-    requires { ⌜ (length (now page) ≡ pageLength (core .screen)) × ((screenOk (core .screen) ≡ true) × (GoodSend (core .screen) sending × (0 < length (now room)))) ⌝ }
+    requires { ⌜ (length (now page) ≡ pageLength (core .screen))
+        × ((screenOk (core .screen) ≡ true) × (GoodSend (core .screen) sending × (0 < length (now room)))) ⌝ }
     ensures { λ r. ⌜ Went (now (page .entry)) core sending (now (room .entry)) (r .replied) (r .left) (now (room .exit)) ⌝ }
 {
     match sending {

@@ -185,8 +185,10 @@ pub fn write_both(
     first: Write,
     second: Write,
 )
-    requires { ⌜ (length (now page) ≡ 24 * width) × (GoodWrite width first × (GoodWrite width second × (Width width × Beside width (guardedAt on (now page)) (now rows)))) ⌝ }
-    ensures { λ r. ⌜ (now (page .exit) ≡ applied width on second (applied width on first (now (page .entry)))) × Beside width (guardedAt after (now (page .exit))) (now (rows .exit)) ⌝ }
+    requires { ⌜ (length (now page) ≡ 24 * width)
+        × (GoodWrite width first × (GoodWrite width second × (Width width × Beside width (guardedAt on (now page)) (now rows)))) ⌝ }
+    ensures { λ r. ⌜ (now (page .exit) ≡ applied width on second (applied width on first (now (page .entry))))
+        × Beside width (guardedAt after (now (page .exit))) (now (rows .exit)) ⌝ }
 {
     write_some(page, width, on, first);
     write_some(page, width, on, second);

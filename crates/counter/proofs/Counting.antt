@@ -121,7 +121,8 @@ module _ (r : List ℕ) (first last : ℕ) where
   unfolding countRule
   bad-first-is e f = rw (e, f)
 
-  pub bad-last-is : returns r ≡ true → inOrder first last ≡ true → length (pieces r) < last → numbers Counted.BadLast ≡ numbers (countRule r first last)
+  pub bad-last-is : returns r ≡ true → inOrder first last ≡ true → length (pieces r) < last
+      → numbers Counted.BadLast ≡ numbers (countRule r first last)
   unfolding countRule
   bad-last-is e f h = rw (e, f, lt-leb last (length (pieces r)) h)
 

@@ -80,7 +80,8 @@ near : (n m : ℕ) (l : List ℕ) → Near n m l
 unfolding opened
 near n m [] = record { least = λ h. omega arith; most = omega arith }
 near n m (b ∷ l) =
-    near-next n m b l (near (n + cost b) (m + cost b) l) (near (cost b) (n + cost b) l) (near (m + cost b) (cost b) l) (leb (n + cost b) ofSeveral) (leb (m + cost b) ofSeveral) refl refl
+    near-next n m b l (near (n + cost b) (m + cost b) l) (near (cost b) (n + cost b) l) (near (m + cost b) (cost b) l) (leb (n + cost b) ofSeveral)
+    (leb (m + cost b) ofSeveral) refl refl
 
 -- a text that fits goes into the part under way
 opened-append : (n : ℕ) (t l : List ℕ) → n + units t ≤ ofSeveral → opened n (t ++ l) ≡ opened (n + units t) l

@@ -27,8 +27,10 @@ use Rattle.counter.specs.declared.Told.{Told}
 use Rattle.counter.specs.declared.Told.the-variants as Told
 use Rattle.counter.specs.Count.{Numbers, numbers, countRule}
 use Rattle.counter.proofs.Counting.{one-count}
-use Rattle.counter.specs.Ask.{isReady, question, lent, asking, isCut, toldRule, ToldNumbers, toldNumbers, OneTold, askRule, Asks, Silent, AskingCases}
-use Rattle.counter.proofs.Replies.{asked-begun, asked-stopped, by-room, asked-nothing, asked-refused, asking-page, cut-fills, whole-state, never-cut}
+use Rattle.counter.specs.Ask.{isReady, question, lent, asking, isCut, toldRule, ToldNumbers, toldNumbers, OneTold, askRule, Asks, Silent}
+use Rattle.counter.specs.Ask.{AskingCases}
+use Rattle.counter.proofs.Replies.{asked-begun, asked-stopped, by-room, asked-nothing, asked-refused, asking-page, cut-fills, whole-state}
+use Rattle.counter.proofs.Replies.{never-cut}
 
 -- ---- what the caller is told
 
@@ -152,7 +154,8 @@ module _ (p : List ℕ) (s : State) (first last : ℕ) (p′ w w′ : List ℕ) 
 
   pub asks : (c : Counted) {r : RunResult} {full ready cut : Bool} {a : ℕ} {x : Told} → full ≡ eqb (length p) (pageLength (s .core .screen))
       → ready ≡ isReady s → RunDone (runRule p s (question ready) (lent ready (length w))) r (question ready) p′ w w′
-      → numbers c ≡ numbers (countRule (take (r .replied) w′) first last) → a ≡ number (r .answer) → cut ≡ either (eqb a 6) (sends (r .state .sending))
+      → numbers c ≡ numbers (countRule (take (r .replied) w′) first last) → a ≡ number (r .answer)
+      → cut ≡ either (eqb a 6) (sends (r .state .sending))
       → x ≡ toldRule a full ready cut c → Asks p s first last (record { told = x; replied = r .replied }) p′ w w′
   unfolding asking
   asks c {r = r} d e h k m n o = asked (rw e at h) (o ∙ rw (n, d, e, m, one-count c (countRule (take (r .replied) w′) first last) k))

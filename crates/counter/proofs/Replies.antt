@@ -28,7 +28,8 @@ use Rattle.rules.specs.declared.Place.the-variants as Place
 use Rattle.rules.specs.declared.Sending.{Sending}
 use Rattle.rules.specs.declared.Sending.the-variants as Sending
 use Rattle.rules.specs.Cell.{pick, either, between, code, kind, sent}
-use Rattle.rules.specs.State.{widthOf, segmentStart, awaiting, idle, isIdle, sends, withSending, changed, sendingAfter, gatheredAfter, setupAfter, Inside}
+use Rattle.rules.specs.State.{widthOf, segmentStart, awaiting, idle, isIdle, sends, withSending, changed, sendingAfter, gatheredAfter, setupAfter}
+use Rattle.rules.specs.State.{Inside}
 use Rattle.rules.specs.Possible.{good}
 use Rattle.rules.specs.theorems.Good.{GoodSend}
 use Rattle.rules.specs.Decode.{lookup, idleRule, escapeRule, decodeRule}
@@ -89,7 +90,12 @@ sent-append (more h x) y = more h (sent-append x y)
 
 replies-more : {a r : List ℕ} → AllSent a → Replies r → Replies (a ++ r)
 replies-more {a} h x =
-    record { text = a ++ x .text; is = ap (λ (t : List ℕ). a ++ t) (x .is) ∙ sym (append-assoc a (x .text) (0x0d ∷ [])); sent = sent-append h (x .sent) }
+    record {
+      text = a ++ x .text;
+      is = ap (λ (t : List ℕ). a ++ t) (x .is)
+          ∙ sym (append-assoc a (x .text) (0x0d ∷ []));
+      sent = sent-append h (x .sent);
+    }
 
 -- a text's bytes, and then its CR
 text-replies : (w : ℕ) (all segment : Bool) (n : ℕ) (after : Bool) (i : ℕ) (l : List ℕ) → Replies (bytesOf (textPlaces w all segment n after i l))
@@ -292,7 +298,9 @@ module _ (p : List ℕ) (s : State) (room : ℕ) (g : good p s ≡ true) (r : is
   whole-answer k = uncut k (λ h l. asked-begun h .answer)
 
   pub whole-state : isCut (asking p s room) ≡ false → (asking p s room) .state ≡ s
-  whole-state k = uncut k (λ h l. asked-begun h .state ∙ ap (withSending s) (not-sending (leftFrom p (s .core) (openText (s .core)) room) l ∙ sym (not-sending (s .sending) no-send)))
+  whole-state k = uncut k
+      (λ h l. asked-begun h .state
+      ∙ ap (withSending s) (not-sending (leftFrom p (s .core) (openText (s .core)) room) l ∙ sym (not-sending (s .sending) no-send)))
 
   pub whole-replies : isCut (asking p s room) ≡ false → Replies ((asking p s room) .reply)
   unfolding sentFrom

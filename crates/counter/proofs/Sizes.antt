@@ -66,9 +66,17 @@ few false false n m h = h
 parts-most : (l : List ℕ) (n : ℕ) → 1 ≤ n → length l ≤ suc n → parts l ≤ n
 unfolding parts
 parts-most [] n h k =
-    omega (arith, few (eqb (units []) 0) (leb (units []) alone) (length (filling 0 [])) 0 (omega (arith, filling-length [], opened-most ofSeveral [])))
+    omega (
+      arith,
+      few (eqb (units []) 0) (leb (units []) alone) (length (filling 0 [])) 0
+          (omega (arith, filling-length [], opened-most ofSeveral [])),
+    )
 parts-most (a ∷ []) n h k =
-    omega (arith, few (eqb (units (a ∷ [])) 0) (leb (units (a ∷ [])) alone) (length (filling 0 (a ∷ []))) 0 (omega (arith, filling-length (a ∷ []), opened-most ofSeveral (a ∷ []))))
+    omega (
+      arith,
+      few (eqb (units (a ∷ [])) 0) (leb (units (a ∷ [])) alone) (length (filling 0 (a ∷ []))) 0
+          (omega (arith, filling-length (a ∷ []), opened-most ofSeveral (a ∷ []))),
+    )
 parts-most (a ∷ b ∷ l) n h k =
     omega (arith, few (eqb (units (a ∷ b ∷ l)) 0) (leb (units (a ∷ b ∷ l)) alone) _ (length l) (filling-fewer a b l))
 

@@ -55,7 +55,8 @@ fn room_length(ready: bool, room: usize) -> usize
 
 // Asks a terminal that is ready; of another it asks nothing and lends it no room.
 pub(crate) fn ask(page: &mut [u16], state: State, ready: bool, room: &mut [u8]) -> RunResult
-    ensures { λ r. ⌜ RunDone (runRule (now (page .entry)) state (question ready) (lent ready (length (now (room .entry))))) r (question ready) (now (page .exit)) (now (room .entry)) (now (room .exit)) ⌝ }
+    ensures { λ r. ⌜ RunDone (runRule (now (page .entry)) state (question ready) (lent ready (length (now (room .entry))))) r (question ready)
+        (now (page .exit)) (now (room .entry)) (now (room .exit)) ⌝ }
 {
     let question = [0x1b, 0x35];
     let n = question_length(ready);

@@ -126,11 +126,13 @@ module _ {w : ℕ} (k : Width w) (p : List ℕ) (n : length p ≡ 24 * w) where
     stretch = record {
       some = reaches .0;
       within = reaches .1;
-      unprotected = λ i h l. sym (protected-at p i (omega (arith, l, reaches .1, inside-row, as-long))) ∙ first-missed (protectedAt p) a (rowEnd w a) inside-row i h l;
+      unprotected = λ i h l. sym (protected-at p i (omega (arith, l, reaches .1, inside-row, as-long)))
+          ∙ first-missed (protectedAt p) a (rowEnd w a) inside-row i h l;
       first = start-first;
       last = ⊎-elim
           (λ z. inl z)
-          (λ l. inr (sym (protected-at p (fieldEnd w p a) (omega (arith, l, inside-row, as-long))) ∙ first-hit (protectedAt p) a (rowEnd w a) inside-row l))
+          (λ l. inr (sym (protected-at p (fieldEnd w p a) (omega (arith, l, inside-row, as-long)))
+          ∙ first-hit (protectedAt p) a (rowEnd w a) inside-row l))
           (eq-or-lt-of-le {n = fieldEnd w p a} {m = rowEnd w a} (reaches .1));
     }
 
@@ -193,7 +195,8 @@ places-go-round n z =
       cell = λ at h. sym (a-cell n refl z (rowOf (pageWidth n) at) (columnOf (pageWidth n) at) (row-below k at h) (column-in k at)) ∙ back k at;
       place = λ row column h l.
           let c = a-cell n refl z row column h l in
-          rw (← c) (sym (inside n refl z (row * pageWidth n + column) (omega (arith, k .1, cell-inside (k .0) {bottom = 24} h l))) ∙ there k row column l);
+          rw (← c) (sym (inside n refl z (row * pageWidth n + column) (omega (arith, k .1, cell-inside (k .0) {bottom = 24} h l)))
+          ∙ there k row column l);
     }
   where
     row-below : {n w : ℕ} → Width w × (n ≡ 24 * w) → (at : ℕ) → at < n → at / w < 24

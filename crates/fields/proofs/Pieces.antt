@@ -194,7 +194,8 @@ module _ {w : ℕ} (k : Width w) (p : List ℕ) (n : length p ≡ 24 * w) (e : �
           let r : rowEnd w (suc i) ≡ rowEnd w i = same-row k i c in
           let x = first-range (protectedAt p) (suc i) (rowEnd w i) (omega (arith, row-goes-on k i c)) inside-row in
           let f : fieldEnd w p i ≡ fieldEnd w p (suc i) = end-behind ∙ rw r in
-          rw f (ap (map sent) (slice-cons i (fieldEnd w p (suc i)) p 0 (rw r (omega arith)) (rw r (omega (arith, x, inside-row, length-by (leftOut true) p)))))
+          rw f (ap (map sent) (slice-cons i (fieldEnd w p (suc i)) p 0 (rw r (omega arith))
+          (rw r (omega (arith, x, inside-row, length-by (leftOut true) p)))))
 
   -- ---- going back from the last cell
 
@@ -205,7 +206,8 @@ module _ {w : ℕ} (k : Width w) (p : List ℕ) (n : length p ≡ 24 * w) (e : �
       (λ v. x .closed v ∙ sym (texts-none i h (s ∙ rw v)))
       (λ v.
       let o = x .unprotected v in
-      ap filled (o .is) ∙ filled-some (o .rest) (x .some v .1) ∙ ap {B = List (List ℕ)} (λ t. text i ∷ t) (o .left) ∙ sym (texts-start i h (s ∙ rw v)))
+      ap filled (o .is) ∙ filled-some (o .rest) (x .some v .1) ∙ ap {B = List (List ℕ)} (λ t. text i ∷ t) (o .left)
+      ∙ sym (texts-start i h (s ∙ rw v)))
       (either-way (protectedIn p i))
 
   fresh : (i : ℕ) → i < length p → (protectedIn p i ≡ false → isFieldStart w p i ≡ true) → isFieldStart w p i ≡ not (protectedIn p i)
@@ -228,7 +230,13 @@ module _ {w : ℕ} (k : Width w) (p : List ℕ) (n : length p ≡ 24 * w) (e : �
       let s : pieces (nextPlace w e i) ≡ [] ∷ [] ∷ [] = ap pieces (next-end i q) ∙ return-pieces in
       let t : texts (suc i) ≡ [] = ap texts q ∙ no-texts in
       record {
-        unprotected = λ u. ([], (row-text-ends i (omega arith) u (ap (columnOf w) q ∙ z), record { rest = [] ∷ []; is = s; left = filled-empty [] ∙ filled-nil ∙ sym t }));
+        unprotected = λ u. (
+          [],
+          (
+            row-text-ends i (omega arith) u (ap (columnOf w) q ∙ z),
+            record { rest = [] ∷ []; is = s; left = filled-empty [] ∙ filled-nil ∙ sym t },
+          ),
+        );
         closed = λ u. ap filled s ∙ filled-none ∙ sym t;
       }
 
@@ -291,7 +299,8 @@ module _ {w : ℕ} (k : Width w) (p : List ℕ) (n : length p ≡ 24 * w) (e : �
         let o = x .unprotected u .1 .1 in
         record {
           rest = o .rest;
-          is = open-cell i h u ∙ ap (onto (byte i)) (o .is) ∙ onto-first (byte i) (x .unprotected u .0) (o .rest) ∙ ap {B = List (List ℕ)} (λ t. t ∷ o .rest) (sym (x .unprotected u .1 .0));
+          is = open-cell i h u ∙ ap (onto (byte i)) (o .is) ∙ onto-first (byte i) (x .unprotected u .0) (o .rest)
+              ∙ ap {B = List (List ℕ)} (λ t. t ∷ o .rest) (sym (x .unprotected u .1 .0));
           left = o .left;
         };
     parted = λ u f. record { rest = pieces (nextPlace w e i); is = parted-cell i h u f; left = x .closed u };

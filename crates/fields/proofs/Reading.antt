@@ -12,7 +12,8 @@ use Rattle.rules.specs.declared.Field.{Field}
 use Rattle.rules.specs.declared.Position.{Position}
 use Rattle.rules.specs.Row.{Width, height}
 use Rattle.rules.specs.Room.{over}
-use Rattle.rules.specs.Fields.{pageWidth, fieldStarts, isFieldStart, fieldEnd, nextStart, fieldAt, noField, nextFieldRule, textOf, Told, told, fitting, fieldTextRule, rowTextRule, Read, position, positionRule, cellRule}
+use Rattle.rules.specs.Fields.{pageWidth, fieldStarts, isFieldStart, fieldEnd, nextStart, fieldAt, noField, nextFieldRule, textOf, Told, told}
+use Rattle.rules.specs.Fields.{fitting, fieldTextRule, rowTextRule, Read, position, positionRule, cellRule}
 use Rattle.rules.proofs.Rows.{by-width}
 use Rattle.rules.proofs.Fields.{length-starts}
 

@@ -101,7 +101,8 @@ pub fn next_field(page: &[u16], from: usize) -> Field
 // The end of the cells `from` up to `end` without the last ones that go as spaces.
 fn trimmed_end(page: &[u16], from: usize, end: usize) -> usize
     requires { ⌜ (from ≤ end) × ((end ≤ length (now page)) × (length (now page) ≤ wideCells)) ⌝ }
-    ensures { λ r. ⌜ (from ≤ r) × ((r ≤ end) × (map sent (slice from r (now (page .entry))) ≡ trimmed (map sent (slice from end (now (page .entry)))))) ⌝ }
+    ensures { λ r. ⌜ (from ≤ r)
+        × ((r ≤ end) × (map sent (slice from r (now (page .entry))) ≡ trimmed (map sent (slice from end (now (page .entry)))))) ⌝ }
 {
     let mut to = end;
     while from < to {
@@ -139,7 +140,8 @@ fn put(room: &mut [u8], page: &[u16], from: usize, to: usize)
 // The text of the cells `from` up to `end`, if it fits.
 fn put_text(room: &mut [u8], page: &[u16], from: usize, end: usize, trim: bool) -> TextResult
     requires { ⌜ (from ≤ end) × ((end ≤ length (now page)) × (length (now page) ≤ wideCells)) ⌝ }
-    ensures { λ r. ⌜ Read (fitting (textOf trim from end (now (page .entry))) (length (now (room .entry)))) r (now (room .entry)) (now (room .exit)) ⌝ }
+    ensures { λ r. ⌜ Read (fitting (textOf trim from end (now (page .entry))) (length (now (room .entry)))) r (now (room .entry))
+        (now (room .exit)) ⌝ }
 {
     let to = text_end(page, from, end, trim);
     if room.len() < to - from {

@@ -33,5 +33,6 @@ module _ (m : Personality) (p l : List ℕ) {w : ℕ} (e : w ≡ pageWidth (leng
         → Gives (mendRule m p l) (record { answer = 0; needed = n }) q k
     unfolding mendRule
     gives-mended h c d =
-        let o : outcome 0 n (mended m p) (over (entries w (damaged m 0 p)) l) ≡ mendRule m p l = rw (← e, ne-eqb w 0 z, ← f, le-leb n (length l / 4) h) in
+        let o : outcome 0 n (mended m p) (over (entries w (damaged m 0 p)) l)
+        ≡ mendRule m p l = rw (← e, ne-eqb w 0 z, ← f, le-leb n (length l / 4) h) in
         gives-as o (record { answer = refl; needed = refl; page = c; list = d })

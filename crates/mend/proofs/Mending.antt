@@ -55,7 +55,8 @@ unfolding damaged
 damaged-size m [] at = omega arith
 damaged-size m (v ∷ p) at = by (writable m v) (damaged-size m p (suc at))
   where
-    by : (t : Bool) → length (damaged m (suc at) p) ≤ length p → length (pick t (damaged m (suc at) p) ((at, v) ∷ damaged m (suc at) p)) ≤ suc (length p)
+    by : (t : Bool) → length (damaged m (suc at) p) ≤ length p
+        → length (pick t (damaged m (suc at) p) ((at, v) ∷ damaged m (suc at) p)) ≤ suc (length p)
     by true h = omega arith
     by false h = omega arith
 
@@ -82,7 +83,8 @@ module _ (m : Personality) (p : List ℕ) (i : ℕ) {n : ℕ} (e : n ≡ length 
   pub count-below : i ≤ length p → n ≤ i
   count-below h = omega (arith, e, damaged-size m (take i p) 0, length-take-le i p h)
 
-  pub count-next : {t : Bool} {n′ : ℕ} → i < length p → t ≡ writable m (getD p i 0) → n′ ≡ pick t n (n + 1) → n′ ≡ length (damaged m 0 (take (i + 1) p))
+  pub count-next : {t : Bool} {n′ : ℕ} → i < length p → t ≡ writable m (getD p i 0) → n′ ≡ pick t n (n + 1)
+      → n′ ≡ length (damaged m 0 (take (i + 1) p))
   unfolding damaged
   count-next h f g = g ∙ rw (f, e, damaged-next m p i h) (one-more (writable m (getD p i 0)) (damaged m 0 (take i p)) (i, getD p i 0))
 
@@ -219,7 +221,8 @@ module _ {m : Personality} {w : ℕ} {p l : List ℕ} {i n : ℕ} {q k : List �
 
     listed-next : sets k (4 * n) more ≡ over (entries w (damaged m 0 (take (i + 1) p))) l
     listed-next =
-        let e : length (entries w (damaged m 0 (take i p))) ≡ 4 * n = entries-size w (damaged m 0 (take i p)) ∙ ap (λ (x : ℕ). 4 * x) (sym (g .count)) in
+        let e : length (entries w (damaged m 0 (take i p))) ≡ 4 * n = entries-size w (damaged m 0 (take i p))
+        ∙ ap (λ (x : ℕ). 4 * x) (sym (g .count)) in
         ap (λ (z : List ℕ). sets z (4 * n) more) (g .listed)
         ∙ over-sets (entries w (damaged m 0 (take i p))) more l (4 * n) e (rw more-size (entries-fit (i + 1)))
         ∙ ap (λ (z : List ℕ). over z l) (sym more-entries)

@@ -59,7 +59,8 @@ unchanged m p l e h = rw (e, none-damaged 0 h, mended-same h, le-leb 0 (length l
 -- ---- the ways of the rule
 
 data Way (m : Personality) (p l : List ℕ) : Type 0 where
-  is-done : isPage (length p) ≡ true → mendRule m p l ≡ outcome 0 (length (damaged m 0 p)) (mended m p) (over (entries (pageWidth (length p)) (damaged m 0 p)) l)
+  is-done : isPage (length p) ≡ true
+      → mendRule m p l ≡ outcome 0 (length (damaged m 0 p)) (mended m p) (over (entries (pageWidth (length p)) (damaged m 0 p)) l)
       → Way m p l
   is-short : isPage (length p) ≡ true → mendRule m p l ≡ outcome 6 (length (damaged m 0 p)) p l → Way m p l
   is-no-page : isPage (length p) ≡ false → mendRule m p l ≡ outcome 7 0 p l → Way m p l
@@ -101,10 +102,12 @@ kept m p l at w = by (way m p l)
     by (is-short e f) = rw f
     by (is-no-page e f) = rw f
 
-cleared : (m : Personality) (p l : List ℕ) (at : ℕ) → mendRule m p l .answer ≡ 0 → writable m (getD p at 0) ≡ false → getD (mendRule m p l .page) at 0 ≡ null
+cleared : (m : Personality) (p l : List ℕ) (at : ℕ) → mendRule m p l .answer ≡ 0 → writable m (getD p at 0) ≡ false
+    → getD (mendRule m p l .page) at 0 ≡ null
 cleared m p l at z w = rw (done m p l z .is) (mended-at m p at ∙ rw w)
 
-refused : (m : Personality) (p l : List ℕ) → (mendRule m p l .answer ≡ 0 → ⊥) → mendRule m p l ≡ outcome (mendRule m p l .answer) (mendRule m p l .needed) p l
+refused : (m : Personality) (p l : List ℕ) → (mendRule m p l .answer ≡ 0 → ⊥)
+    → mendRule m p l ≡ outcome (mendRule m p l .answer) (mendRule m p l .needed) p l
 refused m p l z = by (way m p l)
   where
     by : Way m p l → mendRule m p l ≡ outcome (mendRule m p l .answer) (mendRule m p l .needed) p l
@@ -129,7 +132,8 @@ page-of-width false n e = rw e
 
 sound : (m : Personality) (p l : List ℕ) (s : State) → Reached m p s → mendRule m p l ≡ outcome 0 0 p l
 sound m p l s x =
-    unchanged m p l (page-of-width (s .core .screen .wide) (length p) (good-parts p s (cell-reach .left-good m p s x) .0)) (cell-reach .left-writable m p s x)
+    unchanged m p l (page-of-width (s .core .screen .wide) (length p) (good-parts p s (cell-reach .left-good m p s x) .0))
+    (cell-reach .left-writable m p s x)
 
 -- the cells of v and p behind those of a, those of p being back
 back-next : (m : Personality) (a : List ℕ) (v : ℕ) (p : List ℕ)
@@ -144,7 +148,8 @@ back-next m a v p h = by (writable m v)
         rw (append-snoc a v (mended m p), append-snoc a v p, n) at h
 
     by : (t : Bool)
-        → putBack (pick t (damaged m (suc (length a)) p) ((length a, v) ∷ damaged m (suc (length a)) p)) (a ++ pick t v null ∷ mended m p) ≡ a ++ v ∷ p
+        → putBack (pick t (damaged m (suc (length a)) p) ((length a, v) ∷ damaged m (suc (length a)) p)) (a ++ pick t v null ∷ mended m p) ≡ a ++ v
+        ∷ p
     by true = more-cells
     by false = ap (putBack (damaged m (suc (length a)) p)) (set-append-seam a null (mended m p) v) ∙ more-cells
 

@@ -175,7 +175,10 @@ fn mend_cell(
     at: usize,
     n: usize,
 ) -> usize
-    requires { ⌜ Width width × ((at < length (now page)) × ((length (now page) ≤ wideCells) × ((n < wideCells) × (4 * n + length (entries width (damaged personality at (getD (now page) at 0 ∷ []))) ≤ length (now list))))) ⌝ }
+    requires { ⌜ Width width
+        × ((at < length (now page))
+        × ((length (now page) ≤ wideCells)
+        × ((n < wideCells) × (4 * n + length (entries width (damaged personality at (getD (now page) at 0 ∷ []))) ≤ length (now list))))) ⌝ }
     ensures { λ r. ⌜ CellMended personality width at n (now (page .entry)) (now (list .entry)) r (now (page .exit)) (now (list .exit)) ⌝ }
 {
     let old = page[at];

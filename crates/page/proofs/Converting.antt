@@ -28,11 +28,13 @@ pub null-cell : (p : List ℕ) (wide : Bool) (i : ℕ) → wide ≡ false → 80
 unfolding cellFor columns
 null-cell p wide i e h = rw (e, le-ltb (i % 132) 80 h)
 
-pub wide-cell : (p : List ℕ) (wide : Bool) (i : ℕ) → wide ≡ false → i % 132 < 80 → getD p (i / 132 * 80 + i % 132) 0 ≡ cellFor (columns wide) (otherWidth wide) p i
+pub wide-cell : (p : List ℕ) (wide : Bool) (i : ℕ) → wide ≡ false → i % 132 < 80
+    → getD p (i / 132 * 80 + i % 132) 0 ≡ cellFor (columns wide) (otherWidth wide) p i
 unfolding cellFor columns
 wide-cell p wide i e h = rw (e, lt-ltb (i % 132) 80 h)
 
-pub narrow-place : (p : List ℕ) (wide : Bool) (i : ℕ) → wide ≡ true → length p ≡ 24 * columns wide → i < 24 * otherWidth wide → i / 80 * 132 + i % 80 < length p
+pub narrow-place : (p : List ℕ) (wide : Bool) (i : ℕ) → wide ≡ true → length p ≡ 24 * columns wide → i < 24 * otherWidth wide
+    → i / 80 * 132 + i % 80 < length p
 unfolding columns
 narrow-place p wide i e n h = let a : length p ≡ 3168 = n ∙ rw e in let b : i < 1920 = rw e at h in omega arith
 

@@ -15,7 +15,8 @@ use lib.ListN.{length, getD}
 use Rattle.rules.specs.Search.{guardedAt, others, firstIn, around}
 use Rattle.rules.proofs.Searching.{hit, miss, first-none, around-here, around-wrapped, around-none, guard-at, open-at, length-guards, length-others}
 
-pub past : (m : List Bool) (n a e : ℕ) → a + n ≤ e → e ≤ length m → ((j : ℕ) → j < n → getD m (a + j) false ≡ false) → firstIn m a e ≡ firstIn m (a + n) e
+pub past : (m : List Bool) (n a e : ℕ) → a + n ≤ e → e ≤ length m → ((j : ℕ) → j < n → getD m (a + j) false ≡ false)
+    → firstIn m a e ≡ firstIn m (a + n) e
 past m zero a e h k none = rw add-zero
 past m (suc n) a e h k none =
     let next : a + n + 1 ≡ a + suc n = omega arith in
@@ -23,7 +24,8 @@ past m (suc n) a e h k none =
     ∙ miss m (a + n) e (omega arith) k (sym (none n (omega arith))) refl
     ∙ ap (λ (i : ℕ). firstIn m i e) next
 
-pub around-from : (m : List Bool) (first end from near : ℕ) → firstIn m from end ≡ firstIn m near end → around m first end near ≡ around m first end from
+pub around-from : (m : List Bool) (first end from near : ℕ) → firstIn m from end ≡ firstIn m near end
+    → around m first end near ≡ around m first end from
 unfolding around
 around-from m first end from near e = rw e
 

@@ -218,7 +218,8 @@ module _ {w : ℕ} (width : Width w) (g : List Bool) (long : length g ≡ 24 * w
           skipped-rows (r - a) a (omega (arith, f .from, f .most)) (λ k b c. f .none k b (omega (arith, f .from)))
           ∙ ap (λ (j : ℕ). firstIn (others g) (j * w) (bottom * w)) e
 
-      pub row-found : r < bottom → (1 ≤ getD l (2 * r + 1) 0) × ((getD l (2 * r + 1) 0 ≤ w) × (r * w + getD l (2 * r + 1) 0 - 1 ≡ firstIn (others g) (a * w) (bottom * w)))
+      pub row-found : r < bottom
+          → (1 ≤ getD l (2 * r + 1) 0) × ((getD l (2 * r + 1) 0 ≤ w) × (r * w + getD l (2 * r + 1) 0 - 1 ≡ firstIn (others g) (a * w) (bottom * w)))
       row-found h =
           let m = others g in
           let next : suc r * w ≤ bottom * w = mul-le-mul-right w (omega arith) in
@@ -254,7 +255,8 @@ module _ {w : ℕ} (width : Width w) (g : List Bool) (long : length g ≡ 24 * w
 
       module _ {here : ℕ} (e : here ≡ firstIn (others g) from (rowEnd w from)) where
         pub here-found : here < rowEnd w from → here ≡ firstIn (others g) from (bottom * w)
-        here-found h = e ∙ sym (first-here (others g) from (rowEnd w from) (bottom * w) (omega (arith, span .stop, span .end)) stops rows-inside (omega arith))
+        here-found h = e ∙ sym
+            (first-here (others g) from (rowEnd w from) (bottom * w) (omega (arith, span .stop, span .end)) stops rows-inside (omega arith))
 
         pub here-none : rowEnd w from ≤ here → firstIn (others g) ((from / w + 1) * w) (bottom * w) ≡ firstIn (others g) from (bottom * w)
         here-none h =

@@ -159,7 +159,8 @@ module _ {p : List ℕ} {i end : ℕ} (t : RowPart p i end) where
       spots-next h =
           rw (lt-ltb j end h, add-one)
           (at-cell (t .wide) p (t .to) (t .page) all (t .segment) j (omega (arith, t .most))
-          ∙ ap (λ (z : Place). spot here (cellPlace (leavesOut all) (followsLeftOut (t .width) all p j) (getD p j 0)) ∷ textAt (t .width) p (t .to) all (t .segment) z)
+          ∙ ap (λ (z : Place). spot here (cellPlace (leavesOut all) (followsLeftOut (t .width) all p j) (getD p j 0))
+          ∷ textAt (t .width) p (t .to) all (t .segment) z)
           (next-in h (ltb (suc j) end) refl))
 
       -- where it stands there
@@ -184,7 +185,8 @@ module _ {p : List ℕ} {i end : ℕ} (t : RowPart p i end) where
         unfolding cellPlace
         step-first e g = gone-at n q (spots-next h ∙ rw (e, g)) ∙ gone-one here (spotsIn t all (j + 1)) n q 0x1c f
 
-        pub step-silent : skips p all j ≡ true → followsLeftOut (t .width) all p j ≡ true → gone (spotsIn t all j) n q ≡ gone (spotsIn t all (j + 1)) n q
+        pub step-silent : skips p all j ≡ true → followsLeftOut (t .width) all p j ≡ true
+            → gone (spotsIn t all j) n q ≡ gone (spotsIn t all (j + 1)) n q
         unfolding cellPlace
         step-silent e g = gone-at n q (spots-next h ∙ rw (e, g)) ∙ gone-silent here (spotsIn t all (j + 1)) n q f
 
@@ -339,7 +341,8 @@ module _ {p : List ℕ} {all follows : Bool} {a end m : ℕ} {q : List ℕ} wher
             subst (λ (j : ℕ). followsLeftOut (t .width) all p j ≡ false) z
             (follows-next t (next - 1) (omega (arith, c .least, s .from)) all (omega (arith, before-stop, k)) ∙ d .last l)
 
-        begins-first : (t : RowPart p a end) → followsLeftOut (t .width) all p a ≡ follows → next ≡ first → followsLeftOut (t .width) all p next ≡ false
+        begins-first : (t : RowPart p a end) → followsLeftOut (t .width) all p a ≡ follows → next ≡ first
+            → followsLeftOut (t .width) all p next ≡ false
         begins-first t g z =
             ⊎-elim
             (λ y. absurd (false≢true (sym (s .ends y (omega (arith, z, before-stop, k))) ∙ ap (skips p all) (sym z) ∙ d .ends before-stop)))
@@ -477,7 +480,8 @@ module _ {w : ℕ} {p : List ℕ} {to : ℕ} {all segment : Bool} where
         gone-behind = gone-on ∙ rw (le-ltb at′ end h)
 
         standing-behind : (b : Bool) → eqb end to ≡ b
-            → standing (textAt w p to all segment (pick b Place.Return (Place.Break end))) ≡ Sending.Text all segment (pick b Place.Return (Place.Break end))
+            → standing (textAt w p to all segment (pick b Place.Return (Place.Break end)))
+            ≡ Sending.Text all segment (pick b Place.Return (Place.Break end))
         unfolding standing textAt
         standing-behind true y = refl
         standing-behind false y =

@@ -47,7 +47,9 @@ fn first_column(part: &[u16], protect: bool, count: u16) -> u16
 // The numbers of one row.
 fn count_row(rows: &mut [u16], page: &[u16], width: usize, protect: bool, row: usize)
     requires { ⌜ Width width × ((length (now page) ≡ 24 * width) × ((length (now rows) ≡ 48) × (row < 24))) ⌝ }
-    ensures { λ r. ⌜ now (rows .exit) ≡ set (set (now (rows .entry)) (2 * row) (openCount (rowAt width (guardedAt protect (now (page .entry))) row))) (2 * row + 1) (firstColumn (rowAt width (guardedAt protect (now (page .entry))) row)) ⌝ }
+    ensures { λ r. ⌜ now (rows .exit)
+        ≡ set (set (now (rows .entry)) (2 * row) (openCount (rowAt width (guardedAt protect (now (page .entry))) row))) (2 * row + 1)
+        (firstColumn (rowAt width (guardedAt protect (now (page .entry))) row)) ⌝ }
 {
     let from = row * width;
     let to = from + width;
@@ -66,7 +68,9 @@ pub fn recount(
     top: usize,
     bottom: usize,
 )
-    requires { ⌜ Width width × ((length (now page) ≡ 24 * width) × ((length (now rows) ≡ 48) × ((top ≤ bottom) × ((bottom ≤ 24) × AllBut width (guardedAt protect (now page)) (now rows) top bottom)))) ⌝ }
+    requires { ⌜ Width width
+        × ((length (now page) ≡ 24 * width)
+        × ((length (now rows) ≡ 48) × ((top ≤ bottom) × ((bottom ≤ 24) × AllBut width (guardedAt protect (now page)) (now rows) top bottom)))) ⌝ }
     ensures { λ r. ⌜ now (rows .exit) ≡ rowList width (guardedAt protect (now (page .entry))) ⌝ }
 {
     let mut row = top;
@@ -131,7 +135,8 @@ fn row_with_room(rows: &[u16], from: usize, bottom: usize) -> usize
 
 // The first open cell from `from` up to the end of its row, or that end.
 fn first_in_row(page: &[u16], rows: &[u16], width: usize, protect: bool, from: usize) -> usize
-    requires { ⌜ Width width × ((length (now page) ≡ 24 * width) × ((now rows ≡ rowList width (guardedAt protect (now page))) × (from < 24 * width))) ⌝ }
+    requires { ⌜ Width width
+        × ((length (now page) ≡ 24 * width) × ((now rows ≡ rowList width (guardedAt protect (now page))) × (from < 24 * width))) ⌝ }
     ensures { λ r. ⌜ r ≡ firstIn (others (guardedAt protect (now (page .entry)))) from (rowEnd width from) ⌝ }
 {
     let stop = row_end(width, from);
@@ -155,7 +160,9 @@ fn first_open(
     from: usize,
     bottom: usize,
 ) -> usize
-    requires { ⌜ Width width × ((length (now page) ≡ 24 * width) × ((now rows ≡ rowList width (guardedAt protect (now page))) × ((from < bottom * width) × (bottom ≤ 24)))) ⌝ }
+    requires { ⌜ Width width
+        × ((length (now page) ≡ 24 * width)
+        × ((now rows ≡ rowList width (guardedAt protect (now page))) × ((from < bottom * width) × (bottom ≤ 24)))) ⌝ }
     ensures { λ r. ⌜ r ≡ firstIn (others (guardedAt protect (now (page .entry)))) from (bottom * width) ⌝ }
 {
     let here = first_in_row(page, rows, width, protect, from);
@@ -181,7 +188,10 @@ pub fn settle_rows(
     end: usize,
     from: usize,
 ) -> usize
-    requires { ⌜ Width width × ((length (now page) ≡ 24 * width) × ((now rows ≡ rowList width (guardedAt protect (now page))) × ((first < end) × ((from < end) × ((end ≤ 24 * width) × (end / width * width ≡ end)))))) ⌝ }
+    requires { ⌜ Width width
+        × ((length (now page) ≡ 24 * width)
+        × ((now rows ≡ rowList width (guardedAt protect (now page)))
+        × ((first < end) × ((from < end) × ((end ≤ 24 * width) × (end / width * width ≡ end)))))) ⌝ }
     ensures { λ r. ⌜ r ≡ settled (guardedAt protect (now (page .entry))) first end from ⌝ }
 {
     let bottom = row_of(width, end);

@@ -6,7 +6,8 @@ ghost use lib.Dec.{eqb};
 ghost use lib.ListN.{length, getD};
 ghost use Rattle.rules.specs.Cell.{either};
 ghost use Rattle.rules.specs.Row.{Width, rowEnd};
-ghost use Rattle.rules.specs.Search.{guardedAt, soughtAt, firstIn, lastIn, around, aroundBack, settled, previousOpen, nextField, previousField, nextTab, previousTab, editEnd};
+ghost use Rattle.rules.specs.Search.{guardedAt, soughtAt, firstIn, lastIn, around, aroundBack, settled, previousOpen, nextField, previousField};
+ghost use Rattle.rules.specs.Search.{nextTab, previousTab, editEnd};
 use crate::cell::is_guarded;
 use rules::Sought;
 
@@ -153,7 +154,9 @@ fn are_guarded(page: &[u16], protect: bool, at: usize) -> bool
 // A cell near the first open one from `from` up to `end`: guarded cells are passed by eights.
 fn near_open(page: &[u16], protect: bool, from: usize, end: usize) -> usize
     requires { ⌜ (from ≤ end) × (end ≤ length (now page)) ⌝ }
-    ensures { λ r. ⌜ (r ≤ end) × (firstIn (soughtAt Sought.Open (guardedAt protect (now (page .entry)))) from end ≡ firstIn (soughtAt Sought.Open (guardedAt protect (now (page .entry)))) r end) ⌝ }
+    ensures { λ r. ⌜ (r ≤ end)
+        × (firstIn (soughtAt Sought.Open (guardedAt protect (now (page .entry)))) from end
+        ≡ firstIn (soughtAt Sought.Open (guardedAt protect (now (page .entry)))) r end) ⌝ }
 {
     let mut at = from;
     while at + 8 <= end {

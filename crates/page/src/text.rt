@@ -25,7 +25,8 @@ pub struct Sent {
 // ESC M: the cell's byte at the front of the room, or none.
 pub fn send_cell(room: &mut [u8], page: &[u16], protect: bool, at: usize) -> Sent
     requires { ⌜ (at < length (now page)) × ((length (now page) ≤ wideCells) × (0 < length (now room))) ⌝ }
-    ensures { λ r. ⌜ stands (now (room .exit)) (r .replied) (r .left) ≡ gone (each Short.Cell 0 (openCell protect (getD (now (page .entry)) at 0))) 0 (now (room .entry)) ⌝ }
+    ensures { λ r. ⌜ stands (now (room .exit)) (r .replied) (r .left)
+        ≡ gone (each Short.Cell 0 (openCell protect (getD (now (page .entry)) at 0))) 0 (now (room .entry)) ⌝ }
 {
     if is_guarded(protect, page[at]) {
         return Sent {
@@ -43,7 +44,8 @@ pub fn send_cell(room: &mut [u8], page: &[u16], protect: bool, at: usize) -> Sen
 // The bytes of a short reply from the place `from` on, at the front of the room, as many as fit.
 pub fn send_bytes(room: &mut [u8], bytes: &[u8], reply: Short, from: u8) -> Sent
     requires { ⌜ (from ≤ length (now bytes)) × (length (now bytes) ≤ 255) ⌝ }
-    ensures { λ r. ⌜ stands (now (room .exit)) (r .replied) (r .left) ≡ gone (each reply from (drop from (now (bytes .entry)))) 0 (now (room .entry)) ⌝ }
+    ensures { λ r. ⌜ stands (now (room .exit)) (r .replied) (r .left)
+        ≡ gone (each reply from (drop from (now (bytes .entry)))) 0 (now (room .entry)) ⌝ }
 {
     let mut n = 0;
     let mut i = from as usize;
@@ -210,7 +212,8 @@ fn send_rows(
     from: usize,
 ) -> Sent
     requires { ⌜ Width width × ((from < to) × ((to ≤ length (now page)) × ((length (now page) ≡ 24 * width) × (start ≤ length (now room))))) ⌝ }
-    ensures { λ r. ⌜ stands (now (room .exit)) (r .replied) (r .left) ≡ gone (textAt width (now (page .entry)) to all segment (Place.Cell from)) start (now (room .entry)) ⌝ }
+    ensures { λ r. ⌜ stands (now (room .exit)) (r .replied) (r .left)
+        ≡ gone (textAt width (now (page .entry)) to all segment (Place.Cell from)) start (now (room .entry)) ⌝ }
 {
     let mut replied = start;
     let mut at = from;
@@ -252,7 +255,8 @@ pub fn send_text(
     at: Place,
 ) -> Sent
     requires { ⌜ Width width × (GoodAt width to at × ((to ≤ length (now page)) × ((length (now page) ≡ 24 * width) × (0 < length (now room))))) ⌝ }
-    ensures { λ r. ⌜ stands (now (room .exit)) (r .replied) (r .left) ≡ gone (textAt width (now (page .entry)) to all segment at) 0 (now (room .entry)) ⌝ }
+    ensures { λ r. ⌜ stands (now (room .exit)) (r .replied) (r .left)
+        ≡ gone (textAt width (now (page .entry)) to all segment at) 0 (now (room .entry)) ⌝ }
 {
     match at {
         Place::Cell(i) => send_rows(room, 0, page, width, to, all, segment, i as usize),

@@ -1,6 +1,7 @@
 // The forms of plans.
 ghost use mathlib.Core.Path.{_≡_};
-ghost use Rattle.rules.specs.Plan.{refusing as refusingOf, plain as plainOf, writingTwo, writing as writingOf, settling as settlingOf, replying as replyingOf, changing as changingOf};
+ghost use Rattle.rules.specs.Plan.{refusing as refusingOf, plain as plainOf, writingTwo, writing as writingOf, settling as settlingOf};
+ghost use Rattle.rules.specs.Plan.{replying as replyingOf, changing as changingOf};
 use rules::Answer;
 use rules::Core;
 use rules::Land;

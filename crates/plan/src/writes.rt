@@ -8,7 +8,8 @@ ghost use Rattle.rules.specs.Search.{guardedAt};
 ghost use Rattle.rules.specs.Cell.{normal, written, space};
 ghost use Rattle.rules.specs.Arguments.{attributeOf};
 ghost use Rattle.rules.specs.State.{Inside, pageLength, cursorOf};
-ghost use Rattle.rules.specs.Plan.{unlessGuarded, writing as writingOf, storing as storingOf, advancing as advancingOf, storePlan, takesCell, attributePlan, rowEditPlan, editPlan, clearPlan};
+ghost use Rattle.rules.specs.Plan.{unlessGuarded, writing as writingOf, storing as storingOf, advancing as advancingOf, storePlan, takesCell};
+ghost use Rattle.rules.specs.Plan.{attributePlan, rowEditPlan, editPlan, clearPlan};
 use super::forms::plain;
 use super::forms::refusing;
 use super::forms::writing;
@@ -133,7 +134,8 @@ pub fn plan_attribute(page: &[u16], core: Core, a: u8) -> Plan
 // ESC Q and ESC W: the edit run moves by one cell and a space comes in.
 fn edit_cells(page: &[u16], core: Core, right: bool) -> Plan
     requires { ⌜ (length (now page) ≡ pageLength (core .screen)) × Inside (core .screen) ⌝ }
-    ensures { λ r. ⌜ r ≡ unlessGuarded (guardedAt (core .modes .protect) (now (page .entry))) core (writingOf core (Write.Edit right (cursorOf (core .screen)) space) Land.Stay) ⌝ }
+    ensures { λ r. ⌜ r ≡ unlessGuarded (guardedAt (core .modes .protect) (now (page .entry))) core
+        (writingOf core (Write.Edit right (cursorOf (core .screen)) space) Land.Stay) ⌝ }
 {
     let x = core.screen;
     let at = cursor_of(x);

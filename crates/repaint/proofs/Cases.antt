@@ -6,11 +6,13 @@ use Rattle.rules.specs.Row.{columns, rowEnd}
 use Rattle.rules.specs.Search.{whichCells, others, startsFrom, firstIn, lastIn, around, aroundBack}
 use Rattle.rules.specs.Change.{within, filled}
 use Rattle.rules.specs.State.{segmentTop, segmentBottom, cursorOf, withCursor, changed, sendingAfter, gatheredAfter, setupAfter}
-use Rattle.rules.specs.Possible.{powerOn, unsplitOk, splitOk, screenOk, attributesOk, featuresOk, pendingOk, rememberedOk, sendingOk, noStops, coreOk, setupOk, possible, good}
+use Rattle.rules.specs.Possible.{powerOn, unsplitOk, splitOk, screenOk, attributesOk, featuresOk, pendingOk, rememberedOk, sendingOk, noStops, coreOk}
+use Rattle.rules.specs.Possible.{setupOk, possible, good}
 use Rattle.rules.specs.Arguments.{isAttribute, attributeContents, attributeOf, featurePlace}
 use Rattle.rules.specs.Slot.{allText as allTextOf, textOk, textsOk}
 use Rattle.rules.specs.Decode.{lookup, idleRule, escapeRule, judged, digitRule, decimalRowRule, decimalColumnRule, argumentRule, decodeRule}
-use Rattle.rules.specs.Plan.{unlessGuarded, scrolls, addressPlan, movePlan, storing, advancing, storePlan, takesCell, attributePlan, sendPlan, planRule}
+use Rattle.rules.specs.Plan.{unlessGuarded, scrolls, addressPlan, movePlan, storing, advancing, storePlan, takesCell, attributePlan, sendPlan}
+use Rattle.rules.specs.Plan.{planRule}
 use Rattle.rules.specs.Carry.{applied, landed, done, begun, carried}
 use Rattle.rules.specs.Step.{obeyed, innerRule, stepInside, stepRule}
 use Rattle.rules.specs.Calls.{joined, repeated, runRule}
@@ -18,7 +20,8 @@ use Rattle.rules.specs.Room.{over}
 use Rattle.rules.specs.Fields.{pageWidth}
 use Rattle.repaint.specs.Pass.{pagesWidth, alike, equal, fits, turned, passed, finished}
 use Rattle.repaint.specs.Bytes.{powerOnAt, clean, paints}
-use Rattle.repaint.specs.Proposal.{lengthened, differing, attributeCode, cellBytes, cellsBytes, lastShown, startBytes, stretchBytes, stretchesBytes, isText, allText, served, proposeRule}
+use Rattle.repaint.specs.Proposal.{lengthened, differing, attributeCode, cellBytes, cellsBytes, lastShown, startBytes, stretchBytes}
+use Rattle.repaint.specs.Proposal.{stretchesBytes, isText, allText, served, proposeRule}
 use Rattle.repaint.specs.Cases.{WorkedProposals, WorkedBytes, shown, reversed, spaces, rowsFrom, WorkedSpans}
 use Rattle.repaint.proofs.Verdicts.{verdict}
 

@@ -18,7 +18,9 @@ use Rattle.rules.specs.declared.Personality.{Personality}
 use Rattle.rules.specs.Cell.{pick, both, code}
 use Rattle.rules.specs.Possible.{rememberedOk}
 use Rattle.rules.proofs.Tests.{pick-if, either-way}
-use Rattle.repaint.specs.Proposal.{Stretch, stretch, endsRow, lengthened, differing, attributeCode, cellBytes, cellsBytes, lastShown, startBytes, stretchBytes, stretchesBytes, stretches, rowsOf, columnsOf, lengthsOf, paintBytes, isText, allText, served}
+use Rattle.repaint.specs.Proposal.{Stretch, stretch, endsRow, lengthened, differing, attributeCode, cellBytes, cellsBytes, lastShown}
+use Rattle.repaint.specs.Proposal.{startBytes, stretchBytes, stretchesBytes, stretches, rowsOf, columnsOf, lengthsOf, paintBytes, isText}
+use Rattle.repaint.specs.Proposal.{allText, served}
 use Rattle.repaint.specs.Forward.{reach, stretchesFrom, oneOf, beyond, shownAfter, Put, SpansPut}
 
 spans-equal : (at x y : ℕ) (a b : List ℕ) → eqb x y ≡ true → differing at (x ∷ a) (y ∷ b) ≡ differing (suc at) a b
@@ -74,7 +76,8 @@ more-follow at v x y m a b t e f =
 follow : (at v : ℕ) (a b : List ℕ) → Follows at v (pick (endsRow at) 0 (reach (suc at) a b)) a b
 unfolding reach
 follow at v [] b =
-    pick-if (λ (m : ℕ). Follows at v m [] b) (endsRow at) (λ t. none-follow at v [] b (row-alone at v _ t)) (λ t. none-follow at v [] b (unfold lengthened differing in refl))
+    pick-if (λ (m : ℕ). Follows at v m [] b) (endsRow at) (λ t. none-follow at v [] b (row-alone at v _ t))
+    (λ t. none-follow at v [] b (unfold lengthened differing in refl))
 follow at v (x ∷ a) [] =
     pick-if (λ (m : ℕ). Follows at v m (x ∷ a) []) (endsRow at) (λ t. none-follow at v (x ∷ a) [] (row-alone at v _ t))
     (λ t. none-follow at v (x ∷ a) [] (unfold lengthened differing in refl))
@@ -151,7 +154,8 @@ turn a b at k size h e = by (either-way (eqb (getD a at 0) (getD b at 0)))
         let g : k ≡ reach at (x ∷ drop (suc at) a) (y ∷ drop (suc at) b) = e ∙ ap₂ (reach at) p q in
         let some : 0 < k = stretched at x y _ _ z g in
         let d = spans-stretch at x y k (drop (suc at) a) (drop (suc at) b) z g in
-        let f : differing at (drop at a) (drop at b) ≡ stretch at (take k (drop at b)) ∷ differing (at + k) (drop k (drop at a)) (drop k (drop at b)) =
+        let f : differing at (drop at a) (drop at b) ≡ stretch at (take k (drop at b))
+        ∷ differing (at + k) (drop k (drop at a)) (drop k (drop at b)) =
         rw (p, q) d in
         rw (one-some at k b some, ne-eqb k 0 (λ w. omega (arith, some, w))) (f ∙ rw (drop-drop k at a, drop-drop k at b))
 
@@ -183,7 +187,8 @@ text-next m p i h = rw (add-one i, drop-cons p i 0 h)
 pub text-stops : (m : Personality) (p : List ℕ) (i : ℕ) → i < length p → isText m (getD p i 0) ≡ false → allText m (drop i p) ≡ false
 text-stops m p i h e = text-next m p i h ∙ rw e
 
-pub text-goes : (m : Personality) (p : List ℕ) (i : ℕ) → i < length p → isText m (getD p i 0) ≡ true → allText m (drop (i + 1) p) ≡ allText m (drop i p)
+pub text-goes : (m : Personality) (p : List ℕ) (i : ℕ) → i < length p → isText m (getD p i 0) ≡ true
+    → allText m (drop (i + 1) p) ≡ allText m (drop i p)
 text-goes m p i h e = sym (text-next m p i h ∙ rw e)
 
 pub text-ends : (m : Personality) (p : List ℕ) (i : ℕ) → length p ≤ i → allText m (drop i p) ≡ true
@@ -215,7 +220,8 @@ module _ (m : Personality) (a b : List ℕ) where
 
 -- ---- a cell's bytes
 
-pub text-made : (m : Personality) (v : ℕ) {r x y : Bool} → r ≡ both x y → x ≡ rememberedOk m (v / 1024) → y ≡ both (leb 0x20 (v % 1024)) (ltb (v % 1024) 0x7f)
+pub text-made : (m : Personality) (v : ℕ) {r x y : Bool} → r ≡ both x y → x ≡ rememberedOk m (v / 1024)
+    → y ≡ both (leb 0x20 (v % 1024)) (ltb (v % 1024) 0x7f)
     → r ≡ isText m v
 unfolding isText
 text-made m v e f g = e ∙ ap₂ both f g
@@ -241,7 +247,8 @@ module _ (a v : ℕ) where
     pub put-same : v / 1024 ≡ a → Put n (v % 128 ∷ []) w r w′ → Put n (cellBytes a v) w r w′
     put-same e p = subst (λ (l : List ℕ). Put n l w r w′) (sym (cell-same e)) p
 
-    pub put-other : {x : ℕ} → (v / 1024 ≡ a → ⊥) → x ≡ attributeCode (v / 1024) → Put n (0x1b ∷ 0x47 ∷ x ∷ v % 128 ∷ []) w r w′ → Put n (cellBytes a v) w r w′
+    pub put-other : {x : ℕ} → (v / 1024 ≡ a → ⊥) → x ≡ attributeCode (v / 1024) → Put n (0x1b ∷ 0x47 ∷ x ∷ v % 128 ∷ []) w r w′
+        → Put n (cellBytes a v) w r w′
     put-other e f p =
         subst (λ (l : List ℕ). Put n l w r w′) (sym (cell-other e)) (subst (λ (y : ℕ). Put n (0x1b ∷ 0x47 ∷ y ∷ v % 128 ∷ []) w r w′) f p)
 
@@ -304,7 +311,8 @@ module _ {part w₀ : List ℕ} {start first i n a : ℕ} {w : List ℕ} (c : Ce
 module _ (b : List ℕ) (at k n : ℕ) (x y z : List ℕ) where
   pub span-none : k ≡ 0 → SpansPut n (oneOf at k b) x y z n x y z
   span-none e =
-      subst (λ (l : List Stretch). SpansPut n l x y z n x y z) (sym (one-none at k b e)) (record { rows = put-none n x; columns = put-none n y; lengths = put-none n z })
+      subst (λ (l : List Stretch). SpansPut n l x y z n x y z) (sym (one-none at k b e))
+      (record { rows = put-none n x; columns = put-none n y; lengths = put-none n z })
 
   pub span-some : (r : ℕ) → 0 < k → at + k ≤ length b → r ≡ n + 1
       → SpansPut n (oneOf at k b) x y z r (set x n (at / 80 + 1)) (set y n (at % 80 + 1)) (set z n k)
@@ -422,7 +430,8 @@ reach-short at (x ∷ a) (y ∷ b) =
     pick-if (λ (n : ℕ). n ≤ suc (length a)) (eqb x y) (λ e. omega arith)
     (λ e. pick-if (λ (n : ℕ). suc n ≤ suc (length a)) (endsRow at) (λ t. omega arith) (λ t. omega arith))
 
-module _ (a b : List ℕ) (la : length a ≡ 1920) (lb : length b ≡ 1920) (at to : ℕ) (h : at < 1920) (e : to ≡ at + reach at (drop at a) (drop at b)) where
+module _ (a b : List ℕ) (la : length a ≡ 1920) (lb : length b ≡ 1920) (at to : ℕ) (h : at < 1920)
+    (e : to ≡ at + reach at (drop at a) (drop at b)) where
   pub end-range : (at ≤ to) × (to ≤ 1920)
   end-range = omega (arith, reach-short at (drop at a) (drop at b), length-drop at a)
 
@@ -468,14 +477,23 @@ module _ (a b : List ℕ) (la : length a ≡ 1920) (lb : length b ≡ 1920) (at 
         let p = ap (λ (l : List Stretch). length (stretchesBytes 0 l)) whole in
         let q = ap length (bytes-append 0 (g .done ++ one) rest) in
         let r = ap length (bytes-append 0 (g .done) one) in
-        omega (arith, p, q, r, length-append (stretchesBytes 0 (g .done ++ one)) (stretchesBytes (shownAfter 0 (g .done ++ one)) rest), length-append (stretchesBytes 0 (g .done)) (stretchesBytes (shownAfter 0 (g .done)) one))
+        omega (
+          arith,
+          p,
+          q,
+          r,
+          length-append (stretchesBytes 0 (g .done ++ one)) (stretchesBytes (shownAfter 0 (g .done ++ one)) rest),
+          length-append
+              (stretchesBytes 0 (g .done)) (stretchesBytes (shownAfter 0 (g .done)) one),
+        )
 
     pub bytes-fit : length (paintBytes a b) ≤ length o₀ → k + length (stretchesBytes c one) ≤ length o
     bytes-fit f =
         let s = ap (λ (q : ℕ). length (stretchesBytes q one)) (g .shown) in
         omega (arith, s, sized, g .bytes .place, g .long-o, f)
 
-    pub going-on : {next n′ k′ c′ : ℕ} {x′ y′ z′ o′ : List ℕ} → SpansPut n one x y z n′ x′ y′ z′ → Put k (stretchesBytes c one) o k′ o′ × (c′ ≡ shownAfter c one)
+    pub going-on : {next n′ k′ c′ : ℕ} {x′ y′ z′ o′ : List ℕ} → SpansPut n one x y z n′ x′ y′ z′
+        → Put k (stretchesBytes c one) o k′ o′ × (c′ ≡ shownAfter c one)
         → length x′ ≡ length x → length y′ ≡ length y → length z′ ≡ length z → length o′ ≡ length o → next ≡ beyond at (to - at)
         → Going a b x₀ y₀ z₀ o₀ next n′ k′ c′ x′ y′ z′ o′
     going-on {next} {n′} {k′} {c′} {x′} {y′} {z′} {o′} s p lx ly lz lo q = record {
@@ -487,7 +505,8 @@ module _ (a b : List ℕ) (la : length a ≡ 1920) (lb : length b ≡ 1920) (at 
         columns = subst (λ (l : List ℕ). Put 0 l y₀ n′ y′) (sym (columns-append (g .done) one)) (put-then (g .spans .columns) (s .columns));
         lengths = subst (λ (l : List ℕ). Put 0 l z₀ n′ z′) (sym (lengths-append (g .done) one)) (put-then (g .spans .lengths) (s .lengths));
       };
-      bytes = subst (λ (l : List ℕ). Put 0 l o₀ k′ o′) (sym (bytes-append 0 (g .done) one)) (put-then (g .bytes) (subst (λ (j : ℕ). Put k (stretchesBytes j one) o k′ o′) (g .shown) (p .0)));
+      bytes = subst (λ (l : List ℕ). Put 0 l o₀ k′ o′) (sym (bytes-append 0 (g .done) one))
+          (put-then (g .bytes) (subst (λ (j : ℕ). Put k (stretchesBytes j one) o k′ o′) (g .shown) (p .0)));
       shown = p .1 ∙ (ap (λ (j : ℕ). shownAfter j one) (g .shown) ∙ sym (shown-append 0 (g .done) one));
       long-x = lx ∙ g .long-x;
       long-y = ly ∙ g .long-y;
@@ -498,9 +517,13 @@ module _ (a b : List ℕ) (la : length a ≡ 1920) (lb : length b ≡ 1920) (at 
 pub going-done : {a b x₀ y₀ z₀ o₀ x y z o : List ℕ} {at n k c : ℕ} → length a ≡ 1920 → 1920 ≤ at → Going a b x₀ y₀ z₀ o₀ at n k c x y z o
     → SpansPut 0 (stretches a b) x₀ y₀ z₀ n x y z × Put 0 (paintBytes a b) o₀ k o
 going-done {a} {b} {x₀} {y₀} {z₀} {o₀} {x} {y} {z} {o} {at} {n} {k} {c} la h g =
-    let e : stretchesFrom a b at ≡ [] = ap (λ (l : List ℕ). differing at l (drop at b)) (drop-of-length-le a {i = at} (omega arith)) ∙ none-left at (drop at b) in
-    let f : g .done ≡ stretches a b = sym (append-nil (g .done)) ∙ (ap (λ (l : List Stretch). g .done ++ l) (sym e) ∙ g .is) in
-    (subst (λ (l : List Stretch). SpansPut 0 l x₀ y₀ z₀ n x y z) f (g .spans), subst (λ (l : List Stretch). Put 0 (stretchesBytes 0 l) o₀ k o) f (g .bytes))
+    let e : stretchesFrom a b at ≡ [] = ap (λ (l : List ℕ). differing at l (drop at b)) (drop-of-length-le a {i = at} (omega arith))
+    ∙ none-left at (drop at b) in
+    let f : g .done ≡ stretches a b = sym (append-nil (g .done)) ∙ (ap (λ (l : List Stretch). g .done ++ l) (sym e) ∙ g .is) in (
+      subst (λ (l : List Stretch). SpansPut 0 l x₀ y₀ z₀ n x y z) f (g .spans),
+      subst (λ (l : List Stretch). Put 0 (stretchesBytes 0 l) o₀ k o) f
+          (g .bytes),
+    )
   where
     none-left : (at : ℕ) (l : List ℕ) → differing at [] l ≡ []
     none-left at l = unfold differing in refl

@@ -134,7 +134,8 @@ module _ (b : ℕ) (bs p : List ℕ) (s : State) where
       → Clean (repeated (b ∷ bs) p s 0) (suc (length bs)) → Leads (repeated (b ∷ bs) p s 0 .page) (b ∷ bs) p s
   step-leads g tail c = by-send (either-way (sends (s .sending)))
     where
-      by-six : sends (s .sending) ≡ false → (eqb (o .answer) 6 ≡ true) ⊎ (eqb (o .answer) 6 ≡ false) → Leads (repeated (b ∷ bs) p s 0 .page) (b ∷ bs) p s
+      by-six : sends (s .sending) ≡ false → (eqb (o .answer) 6 ≡ true) ⊎ (eqb (o .answer) 6 ≡ false)
+          → Leads (repeated (b ∷ bs) p s 0 .page) (b ∷ bs) p s
       by-six u (inl f) = let z : _≡_ {A = ℕ} 6 0 = sym (ap (λ (r : Ran). r .answer) (stops u f)) ∙ c .answer in absurd (omega (arith, z))
       by-six u (inr f) =
           let k = joined-clean o rest (length bs) (subst (λ (r : Ran). Clean r (suc (length bs))) (goes u f) c) in
@@ -150,16 +151,21 @@ module _ (b : ℕ) (bs p : List ℕ) (s : State) where
   step-led q g e k =
       let u = outside g e in
       let f : eqb (o .answer) 6 ≡ false = ne-eqb (o .answer) 6 (λ z. omega (arith, e, z)) in
-      let j = goes u f in
-      (subst (λ (r : Ran). Clean r (suc (length bs))) (sym j) (clean-joined o rest (length bs) e (k .0)), ap (λ (r : Ran). r .page) j ∙ (joined-page o rest ∙ k .1))
+      let j = goes u f in (
+        subst (λ (r : Ran). Clean r (suc (length bs))) (sym j) (clean-joined o rest (length bs) e (k .0)),
+        ap (λ (r : Ran). r .page) j
+            ∙ (joined-page o rest ∙ k .1),
+      )
 
 -- ---- all of them
 
-pub leads-of : (bytes p : List ℕ) (s : State) → good p s ≡ true → Clean (repeated bytes p s 0) (length bytes) → Leads (repeated bytes p s 0 .page) bytes p s
+pub leads-of : (bytes p : List ℕ) (s : State) → good p s ≡ true → Clean (repeated bytes p s 0) (length bytes)
+    → Leads (repeated bytes p s 0 .page) bytes p s
 leads-of [] p s g c = unfold repeated in end s
 leads-of (b ∷ bs) p s g c = step-leads b bs p s g (λ k. leads-of bs (stepRule p s b 0 .page) (stepRule p s b 0 .state) (step-good p s b 0 g) k) c
 
-pub of-leads : {q bytes p : List ℕ} {s : State} → good p s ≡ true → Leads q bytes p s → Clean (repeated bytes p s 0) (length bytes) × (repeated bytes p s 0 .page ≡ q)
+pub of-leads : {q bytes p : List ℕ} {s : State} → good p s ≡ true → Leads q bytes p s
+    → Clean (repeated bytes p s 0) (length bytes) × (repeated bytes p s 0 .page ≡ q)
 of-leads g (end s) = unfold repeated in (record { answer = refl; taken = refl; refused = refl }, refl)
 of-leads {q} g (byte b bs p s e l) = step-led b bs p s q g e (of-leads (step-good p s b 0 g) l)
 
@@ -200,7 +206,8 @@ equal-lists (x ∷ a) (y ∷ b) e h =
 equal-same : (a b : List ℕ) → length a ≡ length b → equal a b 0 (length b) ≡ same a b
 equal-same a b e = by (either-way (equal a b 0 (length b))) (either-way (same a b))
   where
-    by : (equal a b 0 (length b) ≡ true) ⊎ (equal a b 0 (length b) ≡ false) → (same a b ≡ true) ⊎ (same a b ≡ false) → equal a b 0 (length b) ≡ same a b
+    by : (equal a b 0 (length b) ≡ true) ⊎ (equal a b 0 (length b) ≡ false) → (same a b ≡ true) ⊎ (same a b ≡ false)
+        → equal a b 0 (length b) ≡ same a b
     by (inl t) s =
         let q : a ≡ b = equal-lists a b e (λ i l. same-means a b 0 (length b) t .1 i (omega arith) l) in
         t ∙ sym (ap (λ (z : List ℕ). same z b) q ∙ same-refl b)
@@ -249,7 +256,8 @@ copy-step a b i h k q =
     let e : length (take i a) ≡ i = omega (arith, length-take i a) in
     let t : take (suc i) a ++ drop (suc i) b ≡ take i a ++ getD a i 0 ∷ drop (suc i) b =
     ap (λ (z : List ℕ). z ++ drop (suc i) b) (take-suc a i 0 h) ∙ append-snoc (take i a) (getD a i 0) (drop (suc i) b) in
-    ap (λ (z : List ℕ). set z i (getD a i 0)) q ∙ rw (drop-cons b i 0 k, add-one i) (set-at (take i a) (getD b i 0) (drop (suc i) b) (getD a i 0) i e ∙ sym t)
+    ap (λ (z : List ℕ). set z i (getD a i 0)) q
+    ∙ rw (drop-cons b i 0 k, add-one i) (set-at (take i a) (getD b i 0) (drop (suc i) b) (getD a i 0) i e ∙ sym t)
 
 pub copy-done : (a b : List ℕ) {c : List ℕ} (i : ℕ) → length a ≤ i → i ≤ length a → c ≡ take i a ++ drop i b → c ≡ over a b
 unfolding over
@@ -265,7 +273,8 @@ unfolding clean
 clean-made o l n k f en ek ef = rw (en, ek, ef)
 
 -- what the run leaves, and what is compared
-pub paints-made : (m : Personality) (wide : Bool) (a b bytes : List ℕ) {p q : List ℕ} {s : State} {room n k f : ℕ} {c e r : Bool} → length a ≡ length b
+pub paints-made : (m : Personality) (wide : Bool) (a b bytes : List ℕ) {p q : List ℕ} {s : State} {room n k f : ℕ} {c e r : Bool}
+    → length a ≡ length b
     → p ≡ a → s ≡ powerOnAt wide m → room ≡ 0
     → n ≡ runRule p s bytes room .answer → k ≡ runRule p s bytes room .taken → f ≡ runRule p s bytes room .refused → q ≡ runRule p s bytes room .page
     → c ≡ both (eqb n 0) (both (eqb k (length bytes)) (eqb f 0)) → e ≡ equal q b 0 (length b) → r ≡ both c e → r ≡ paints m wide a b bytes

@@ -55,7 +55,8 @@ module _ (a b : List ℕ) (size : length a ≡ 1920) where
       by h (inl z) = inr (λ k q. let y : at ≡ k = omega (arith, z, q) in subst Same y e)
       by h (inr z) = l (omega (arith, h, z))
 
-  head-alone : (at v : ℕ) (ss : List Span) → (Same at → ⊥) → (suc at % 80 ≡ 0) ⊎ Same (suc at) → AllLongest ss → Head at (spanOf (stretch at (v ∷ [])) ∷ ss)
+  head-alone : (at v : ℕ) (ss : List Span) → (Same at → ⊥) → (suc at % 80 ≡ 0) ⊎ Same (suc at) → AllLongest ss
+      → Head at (spanOf (stretch at (v ∷ [])) ∷ ss)
   head-alone at v ss n t r =
       let f = first-of (stretch at (v ∷ [])) in
       some (record { differs = λ k c e. n (subst Same (here k c) e); right = right t }) (λ h. absurd (omega (arith, f, h))) r
@@ -91,7 +92,8 @@ module _ (a b : List ℕ) (size : length a ≡ 1920) where
           let d : suc at % 80 + 1 + length (s .cells) ≡ 81 = rw q at w in
           inl (omega (arith, c, d))
       right (inr w) =
-          let y : after 80 (spanOf s) ≡ after 80 (spanOf (stretch at (v ∷ s .cells))) = omega (arith, first-of (stretch at (v ∷ s .cells)), first-of s, q) in
+          let y : after 80 (spanOf s)
+          ≡ after 80 (spanOf (stretch at (v ∷ s .cells))) = omega (arith, first-of (stretch at (v ∷ s .cells)), first-of s, q) in
           inr (subst Same y w)
 
   -- a first span that begins later, or first in its row, is longest too
@@ -112,7 +114,8 @@ module _ (a b : List ℕ) (size : length a ≡ 1920) where
     later : suc at < first 80 (spanOf s) → Same (suc at) → Behind at s
     turned : suc at % 80 ≡ 0 → (suc at < first 80 (spanOf s)) ⊎ (spanOf s .column ≡ 1) → Behind at s
 
-  behind : (at : ℕ) (s : Stretch) (ss : List Span) → both (eqb (s .start) (suc at)) (not (endsRow at)) ≡ false → Run 80 a b (suc at) (spanOf s ∷ ss) → Behind at s
+  behind : (at : ℕ) (s : Stretch) (ss : List Span) → both (eqb (s .start) (suc at)) (not (endsRow at)) ≡ false → Run 80 a b (suc at) (spanOf s ∷ ss)
+      → Behind at s
   behind at s ss t (more f l x r) = by (either-way (eqb (s .start) (suc at))) (either-way (endsRow at))
     where
       by : (eqb (s .start) (suc at) ≡ true) ⊎ (eqb (s .start) (suc at) ≡ false) → (endsRow at ≡ true) ⊎ (endsRow at ≡ false) → Behind at s
@@ -171,4 +174,5 @@ module _ (a b : List ℕ) (size : length a ≡ 1920) where
     at-index (s ∷ ss) (suc i) h (each x r) = at-index ss i (omega arith) r
 
     pub longest-spans : (i : ℕ) → i < length (map spanOf (differing 0 a b)) → Longest a b (spanAt (map spanOf (differing 0 a b)) i)
-    longest-spans i h = at-index (map spanOf (differing 0 a b)) i h (all-first _ (differing-run a b size alike 1920 0 refl) (differing-head 1920 0 refl))
+    longest-spans i h = at-index (map spanOf (differing 0 a b)) i h
+        (all-first _ (differing-run a b size alike 1920 0 refl) (differing-head 1920 0 refl))

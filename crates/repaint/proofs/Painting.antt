@@ -43,14 +43,16 @@ use Rattle.rules.specs.Change.{within, filled}
 use Rattle.rules.specs.Possible.{powerOn, rememberedOk, good}
 use Rattle.rules.specs.Arguments.{isAttribute, attributeOf}
 use Rattle.rules.specs.Decode.{decodeRule, idleRule, escapeRule, lookup, judged, argumentRule}
-use Rattle.rules.specs.Plan.{settling, writing, addressPlan, movePlan, unlessGuarded, storing, advancing, storePlan, takesCell, attributePlan, planRule}
+use Rattle.rules.specs.Plan.{settling, writing, addressPlan, movePlan, unlessGuarded, storing, advancing, storePlan, takesCell, attributePlan}
+use Rattle.rules.specs.Plan.{planRule}
 use Rattle.rules.specs.Carry.{quiet, applied, landed, done, carried}
 use Rattle.rules.specs.Step.{Outcome, outcomeOf, obeyed, innerRule, stepRule}
 use Rattle.rules.proofs.Tests.{pick-if, both-parts, both-true, either-way, either-second}
 use Rattle.rules.proofs.Kept.{step-good}
 use Rattle.rules.proofs.Searching.{hit, around-here, length-guards, length-others, guard-at, open-at}
 use Rattle.repaint.specs.Bytes.{powerOnAt, Leads, end, byte, AcceptsBytes}
-use Rattle.repaint.specs.Proposal.{Stretch, stretch, endsRow, lengthened, differing, shownAs, attributeCode, cellBytes, cellsBytes, lastShown, startBytes, stretchBytes, stretchesBytes, isText, allText, served, paintBytes}
+use Rattle.repaint.specs.Proposal.{Stretch, stretch, endsRow, lengthened, differing, shownAs, attributeCode, cellBytes, cellsBytes, lastShown}
+use Rattle.repaint.specs.Proposal.{startBytes, stretchBytes, stretchesBytes, isText, allText, served, paintBytes}
 use Rattle.repaint.specs.Theorems.{Served}
 use Rattle.repaint.proofs.Leading.{on-good}
 
@@ -70,7 +72,8 @@ fed-append : {a b p q r : List ℕ} {s t z : State} → Fed a p s q t → Fed b 
 fed-append none y = y
 fed-append (next u e x) y = next u e (fed-append x y)
 
-step-fed : (b : ℕ) (p q : List ℕ) (s t : State) → good p s ≡ true → sends (s .sending) ≡ false → inner p s b ≡ quietly q t → stepRule p s b 0 ≡ quietly q t
+step-fed : (b : ℕ) (p q : List ℕ) (s t : State) → good p s ≡ true → sends (s .sending) ≡ false → inner p s b ≡ quietly q t
+    → stepRule p s b 0 ≡ quietly q t
 unfolding stepRule
 step-fed b p q s t g u e = rw (g, u) e
 
@@ -114,7 +117,8 @@ one-filled v p i h =
 
 module _ (g : List ℕ) (u : Setup) where
   module _ (m : Personality) {a i : ℕ} {q : Pending} {p : List ℕ} (b : ℕ) (h : b < 128) where
-    waits : {bs r : List ℕ} {z : State} {w : Pending} → decodeRule q b ≡ Decoded.Wait w → Fed bs p (stateAt g u m a i w) r z → Fed (b ∷ bs) p (stateAt g u m a i q) r z
+    waits : {bs r : List ℕ} {z : State} {w : Pending} → decodeRule q b ≡ Decoded.Wait w → Fed bs p (stateAt g u m a i w) r z
+        → Fed (b ∷ bs) p (stateAt g u m a i q) r z
     unfolding innerRule obeyed sendingAfter gatheredAfter setupAfter changed
     waits {w = w} e f =
         let j : inner p (stateAt g u m a i q) b ≡ quietly p (stateAt g u m a i w) = rw (lt-ltb b 128 h, e) in
@@ -129,7 +133,8 @@ module _ (g : List ℕ) (u : Setup) where
     abbrev k : ℕ
     k = 0x20 + columnOf 80 at
 
-    address : planRule (guardedAt false p) (u .tabs) (coreAt m a i Pending.Idle) (Command.Go (Move.Address r k)) ≡ settling (coreAt m a i Pending.Idle) at
+    address : planRule (guardedAt false p) (u .tabs) (coreAt m a i Pending.Idle) (Command.Go (Move.Address r k))
+        ≡ settling (coreAt m a i Pending.Idle) at
     unfolding planRule movePlan addressPlan segmentTop segmentBottom columns
     address =
         let t : among 0x20 24 r ≡ true = both-true (le-leb 0x20 r (omega arith)) (lt-ltb r 0x38 (omega arith)) in
@@ -144,7 +149,8 @@ module _ (g : List ℕ) (u : Setup) where
     goes : Fed (k ∷ []) p (stateAt g u m a i (Pending.AddressRow r)) p (stateAt g u m a at Pending.Idle)
     unfolding innerRule obeyed decodeRule sendingAfter gatheredAfter setupAfter changed
     goes =
-        let j : inner p (stateAt g u m a i (Pending.AddressRow r)) k ≡ quietly p (stateAt g u m a at Pending.Idle) = rw (lt-ltb k 128 (omega arith), address, settles) in
+        let j : inner p (stateAt g u m a i (Pending.AddressRow r)) k
+        ≡ quietly p (stateAt g u m a at Pending.Idle) = rw (lt-ltb k 128 (omega arith), address, settles) in
         next refl j none
 
     address-fed : Fed (startBytes at) p (stateAt g u m a i Pending.Idle) p (stateAt g u m a at Pending.Idle)
@@ -153,12 +159,16 @@ module _ (g : List ℕ) (u : Setup) where
 
   -- ---- ESC G, in WY-60
 
-  attribute-code : (a : ℕ) → a < 31 → (isAttribute (attributeCode a) ≡ true) × ((attributeOf (attributeCode a) ≡ a) × ((attributeCode a < 128) × (eqb (attributeCode a) 0x20 ≡ false)))
+  attribute-code : (a : ℕ) → a < 31
+      → (isAttribute (attributeCode a) ≡ true)
+      × ((attributeOf (attributeCode a) ≡ a) × ((attributeCode a < 128) × (eqb (attributeCode a) 0x20 ≡ false)))
   unfolding isAttribute attributeCode attributeOf
   attribute-code a h = by (either-way (ltb a 16))
     where
       by : (ltb a 16 ≡ true) ⊎ (ltb a 16 ≡ false)
-          → (either (eqb (pick (ltb a 16) (0x30 + a) (0x70 + (a - 16))) 0x20) (either (between 0x30 0x3f (pick (ltb a 16) (0x30 + a) (0x70 + (a - 16)))) (between 0x70 0x7e (pick (ltb a 16) (0x30 + a) (0x70 + (a - 16))))) ≡ true)
+          → (either (eqb (pick (ltb a 16) (0x30 + a) (0x70 + (a - 16))) 0x20)
+          (either (between 0x30 0x3f (pick (ltb a 16) (0x30 + a) (0x70 + (a - 16))))
+          (between 0x70 0x7e (pick (ltb a 16) (0x30 + a) (0x70 + (a - 16))))) ≡ true)
           × (((pick (ltb a 16) (0x30 + a) (0x70 + (a - 16))) % 16 + pick (ltb (pick (ltb a 16) (0x30 + a) (0x70 + (a - 16))) 0x70) 0 16 ≡ a)
           × ((pick (ltb a 16) (0x30 + a) (0x70 + (a - 16)) < 128) × (eqb (pick (ltb a 16) (0x30 + a) (0x70 + (a - 16))) 0x20 ≡ false)))
       by (inl e) =
@@ -169,21 +179,25 @@ module _ (g : List ℕ) (u : Setup) where
           rw (e, n, t, s) (refl, (omega arith, (omega arith, refl)))
       by (inr e) =
           let l = ltb-false a 16 e in
-          let t : between 0x70 0x7e (0x70 + (a - 16)) ≡ true = both-true (le-leb 0x70 (0x70 + (a - 16)) (omega arith)) (lt-ltb (0x70 + (a - 16)) 0x7f (omega arith)) in
+          let t : between 0x70 0x7e (0x70 + (a - 16))
+          ≡ true = both-true (le-leb 0x70 (0x70 + (a - 16)) (omega arith)) (lt-ltb (0x70 + (a - 16)) 0x7f (omega arith)) in
           let s : ltb (0x70 + (a - 16)) 0x70 ≡ false = le-ltb (0x70 + (a - 16)) 0x70 (omega arith) in
           let n : eqb (0x70 + (a - 16)) 0x20 ≡ false = ne-eqb (0x70 + (a - 16)) 0x20 (λ z. omega (arith, z)) in
           rw (e, n, t, s) (either-second (between 0x30 0x3f (0x70 + (a - 16))) refl, (omega arith, (omega arith, refl)))
 
   module _ (a i b : ℕ) (p : List ℕ) (h : b < 31) where
-    remembers : Fed (attributeCode b ∷ []) p (stateAt g u Personality.Wy60 a i (Pending.Awaits Argument.Attribute)) p (stateAt g u Personality.Wy60 b i Pending.Idle)
+    remembers : Fed (attributeCode b ∷ []) p (stateAt g u Personality.Wy60 a i (Pending.Awaits Argument.Attribute)) p
+        (stateAt g u Personality.Wy60 b i Pending.Idle)
     unfolding innerRule obeyed decodeRule argumentRule judged planRule attributePlan takesCell carried done landed applied sendingAfter gatheredAfter setupAfter changed
     remembers =
         let c = attribute-code b h in
-        let j : inner p (stateAt g u Personality.Wy60 a i (Pending.Awaits Argument.Attribute)) (attributeCode b) ≡ quietly p (stateAt g u Personality.Wy60 b i Pending.Idle) =
+        let j : inner p (stateAt g u Personality.Wy60 a i (Pending.Awaits Argument.Attribute)) (attributeCode b)
+        ≡ quietly p (stateAt g u Personality.Wy60 b i Pending.Idle) =
         rw (lt-ltb (attributeCode b) 128 (c .1 .1 .0), c .0, c .1 .1 .1, c .1 .0) in
         next refl j none
 
-    attribute-fed : Fed (0x1b ∷ 0x47 ∷ attributeCode b ∷ []) p (stateAt g u Personality.Wy60 a i Pending.Idle) p (stateAt g u Personality.Wy60 b i Pending.Idle)
+    attribute-fed : Fed (0x1b ∷ 0x47 ∷ attributeCode b ∷ []) p (stateAt g u Personality.Wy60 a i Pending.Idle) p
+        (stateAt g u Personality.Wy60 b i Pending.Idle)
     unfolding decodeRule idleRule escapeRule lookup
     attribute-fed = waits Personality.Wy60 0x1b (lit< tt) refl (waits Personality.Wy60 0x47 (lit< tt) refl remembers)
 
@@ -241,26 +255,31 @@ module _ (g : List ℕ) (u : Setup) where
   changes Personality.Wy50 a b e f n = absurd (eqb-false b a n (eqb-true b 0 f ∙ sym (eqb-true a 0 e)))
   changes Personality.Wy60 a b e f n = (refl, ltb-true b 31 f)
 
-  module _ (m : Personality) (a i y : ℕ) (p : List ℕ) (size : length p ≡ 1920) (h : i + 1 < 1920) (ok : rememberedOk m a ≡ true) (t : TextCell m y) where
+  module _ (m : Personality) (a i y : ℕ) (p : List ℕ) (size : length p ≡ 1920) (h : i + 1 < 1920) (ok : rememberedOk m a ≡ true)
+      (t : TextCell m y) where
     -- its byte, with its attribute remembered
     code-fed : Fed (code y ∷ []) p (stateAt g u m (shownAs y) i Pending.Idle) (set p i y) (stateAt g u m (shownAs y) (i + 1) Pending.Idle)
     code-fed =
-        subst (λ (v : ℕ). Fed (code y ∷ []) p (stateAt g u m (shownAs y) i Pending.Idle) (set p i v) (stateAt g u m (shownAs y) (i + 1) Pending.Idle)) (t .is)
+        subst (λ (v : ℕ). Fed (code y ∷ []) p (stateAt g u m (shownAs y) i Pending.Idle) (set p i v) (stateAt g u m (shownAs y) (i + 1) Pending.Idle))
+        (t .is)
         (text-fed m (shownAs y) i p size (code y) (t .low) (t .high) h)
 
     abbrev FedCell : List ℕ → Type 0
     FedCell bytes = Fed bytes p (stateAt g u m a i Pending.Idle) (set p i y) (stateAt g u m (shownAs y) (i + 1) Pending.Idle)
 
-    attributed : (m ≡ Personality.Wy60) × (shownAs y < 31) → Fed (0x1b ∷ 0x47 ∷ attributeCode (shownAs y) ∷ []) p (stateAt g u m a i Pending.Idle) p (stateAt g u m (shownAs y) i Pending.Idle)
+    attributed : (m ≡ Personality.Wy60) × (shownAs y < 31)
+        → Fed (0x1b ∷ 0x47 ∷ attributeCode (shownAs y) ∷ []) p (stateAt g u m a i Pending.Idle) p (stateAt g u m (shownAs y) i Pending.Idle)
     attributed k =
-        subst (λ (n : Personality). Fed (0x1b ∷ 0x47 ∷ attributeCode (shownAs y) ∷ []) p (stateAt g u n a i Pending.Idle) p (stateAt g u n (shownAs y) i Pending.Idle)) (sym (k .0))
+        subst (λ (n : Personality). Fed (0x1b ∷ 0x47 ∷ attributeCode (shownAs y) ∷ []) p (stateAt g u n a i Pending.Idle) p
+        (stateAt g u n (shownAs y) i Pending.Idle)) (sym (k .0))
         (attribute-fed a i (shownAs y) p (k .1))
 
     cell-fed : FedCell (cellBytes a y)
     unfolding cellBytes
     cell-fed =
         pick-if FedCell (eqb (shownAs y) a)
-        (λ e. subst (λ (n : ℕ). Fed (code y ∷ []) p (stateAt g u m n i Pending.Idle) (set p i y) (stateAt g u m (shownAs y) (i + 1) Pending.Idle)) (eqb-true (shownAs y) a e) code-fed)
+        (λ e. subst (λ (n : ℕ). Fed (code y ∷ []) p (stateAt g u m n i Pending.Idle) (set p i y) (stateAt g u m (shownAs y) (i + 1) Pending.Idle))
+        (eqb-true (shownAs y) a e) code-fed)
         (λ e. fed-append (attributed (changes m a (shownAs y) ok (t .remembered) e)) code-fed)
 
   -- ---- spans
@@ -271,7 +290,8 @@ module _ (g : List ℕ) (u : Setup) where
       place : ℕ
       fed : Fed bytes p (stateAt g u m a i Pending.Idle) q (stateAt g u m shown place Pending.Idle)
 
-    reaches-after : {x y p q r : List ℕ} {a b i k : ℕ} → Fed x p (stateAt g u m a i Pending.Idle) q (stateAt g u m b k Pending.Idle) → Reaches y q b k r → Reaches (x ++ y) p a i r
+    reaches-after : {x y p q r : List ℕ} {a b i k : ℕ} → Fed x p (stateAt g u m a i Pending.Idle) q (stateAt g u m b k Pending.Idle)
+        → Reaches y q b k r → Reaches (x ++ y) p a i r
     reaches-after x y = record { shown = y .shown; place = y .place; fed = fed-append x (y .fed) }
 
     -- a stretch begins at the cell
@@ -285,9 +305,13 @@ module _ (g : List ℕ) (u : Setup) where
       on : begins at t ≡ true → (a : ℕ) → rememberedOk m a ≡ true → Reaches (drop 4 (stretchesBytes a t)) p a at q
 
     opened : (at : ℕ) (cells : List ℕ) (l : List Stretch) (p q : List ℕ) → length p ≡ 1920 → at < 1920
-        → ((a : ℕ) → rememberedOk m a ≡ true → Reaches (cellsBytes a cells ++ stretchesBytes (lastShown a cells) l) p a at q) → Painting at (stretch at cells ∷ l) p q
+        → ((a : ℕ) → rememberedOk m a ≡ true → Reaches (cellsBytes a cells ++ stretchesBytes (lastShown a cells) l) p a at q)
+        → Painting at (stretch at cells ∷ l) p q
     unfolding stretchesBytes stretchBytes startBytes
-    opened at cells l p q size h r = record { any = λ a i ok. reaches-after (unfold startBytes in address-fed m a i p size at h) (r a ok); on = λ e a ok. r a ok }
+    opened at cells l p q size h r = record {
+      any = λ a i ok. reaches-after (unfold startBytes in address-fed m a i p size at h) (r a ok);
+      on = λ e a ok. r a ok;
+    }
 
     front : (a at x y : ℕ) (done cells rest q : List ℕ) (l : List Stretch) → length done ≡ at → suc at < 1920 → length (done ++ x ∷ rest) ≡ 1920
         → rememberedOk m a ≡ true → TextCell m y
@@ -298,7 +322,8 @@ module _ (g : List ℕ) (u : Setup) where
         let s : set (done ++ x ∷ rest) at y ≡ done ++ y ∷ rest = set-at done x rest y at e in
         let f = cell-fed m a at y (done ++ x ∷ rest) size (omega arith) ok t in
         let k : at + 1 ≡ suc at = omega arith in
-        rw (append-assoc (cellBytes a y) (cellsBytes (shownAs y) cells) (stretchesBytes (lastShown (shownAs y) cells) l)) (reaches-after (rw (s, k) at f) r)
+        rw (append-assoc (cellBytes a y) (cellsBytes (shownAs y) cells) (stretchesBytes (lastShown (shownAs y) cells) l))
+        (reaches-after (rw (s, k) at f) r)
 
     lengthened-paints : (at : ℕ) (done : List ℕ) (x y : ℕ) (a b : List ℕ) (t : List Stretch) → length done ≡ at → suc at < 1920
         → length (done ++ x ∷ a) ≡ 1920 → TextCell m y
@@ -306,7 +331,8 @@ module _ (g : List ℕ) (u : Setup) where
     unfolding lengthened
     lengthened-paints at done x y a b [] e h size c r =
         opened at (y ∷ []) [] (done ++ x ∷ a) (done ++ y ∷ b) size (omega arith)
-        (λ n ok. front n at x y done [] a (done ++ y ∷ b) [] e h size ok c (unfold cellsBytes lastShown in r .any (shownAs y) (suc at) (c .remembered)))
+        (λ n ok. front n at x y done [] a (done ++ y ∷ b) [] e h size ok c
+        (unfold cellsBytes lastShown in r .any (shownAs y) (suc at) (c .remembered)))
     lengthened-paints at done x y a b (s ∷ l) e h size c r =
         let p = done ++ x ∷ a in
         let q = done ++ y ∷ b in
@@ -336,22 +362,29 @@ module _ (g : List ℕ) (u : Setup) where
         → Painting (suc at) t (done ++ y ∷ a) (done ++ y ∷ b) → Painting at t (done ++ x ∷ a) (done ++ y ∷ b)
     equal-paints at x y done a b t e f r = rw e (record { any = r .any; on = λ z. absurd (false≢true (sym f ∙ z)) })
 
-    cell-paints : (rest : List ℕ) (at x y : ℕ) (done a b : List ℕ) → length done ≡ at → length a ≡ length b → 1 ≤ length rest → at + suc (length a) + length rest ≡ 1920
+    cell-paints : (rest : List ℕ) (at x y : ℕ) (done a b : List ℕ) → length done ≡ at → length a ≡ length b → 1 ≤ length rest
+        → at + suc (length a) + length rest ≡ 1920
         → isText m y ≡ true → Painting (suc at) (differing (suc at) a b) ((done ++ y ∷ []) ++ (a ++ rest)) ((done ++ y ∷ []) ++ (b ++ rest))
-        → Painting at (pick (eqb x y) (differing (suc at) a b) (lengthened at y (differing (suc at) a b))) (done ++ (x ∷ (a ++ rest))) (done ++ (y ∷ (b ++ rest)))
+        → Painting at (pick (eqb x y) (differing (suc at) a b) (lengthened at y (differing (suc at) a b))) (done ++ (x ∷ (a ++ rest)))
+        (done ++ (y ∷ (b ++ rest)))
     cell-paints rest at x y done a b e s r size h i =
         let k : Painting (suc at) (differing (suc at) a b) (done ++ y ∷ (a ++ rest)) (done ++ y ∷ (b ++ rest)) =
         rw (append-snoc done y (a ++ rest), append-snoc done y (b ++ rest)) at i in
         let whole : length (done ++ x ∷ (a ++ rest)) ≡ 1920 = omega (arith, length-append done (x ∷ (a ++ rest)), length-append a rest) in
         pick-if (λ (l : List Stretch). Painting at l (done ++ x ∷ (a ++ rest)) (done ++ y ∷ (b ++ rest))) (eqb x y)
-        (λ z. equal-paints at x y done (a ++ rest) (b ++ rest) (differing (suc at) a b) (eqb-true x y z) (begins-later at (suc at) a b (omega arith)) k)
+        (λ z. equal-paints at x y done (a ++ rest) (b ++ rest) (differing (suc at) a b) (eqb-true x y z)
+        (begins-later at (suc at) a b (omega arith)) k)
         (λ z. lengthened-paints at done x y (a ++ rest) (b ++ rest) (differing (suc at) a b) e (omega arith) whole (text-cell m y h) k)
 
     differing-paints : (rest : List ℕ) (at : ℕ) (done a b : List ℕ) → length done ≡ at → length a ≡ length b → 1 ≤ length rest
         → at + length a + length rest ≡ 1920 → allText m b ≡ true
         → Painting at (differing at a b) (done ++ (a ++ rest)) (done ++ (b ++ rest))
     unfolding differing allText stretchesBytes
-    differing-paints rest at done [] [] e s r size h = record { any = λ n i ok. record { shown = n; place = i; fed = none }; on = λ z. absurd (false≢true z) }
+    differing-paints rest at done [] [] e s r size h = record {
+      any = λ n i ok. record { shown = n; place = i; fed = none };
+      on = λ z. absurd
+          (false≢true z);
+    }
     differing-paints rest at done [] (y ∷ b) e s r size h = absurd (omega arith)
     differing-paints rest at done (x ∷ a) [] e s r size h = absurd (omega arith)
     differing-paints rest at done (x ∷ a) (y ∷ b) e s r size h =
@@ -408,18 +441,22 @@ module _ (m : Personality) where
   ended-painted : (a b : List ℕ) (z : ℕ) → length a ≡ 1919 → length b ≡ 1919 → allText m (b ++ z ∷ []) ≡ true
       → AcceptsBytes m false (a ++ z ∷ []) (b ++ z ∷ []) (paintBytes (a ++ z ∷ []) (b ++ z ∷ []))
   ended-painted a b z ea eb h =
-      let r = differing-paints (replicate 46 0) (powerOn m .setup) m (z ∷ []) 0 [] a b refl (omega arith) (omega arith) (omega arith) (text-front m b (z ∷ []) h)
+      let r = differing-paints (replicate 46 0) (powerOn m .setup) m (z ∷ []) 0 [] a b refl (omega arith) (omega arith) (omega arith)
+      (text-front m b (z ∷ []) h)
       .any 0 0 (remembers-normal m) in
       let size : length (a ++ z ∷ []) ≡ 24 * columns false = unfold columns in omega (arith, length-append a (z ∷ [])) in
       let g : good (a ++ z ∷ []) (stateAt (replicate 46 0) (powerOn m .setup) m 0 0 Pending.Idle) ≡ true =
       subst (λ (s : State). good (a ++ z ∷ []) s ≡ true) start (on-good false m (a ++ z ∷ []) size) in
       let l = fed-leads g (r .fed) in
-      let k : Leads (b ++ z ∷ []) (paintBytes (a ++ z ∷ []) (b ++ z ∷ [])) (a ++ z ∷ []) (stateAt (replicate 46 0) (powerOn m .setup) m 0 0 Pending.Idle) =
-      subst (λ (t : List Stretch). Leads (b ++ z ∷ []) (stretchesBytes 0 t) (a ++ z ∷ []) (stateAt (replicate 46 0) (powerOn m .setup) m 0 0 Pending.Idle))
+      let k : Leads (b ++ z ∷ []) (paintBytes (a ++ z ∷ []) (b ++ z ∷ [])) (a ++ z ∷ [])
+      (stateAt (replicate 46 0) (powerOn m .setup) m 0 0 Pending.Idle) =
+      subst (λ (t : List Stretch). Leads (b ++ z ∷ []) (stretchesBytes 0 t) (a ++ z ∷ [])
+      (stateAt (replicate 46 0) (powerOn m .setup) m 0 0 Pending.Idle))
       (sym (differing-last 0 a b z (omega arith))) l in
       subst (λ (s : State). Leads (b ++ z ∷ []) (paintBytes (a ++ z ∷ []) (b ++ z ∷ [])) (a ++ z ∷ []) s) (sym start) k
 
   pub painted : (a b : List ℕ) → served m a b ≡ true → AcceptsBytes m false a b (paintBytes a b)
   painted a b e =
       let s = served-parts m a b e in
-      by-last (λ (x y : List ℕ). allText m y ≡ true → AcceptsBytes m false x y (paintBytes x y)) ended-painted a b (s .from) (s .to) (s .last) (s .wanted)
+      by-last (λ (x y : List ℕ). allText m y ≡ true → AcceptsBytes m false x y (paintBytes x y)) ended-painted a b (s .from) (s .to) (s .last)
+      (s .wanted)

@@ -60,7 +60,8 @@ pub alike-equal : (a b : List ℕ) (k e : ℕ) → k < e → getD a k 0 ≡ getD
 alike-equal a b k e l n = sym (alike-some a b k e l ∙ rw (eq-eqb (getD a k 0) (getD b k 0) n))
 
 -- ---- a span that fits
-all-not : {p q r s t : Bool} {P Q R S T : Type 0} → (p ≡ true → P) → (q ≡ true → Q) → (r ≡ true → R) → (s ≡ true → S) → (t ≡ true → T) → (P → Q → R → S → T → ⊥) → false ≡ both p (both q (both r (both s t)))
+all-not : {p q r s t : Bool} {P Q R S T : Type 0} → (p ≡ true → P) → (q ≡ true → Q) → (r ≡ true → R) → (s ≡ true → S) → (t ≡ true → T)
+    → (P → Q → R → S → T → ⊥) → false ≡ both p (both q (both r (both s t)))
 all-not {p = false} f g h i j n = refl
 all-not {p = true} {q = false} f g h i j n = refl
 all-not {p = true} {q = true} {r = false} f g h i j n = refl
@@ -71,7 +72,8 @@ all-not {p = true} {q = true} {r = true} {s = true} {t = true} f g h i j n = abs
 module _ (w : ℕ) (s : Span) where
   pub fits-not : (1 ≤ s .row → s .row ≤ 24 → 1 ≤ s .column → 1 ≤ s .size → s .column + s .size ≤ w + 1 → ⊥) → false ≡ fits w s
   unfolding fits
-  fits-not n = all-not (leb-true 1 (s .row)) (leb-true (s .row) 24) (leb-true 1 (s .column)) (leb-true 1 (s .size)) (leb-true (s .column + s .size) (w + 1)) n
+  fits-not n = all-not (leb-true 1 (s .row)) (leb-true (s .row) 24) (leb-true 1 (s .column)) (leb-true 1 (s .size))
+      (leb-true (s .column + s .size) (w + 1)) n
 
   pub fits-is : 1 ≤ s .row → s .row ≤ 24 → 1 ≤ s .column → 1 ≤ s .size → leb (s .column + s .size) (w + 1) ≡ fits w s
   unfolding fits
@@ -91,7 +93,14 @@ fits-parts w s e =
     let q = both-parts (leb (s .row) 24) _ (p .1) in
     let r = both-parts (leb 1 (s .column)) _ (q .1) in
     let t = both-parts (leb 1 (s .size)) _ (r .1) in
-    record { top = leb-true _ _ (p .0); bottom = leb-true _ _ (q .0); left = leb-true _ _ (r .0); some = leb-true _ _ (t .0); right = leb-true _ _ (t .1) }
+    record {
+      top = leb-true _ _ (p .0);
+      bottom = leb-true _ _ (q .0);
+      left = leb-true _ _ (r .0);
+      some = leb-true _ _ (t .0);
+      right = leb-true _ _
+          (t .1);
+    }
 
 pub fits-whole : (w : ℕ) (s : Span) → Fits w s → true ≡ fits w s
 fits-whole w s f = sym (le-leb (s .column + s .size) (w + 1) (f .right)) ∙ fits-is w s (f .top) (f .bottom) (f .left) (f .some)
@@ -121,11 +130,13 @@ widths a b = by-length (eq-or-not (length a) (length b))
         by-case (inl x) = omega (arith, pages-width w a b p, x .0)
         by-case (inr x) = omega (arith, pages-width w a b p, x .0)
 
-    by-wide : length a ≡ length b → (length a ≡ 1920 → ⊥) → (length a ≡ 3168) ⊎ (length a ≡ 3168 → ⊥) → ((pagesWidth a b ≡ 0) × ((w : ℕ) → Pages w a b → ⊥)) ⊎ Pages (pagesWidth a b) a b
+    by-wide : length a ≡ length b → (length a ≡ 1920 → ⊥) → (length a ≡ 3168) ⊎ (length a ≡ 3168 → ⊥)
+        → ((pagesWidth a b ≡ 0) × ((w : ℕ) → Pages w a b → ⊥)) ⊎ Pages (pagesWidth a b) a b
     by-wide e n (inl x) = inr (record { alike = e; width = inr (sym (width-132 a b e x), x) })
     by-wide e n (inr x) = let z = sym (width-none a b e n x) in inl (z, no-page z)
 
-    by-narrow : length a ≡ length b → (length a ≡ 1920) ⊎ (length a ≡ 1920 → ⊥) → ((pagesWidth a b ≡ 0) × ((w : ℕ) → Pages w a b → ⊥)) ⊎ Pages (pagesWidth a b) a b
+    by-narrow : length a ≡ length b → (length a ≡ 1920) ⊎ (length a ≡ 1920 → ⊥)
+        → ((pagesWidth a b ≡ 0) × ((w : ℕ) → Pages w a b → ⊥)) ⊎ Pages (pagesWidth a b) a b
     by-narrow e (inl x) = inr (record { alike = e; width = inl (sym (width-80 a b e x), x) })
     by-narrow e (inr x) = by-wide e x (eq-or-not (length a) 3168)
 
@@ -155,17 +166,40 @@ pub record Lies (m n w r c l : ℕ) : Type 0 where
   pub alike : m ≡ n
   pub most : m ≤ 3168
 
-lies-in : (m n w r c l : ℕ) → ((w ≡ 80) × (m ≡ 1920)) ⊎ ((w ≡ 132) × (m ≡ 3168)) → m ≡ n → 1 ≤ r → r ≤ 24 → 1 ≤ c → 1 ≤ l → c + l ≤ w + 1 → Lies m n w r c l
-lies-in m n w r c l (inl x) e f g h i j = rw (x .0) (record { top = f; left = h; before = omega arith; column = omega (arith, x .0); short = omega (arith, x .0); ends = omega (arith, x .0, x .1); alike = e; most = omega (arith, x .1) })
-lies-in m n w r c l (inr x) e f g h i j = rw (x .0) (record { top = f; left = h; before = omega arith; column = omega (arith, x .0); short = omega (arith, x .0); ends = omega (arith, x .0, x .1); alike = e; most = omega (arith, x .1) })
+lies-in : (m n w r c l : ℕ) → ((w ≡ 80) × (m ≡ 1920)) ⊎ ((w ≡ 132) × (m ≡ 3168)) → m ≡ n → 1 ≤ r → r ≤ 24 → 1 ≤ c → 1 ≤ l → c + l ≤ w + 1
+    → Lies m n w r c l
+lies-in m n w r c l (inl x) e f g h i j = rw (x .0)
+    (record {
+      top = f;
+      left = h;
+      before = omega arith;
+      column = omega (arith, x .0);
+      short = omega (arith, x .0);
+      ends = omega (arith, x .0, x .1);
+      alike = e;
+      most = omega (arith, x .1);
+    })
+lies-in m n w r c l (inr x) e f g h i j = rw (x .0)
+    (record {
+      top = f;
+      left = h;
+      before = omega arith;
+      column = omega (arith, x .0);
+      short = omega (arith, x .0);
+      ends = omega (arith, x .0, x .1);
+      alike = e;
+      most = omega (arith, x .1);
+    })
 
-pub lies : (a b : List ℕ) (s : Span) (w r c : ℕ) → w ≡ pagesWidth a b → r ≡ s .row → c ≡ s .column → fits w s ≡ true → Lies (length a) (length b) w r c (s .size)
+pub lies : (a b : List ℕ) (s : Span) (w r c : ℕ) → w ≡ pagesWidth a b → r ≡ s .row → c ≡ s .column → fits w s ≡ true
+    → Lies (length a) (length b) w r c (s .size)
 lies a b s w r c ew er ec f = rw (ew, er, ec) (by-case (widths a b))
   where
     fit : Fits (pagesWidth a b) s
     fit = rw ew at (fits-parts w s f)
 
-    by-case : ((pagesWidth a b ≡ 0) × ((w : ℕ) → Pages w a b → ⊥)) ⊎ Pages (pagesWidth a b) a b → Lies (length a) (length b) (pagesWidth a b) (s .row) (s .column) (s .size)
+    by-case : ((pagesWidth a b ≡ 0) × ((w : ℕ) → Pages w a b → ⊥)) ⊎ Pages (pagesWidth a b) a b
+        → Lies (length a) (length b) (pagesWidth a b) (s .row) (s .column) (s .size)
     by-case (inl z) = absurd (omega (arith, z .0, fit .right, fit .left, fit .some))
     by-case (inr p) = lies-in _ _ _ _ _ _ (p .width) (p .alike) (fit .top) (fit .bottom) (fit .left) (fit .some) (fit .right)
 
@@ -184,7 +218,8 @@ module _ (a b : List ℕ) (next : ℕ) (s : Span) where
   turn-moves f g = rw (f, g)
 
 -- the equal by what the code computes on the way
-module _ (a b : List ℕ) (next : ℕ) (s : Span) (w r c : ℕ) (f g : Bool) (ew : w ≡ pagesWidth a b) (er : r ≡ s .row) (ec : c ≡ s .column) (ef : f ≡ fits w s) (ft : f ≡ true) (eg : g ≡ equal a b next ((r - 1) * w + (c - 1))) where
+module _ (a b : List ℕ) (next : ℕ) (s : Span) (w r c : ℕ) (f g : Bool) (ew : w ≡ pagesWidth a b) (er : r ≡ s .row) (ec : c ≡ s .column)
+    (ef : f ≡ fits w s) (ft : f ≡ true) (eg : g ≡ equal a b next ((r - 1) * w + (c - 1))) where
   pub turn-stops : g ≡ false → 4000 ≡ turned a b next s
   turn-stops gf = turn-differs a b next s (rw ew at (sym ef ∙ ft)) (rw (ew, er, ec) at (sym eg ∙ gf))
 
@@ -208,7 +243,8 @@ module _ (a b : List ℕ) (next : ℕ) where
 pub page-lengths : (a b : List ℕ) (w : ℕ) → w ≡ pagesWidth a b → (w ≡ 0 → ⊥) → (length a ≡ length b) × (length a ≤ 3168)
 page-lengths a b w ew n = by-case (widths a b)
   where
-    by-pages : length a ≡ length b → ((pagesWidth a b ≡ 80) × (length a ≡ 1920)) ⊎ ((pagesWidth a b ≡ 132) × (length a ≡ 3168)) → (length a ≡ length b) × (length a ≤ 3168)
+    by-pages : length a ≡ length b → ((pagesWidth a b ≡ 80) × (length a ≡ 1920)) ⊎ ((pagesWidth a b ≡ 132) × (length a ≡ 3168))
+        → (length a ≡ length b) × (length a ≤ 3168)
     by-pages e (inl x) = (e, omega (arith, x .1))
     by-pages e (inr x) = (e, omega (arith, x .1))
 

@@ -28,7 +28,8 @@ use Rattle.rules.proofs.Convert.{converts, converted-length}
 use Rattle.repaint.specs.Spans.{Accepts, Pages}
 use Rattle.repaint.specs.Pass.{pagesWidth}
 use Rattle.repaint.specs.Bytes.{powerOnAt}
-use Rattle.repaint.specs.Proposal.{differing, stretches, paintBytes, served, Proposed, refusedWith, fitting, rowsOf, columnsOf, lengthsOf, proposeRule, Proposes}
+use Rattle.repaint.specs.Proposal.{differing, stretches, paintBytes, served, Proposed, refusedWith, fitting, rowsOf, columnsOf, lengthsOf}
+use Rattle.repaint.specs.Proposal.{proposeRule, Proposes}
 use Rattle.repaint.specs.Forward.{Put, SpansPut, Holding}
 use Rattle.repaint.specs.declared.ProposeResult.{ProposeResult}
 use Rattle.repaint.specs.Theorems.{spansFor, Served, Proposing, PowerOns}
@@ -117,7 +118,8 @@ module _ (m : Personality) (a b rows columns lengths out : List ℕ) where
       let k : length (paintBytes a b) ≤ 7772 = f .bytes 0 in
       let t : fit ≡ true =
       both-true
-      (both-true (le-leb _ (length rows) (le-then n r)) (both-true (le-leb _ (length columns) (le-then n c)) (le-leb _ (length lengths) (le-then n l))))
+      (both-true (le-leb _ (length rows) (le-then n r))
+      (both-true (le-leb _ (length columns) (le-then n c)) (le-leb _ (length lengths) (le-then n l))))
       (le-leb _ (length out) (le-then k o)) in
       answer-served s ∙ ap (λ (z : Bool). pick {A = ℕ} z 0 6) t
 
@@ -238,7 +240,8 @@ module _ (m : Personality) (a b x y z o : List ℕ) where
   same-of : {n : ℕ} {r : ProposeResult} → r ≡ gave n → rule ≡ refusedWith n x y z o → Proposes rule r x y z o
   same-of {n} {r} e f =
       subst (λ (q : Proposed). Proposes q r x y z o) (sym f)
-      (subst (λ (t : ProposeResult). Proposes (refusedWith n x y z o) t x y z o) (sym e) (record { answer = refl; spans = refl; bytes = refl; rows = refl; columns = refl; lengths = refl; out = refl }))
+      (subst (λ (t : ProposeResult). Proposes (refusedWith n x y z o) t x y z o) (sym e)
+      (record { answer = refl; spans = refl; bytes = refl; rows = refl; columns = refl; lengths = refl; out = refl }))
 
   rule-seven : pagesWidth a b ≡ 0 → rule ≡ refusedWith 7 x y z o
   unfolding proposeRule
@@ -264,7 +267,8 @@ module _ (m : Personality) (a b x y z o : List ℕ) where
       unfolding proposeRule
       rule-six f = rw (is-test t, s, f)
 
-      pub gives-six : {r : ProposeResult} → both (both (leb n (length x)) (both (leb n (length y)) (leb n (length z)))) (leb k (length o)) ≡ false → r ≡ gave 6
+      pub gives-six : {r : ProposeResult} → both (both (leb n (length x)) (both (leb n (length y)) (leb n (length z)))) (leb k (length o)) ≡ false
+          → r ≡ gave 6
           → Proposes rule r x y z o
       gives-six f g = same-of g (rule-six (fits-as false f))
 
@@ -284,7 +288,8 @@ module _ (m : Personality) (a b x y z o : List ℕ) where
       rule-done f = rw (is-test t, s, f)
 
       pub gives-all : {x′ y′ z′ o′ : List ℕ} → both (both (leb n (length x)) (both (leb n (length y)) (leb n (length z)))) (leb k (length o)) ≡ true
-          → x′ ≡ over (rowsOf (stretches a b)) x → y′ ≡ over (columnsOf (stretches a b)) y → z′ ≡ over (lengthsOf (stretches a b)) z → o′ ≡ over (paintBytes a b) o
+          → x′ ≡ over (rowsOf (stretches a b)) x → y′ ≡ over (columnsOf (stretches a b)) y → z′ ≡ over (lengthsOf (stretches a b)) z
+          → o′ ≡ over (paintBytes a b) o
           → Proposes rule (record { answer = 0; spans = n; bytes = k }) x′ y′ z′ o′
       gives-all {x′} {y′} {z′} {o′} f ex ey ez eo =
           subst (λ (q : Proposed). Proposes q (record { answer = 0; spans = n; bytes = k }) x′ y′ z′ o′) (sym (rule-done (fits-as true f)))
@@ -306,7 +311,8 @@ bytes-length = length-replicate {A = ℕ} 7772 0
 
 pub holding-fresh : (m : Personality) (a b : List ℕ) → served m a b ≡ true → Holding a b fresh fresh fresh freshBytes
 holding-fresh m a b e =
-    holding m a b fresh fresh fresh freshBytes e (omega (arith, fresh-length)) (omega (arith, fresh-length)) (omega (arith, fresh-length)) (omega (arith, bytes-length))
+    holding m a b fresh fresh fresh freshBytes e (omega (arith, fresh-length)) (omega (arith, fresh-length)) (omega (arith, fresh-length))
+    (omega (arith, bytes-length))
 
 abbrev pub Made : List ℕ → List ℕ → ℕ → ℕ → List ℕ → List ℕ → List ℕ → List ℕ → Type 0
 Made a b n k r c l o = SpansPut 0 (stretches a b) fresh fresh fresh n r c l × Put 0 (paintBytes a b) freshBytes k o

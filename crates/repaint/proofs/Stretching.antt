@@ -16,7 +16,8 @@ use Rattle.rules.specs.Cell.{pick, both}
 use Rattle.rules.proofs.Tests.{pick-if, both-parts, either-way}
 use Rattle.repaint.specs.declared.Span.{Span}
 use Rattle.repaint.specs.Spans.{first, after}
-use Rattle.repaint.specs.Proposal.{Stretch, stretch, endsRow, lengthened, differing, spanOf, shownAs, cellBytes, cellsBytes, lastShown, startBytes, stretchBytes, stretchesBytes}
+use Rattle.repaint.specs.Proposal.{Stretch, stretch, endsRow, lengthened, differing, spanOf, shownAs, cellBytes, cellsBytes, lastShown}
+use Rattle.repaint.specs.Proposal.{startBytes, stretchBytes, stretchesBytes}
 use Rattle.repaint.proofs.Passing.{Fits, eq-or-not}
 use Rattle.repaint.proofs.Verdicts.{Alike, Run, ended, more}
 
@@ -45,7 +46,8 @@ module _ (a b : List ℕ) (size : length a ≡ 1920) where
   run-alone at v ss h r =
       let f = first-of (stretch at (v ∷ [])) in
       let e : after 80 (spanOf (stretch at (v ∷ []))) ≡ suc at = omega (arith, f) in
-      more {k = at} {s = spanOf (stretch at (v ∷ []))} (single-fits at v h) (omega (arith, f)) (λ j x y. absurd (omega (arith, f, x, y))) (subst (λ (k : ℕ). Run 80 a b k ss) (sym e) r)
+      more {k = at} {s = spanOf (stretch at (v ∷ []))} (single-fits at v h) (omega (arith, f)) (λ j x y. absurd (omega (arith, f, x, y)))
+      (subst (λ (k : ℕ). Run 80 a b k ss) (sym e) r)
 
   run-joined : (at v : ℕ) (s : Stretch) (ss : List Span) → s .start ≡ suc at → (suc at % 80 ≡ 0 → ⊥) → Run 80 a b (suc at) (spanOf s ∷ ss)
       → Run 80 a b at (spanOf (stretch at (v ∷ s .cells)) ∷ ss)
@@ -57,7 +59,15 @@ module _ (a b : List ℕ) (size : length a ≡ 1920) where
       let column : suc at % 80 ≡ suc (at % 80) = omega (arith, n) in
       let low : suc at / 80 + 1 ≤ 24 = rw q at (f .bottom) in
       let right : suc at % 80 + 1 + length (s .cells) ≤ 81 = rw q at (f .right) in
-      more {k = at} {s = spanOf (stretch at (v ∷ s .cells))} (record { top = omega arith; bottom = omega (arith, low, row); left = omega arith; some = omega arith; right = omega (arith, right, column) })
+      more {k = at} {s = spanOf (stretch at (v ∷ s .cells))}
+      (record {
+        top = omega arith;
+        bottom = omega (arith, low, row);
+        left = omega arith;
+        some = omega arith;
+        right = omega
+            (arith, right, column);
+      })
       (omega (arith, z)) (λ j u w. absurd (omega (arith, z, u, w))) (subst (λ (k : ℕ). Run 80 a b k ss) (sym e) r)
 
   run-lengthened : (at v : ℕ) (t : List Stretch) → at < 1920 → Run 80 a b (suc at) (map spanOf t) → Run 80 a b at (map spanOf (lengthened at v t))
@@ -171,22 +181,26 @@ few-equal at t h f = record {
   less = λ e a. omega (arith, f .bytes a, limit-next at h);
 }
 
-few-begun : (at : ℕ) (t : List Stretch) → begins at t ≡ true → 2 * length t ≤ 1920 - at + (1920 - at) % 2 → ((a : ℕ) → length (stretchesBytes a t) ≤ limit at)
+few-begun : (at : ℕ) (t : List Stretch) → begins at t ≡ true → 2 * length t ≤ 1920 - at + (1920 - at) % 2
+    → ((a : ℕ) → length (stretchesBytes a t) ≤ limit at)
     → Few at t
 few-begun at t b n w = record { all = n; later = λ e. absurd (false≢true (sym e ∙ b)); bytes = w; less = λ e. absurd (false≢true (sym e ∙ b)) }
 
 few-alone : (at v : ℕ) → suc at < 1920 → Few at (stretch at (v ∷ []) ∷ [])
 few-alone at v h =
-    few-begun at _ (unfold begins in eq-eqb at at refl) (omega arith) (λ a. omega (arith, bytes-apart a at v [], empty (shownAs v), cell-few a v, limit-some at h))
+    few-begun at _ (unfold begins in eq-eqb at at refl) (omega arith)
+    (λ a. omega (arith, bytes-apart a at v [], empty (shownAs v), cell-few a v, limit-some at h))
   where
     empty : (a : ℕ) → length (stretchesBytes a []) ≡ 0
     empty a = unfold stretchesBytes in refl
 
 few-joined : (at v : ℕ) (s : Stretch) (l : List Stretch) → suc at < 1920 → Few (suc at) (s ∷ l) → Few at (stretch at (v ∷ s .cells) ∷ l)
 few-joined at v s l h f =
-    few-begun at _ (unfold begins in eq-eqb at at refl) (omega (arith, f .all)) (λ a. omega (arith, f .bytes (shownAs v), bytes-joined a at v s l, cell-few a v, limit-next at h))
+    few-begun at _ (unfold begins in eq-eqb at at refl) (omega (arith, f .all))
+    (λ a. omega (arith, f .bytes (shownAs v), bytes-joined a at v s l, cell-few a v, limit-next at h))
 
-few-apart : (at v : ℕ) (s : Stretch) (l : List Stretch) → suc at < 1920 → both (eqb (s .start) (suc at)) (not (endsRow at)) ≡ false → Few (suc at) (s ∷ l)
+few-apart : (at v : ℕ) (s : Stretch) (l : List Stretch) → suc at < 1920 → both (eqb (s .start) (suc at)) (not (endsRow at)) ≡ false
+    → Few (suc at) (s ∷ l)
     → Few at (stretch at (v ∷ []) ∷ (s ∷ l))
 few-apart at v s l h e f = by (either-way (eqb (s .start) (suc at))) (either-way (endsRow at))
   where

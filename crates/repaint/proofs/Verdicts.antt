@@ -17,13 +17,15 @@ use Rattle.repaint.specs.declared.Verdict.{Verdict}
 use Rattle.repaint.specs.declared.Verdict.the-variants as Verdict
 use Rattle.repaint.specs.Spans.{first, after, none, spanAt, Covers, Within, Accepts, Pages, verdictNumber, SpansVerdict, spansOf, ListsVerdict}
 use Rattle.repaint.specs.Pass.{pagesWidth, alike, equal, fits, turned, passed, finished, beyond}
-use Rattle.repaint.proofs.Passing.{Fits, lies, fits-parts, fits-whole, eq-or-not, widths, same-beyond, turn-misfit, turn-differs, turn-moves, finish-wrong, finish-accepted, finish-refused}
+use Rattle.repaint.proofs.Passing.{Fits, lies, fits-parts, fits-whole, eq-or-not, widths, same-beyond, turn-misfit, turn-differs, turn-moves}
+use Rattle.repaint.proofs.Passing.{finish-wrong, finish-accepted, finish-refused}
 
 -- ---- equal cells
 abbrev pub Alike : List ℕ → List ℕ → ℕ → ℕ → Type 0
 Alike a b k e = (j : ℕ) → k ≤ j → j < e → getD a j 0 ≡ getD b j 0
 
-alike-head : (a b : List ℕ) (k n j : ℕ) → eqb (getD a k 0) (getD b k 0) ≡ true → (suc k ≤ j → getD a j 0 ≡ getD b j 0) → k ≤ j → getD a j 0 ≡ getD b j 0
+alike-head : (a b : List ℕ) (k n j : ℕ) → eqb (getD a k 0) (getD b k 0) ≡ true → (suc k ≤ j → getD a j 0 ≡ getD b j 0) → k ≤ j
+    → getD a j 0 ≡ getD b j 0
 alike-head a b k n j e tail l = by-case (eq-or-not k j)
   where
     by-case : (k ≡ j) ⊎ (k ≡ j → ⊥) → getD a j 0 ≡ getD b j 0
@@ -40,7 +42,8 @@ alike-means a b k (suc n) e j l m =
 alike-made : (a b : List ℕ) (k n : ℕ) → Alike a b k (k + n) → alike a b k n ≡ true
 unfolding alike
 alike-made a b k zero h = refl
-alike-made a b k (suc n) h = rw (eq-eqb (getD a k 0) (getD b k 0) (h k (omega arith) (omega arith)), alike-made a b (suc k) n (λ j l m. h j (omega arith) (omega arith)))
+alike-made a b k (suc n) h = rw
+    (eq-eqb (getD a k 0) (getD b k 0) (h k (omega arith) (omega arith)), alike-made a b (suc k) n (λ j l m. h j (omega arith) (omega arith)))
 
 pub same-means : (a b : List ℕ) (k e : ℕ) → equal a b k e ≡ true → (k ≤ e) × Alike a b k e
 unfolding equal
@@ -90,7 +93,8 @@ module _ (a b : List ℕ) (pages : Pages (pagesWidth a b) a b) where
   no-more : (ss : List Span) → Meets beyond ss → ⊥
   no-more ss e = absurd (false≢true (same-beyond a b beyond (length a) (omega (arith, most)) ∙ (rw (lost ss) at e)))
 
-  run-head : (s : Span) (ss : List Span) (k : ℕ) → (Meets (after w s) ss → Run w a b (after w s) ss) → Meets (turned a b k s) ss → Run w a b k (s ∷ ss)
+  run-head : (s : Span) (ss : List Span) (k : ℕ) → (Meets (after w s) ss → Run w a b (after w s) ss) → Meets (turned a b k s) ss
+      → Run w a b k (s ∷ ss)
   run-head s ss k tail e = by-fit (either-way (fits w s))
     where
       by-same : fits w s ≡ true → (equal a b k (first w s) ≡ true) ⊎ (equal a b k (first w s) ≡ false) → Run w a b k (s ∷ ss)
@@ -175,7 +179,8 @@ module _ (a b : List ℕ) (pages : Pages (pagesWidth a b) a b) where
         not-empty′ zero x = f .some
         not-empty′ (suc i) x = r .not-empty i (omega arith)
 
-        covering′ : (c : ℕ) → k ≤ c → c < length a → (getD a c 0 ≡ getD b c 0 → ⊥) → (i : ℕ) × ((i < length (s ∷ ss)) × Covers w (spanAt (s ∷ ss) i) c)
+        covering′ : (c : ℕ) → k ≤ c → c < length a → (getD a c 0 ≡ getD b c 0 → ⊥)
+            → (i : ℕ) × ((i < length (s ∷ ss)) × Covers w (spanAt (s ∷ ss) i) c)
         covering′ c x y n = by-start (le-or-lt (first w s) c)
           where
             by-end : first w s ≤ c → (after w s ≤ c) ⊎ (c < after w s) → (i : ℕ) × ((i < length (s ∷ ss)) × Covers w (spanAt (s ∷ ss) i) c)
@@ -188,7 +193,8 @@ module _ (a b : List ℕ) (pages : Pages (pagesWidth a b) a b) where
 
     module _ (r : From k (s ∷ ss)) where
       first-fits : Fits w s
-      first-fits = let x = r .within 0 (omega arith) in record { top = x .top; bottom = x .bottom; left = x .left; some = r .not-empty 0 (omega arith); right = x .right }
+      first-fits = let x = r .within 0
+          (omega arith) in record { top = x .top; bottom = x .bottom; left = x .left; some = r .not-empty 0 (omega arith); right = x .right }
 
       gap : Alike a b k (first w s)
       gap j x y = by-case (eq-or-not (getD a j 0) (getD b j 0))
@@ -199,7 +205,8 @@ module _ (a b : List ℕ) (pages : Pages (pagesWidth a b) a b) where
 
           by-case : (getD a j 0 ≡ getD b j 0) ⊎ (getD a j 0 ≡ getD b j 0 → ⊥) → getD a j 0 ≡ getD b j 0
           by-case (inl e) = e
-          by-case (inr n) = let q = r .covering j x (omega (arith, inside s (sym (fits-whole w s first-fits)))) n in absurd (by-index (q .0) (q .1 .0) (q .1 .1))
+          by-case (inr n) = let q = r .covering j x (omega (arith, inside s (sym (fits-whole w s first-fits)))) n in absurd
+              (by-index (q .0) (q .1 .0) (q .1 .1))
 
       from-rest : From (after w s) ss
       from-rest = record {
@@ -218,7 +225,8 @@ module _ (a b : List ℕ) (pages : Pages (pagesWidth a b) a b) where
               by-case : (after w s ≤ first w (spanAt ss i)) ⊎ (first w (spanAt ss i) < after w s) → after w s ≤ first w (spanAt ss i)
               by-case (inl e) = e
               by-case (inr n) = absurd (r .apart 0 (suc i) (first w (spanAt ss i)) (omega arith) (omega arith)
-                  (omega (arith, r .in-order 0 (suc i) (omega arith) (omega arith)), n) (omega arith, omega (arith, r .not-empty (suc i) (omega arith))))
+                  (omega (arith, r .in-order 0 (suc i) (omega arith) (omega arith)), n)
+                  (omega arith, omega (arith, r .not-empty (suc i) (omega arith))))
 
           covering′ : (c : ℕ) → after w s ≤ c → c < length a → (getD a c 0 ≡ getD b c 0 → ⊥) → (i : ℕ) × ((i < length ss) × Covers w (spanAt ss i) c)
           covering′ c x y n = let q = r .covering c (omega (arith, r .ahead 0 (omega arith))) y n in by-index (q .0) (q .1 .0) (q .1 .1)
@@ -242,14 +250,30 @@ module _ (a b : List ℕ) (pages : Pages (pagesWidth a b) a b) where
   pub run-accepts : {ss : List Span} → Run w a b 0 ss → Accepts w a b ss
   run-accepts run =
       let r = from-run run in
-      record { in-order = r .in-order; apart = r .apart; within = r .within; not-empty = r .not-empty; covering = λ c x n. r .covering c (omega arith) x n }
+      record {
+        in-order = r .in-order;
+        apart = r .apart;
+        within = r .within;
+        not-empty = r .not-empty;
+        covering = λ c x n. r .covering c
+            (omega arith) x n;
+      }
 
   accepts-of : (ss : List Span) → Meets 0 ss → Accepts w a b ss
   accepts-of ss e = run-accepts (run-of ss 0 e)
 
   of-accepts : (ss : List Span) → Accepts w a b ss → Meets 0 ss
   of-accepts ss r =
-      of-run (run-from ss 0 (record { start = omega arith; ahead = λ i x. omega arith; in-order = r .in-order; apart = r .apart; within = r .within; not-empty = r .not-empty; covering = λ c z x n. r .covering c x n }))
+      of-run (run-from ss 0
+      (record {
+        start = omega arith;
+        ahead = λ i x. omega arith;
+        in-order = r .in-order;
+        apart = r .apart;
+        within = r .within;
+        not-empty = r .not-empty;
+        covering = λ c z x n. r .covering c x n;
+      }))
 
 -- ---- the verdict
 module _ (a b : List ℕ) (ss : List Span) where
@@ -260,19 +284,24 @@ module _ (a b : List ℕ) (ss : List Span) where
       by-case (inl x) = omega (arith, x .0)
       by-case (inr x) = omega (arith, x .0)
 
-  by-answer : Pages (pagesWidth a b) a b → (equal a b (passed a b 0 ss) (length a) ≡ true) ⊎ (equal a b (passed a b 0 ss) (length a) ≡ false) → SpansVerdict a b ss (verdictNumber (finished a b (passed a b 0 ss)))
-  by-answer p (inl t) = rw (← finish-accepted a b (passed a b 0 ss) (some-width p) t) (SpansVerdict.accepted (pagesWidth a b) p (accepts-of a b p ss t))
-  by-answer p (inr t) = rw (← finish-refused a b (passed a b 0 ss) (some-width p) t) (SpansVerdict.refused (pagesWidth a b) p (λ x. false≢true (sym t ∙ of-accepts a b p ss x)))
+  by-answer : Pages (pagesWidth a b) a b → (equal a b (passed a b 0 ss) (length a) ≡ true) ⊎ (equal a b (passed a b 0 ss) (length a) ≡ false)
+      → SpansVerdict a b ss (verdictNumber (finished a b (passed a b 0 ss)))
+  by-answer p (inl t) = rw (← finish-accepted a b (passed a b 0 ss) (some-width p) t)
+      (SpansVerdict.accepted (pagesWidth a b) p (accepts-of a b p ss t))
+  by-answer p (inr t) = rw (← finish-refused a b (passed a b 0 ss) (some-width p) t)
+      (SpansVerdict.refused (pagesWidth a b) p (λ x. false≢true (sym t ∙ of-accepts a b p ss x)))
 
   pub verdict : SpansVerdict a b ss (verdictNumber (finished a b (passed a b 0 ss)))
   verdict = by-width (widths a b)
     where
-      by-width : ((pagesWidth a b ≡ 0) × ((w : ℕ) → Pages w a b → ⊥)) ⊎ Pages (pagesWidth a b) a b → SpansVerdict a b ss (verdictNumber (finished a b (passed a b 0 ss)))
+      by-width : ((pagesWidth a b ≡ 0) × ((w : ℕ) → Pages w a b → ⊥)) ⊎ Pages (pagesWidth a b) a b
+          → SpansVerdict a b ss (verdictNumber (finished a b (passed a b 0 ss)))
       by-width (inl z) = rw (← finish-wrong a b (passed a b 0 ss) (z .0)) (SpansVerdict.wrong (z .1))
       by-width (inr p) = by-answer p (either-way (equal a b (passed a b 0 ss) (length a)))
 
 -- ---- a loop over the list: what is left of it, from the cell reached
-pub pass-step : (a b : List ℕ) (ss : List Span) (next i : ℕ) → i < length ss → passed a b (turned a b next (spanAt ss i)) (drop (i + 1) ss) ≡ passed a b next (drop i ss)
+pub pass-step : (a b : List ℕ) (ss : List Span) (next i : ℕ) → i < length ss
+    → passed a b (turned a b next (spanAt ss i)) (drop (i + 1) ss) ≡ passed a b next (drop i ss)
 unfolding passed
 pass-step a b ss next i l = rw (add-one, drop-cons ss i none)
 
@@ -286,11 +315,13 @@ pass-ends a b ss next i l = rw (drop-all ss i l)
     drop-all (x ∷ l) zero h = absurd (omega arith)
     drop-all (x ∷ l) (suc n) h = drop-all l n (omega arith)
 
-pub pass-verdict : (a b : List ℕ) (ss : List Span) (next i : ℕ) (r : Verdict) → length ss ≤ i → passed a b next (drop i ss) ≡ passed a b 0 ss → r ≡ finished a b next → SpansVerdict a b ss (verdictNumber r)
+pub pass-verdict : (a b : List ℕ) (ss : List Span) (next i : ℕ) (r : Verdict) → length ss ≤ i → passed a b next (drop i ss) ≡ passed a b 0 ss
+    → r ≡ finished a b next → SpansVerdict a b ss (verdictNumber r)
 pass-verdict a b ss next i r l e f = rw (f, pass-ends a b ss next i l ∙ e) (verdict a b ss)
 
 -- one span more is passed
-pub pass-on : (a b : List ℕ) (ss : List Span) (next i r : ℕ) → i < length ss → passed a b next (drop i ss) ≡ passed a b 0 ss → r ≡ turned a b next (spanAt ss i) → passed a b r (drop (i + 1) ss) ≡ passed a b 0 ss
+pub pass-on : (a b : List ℕ) (ss : List Span) (next i r : ℕ) → i < length ss → passed a b next (drop i ss) ≡ passed a b 0 ss
+    → r ≡ turned a b next (spanAt ss i) → passed a b r (drop (i + 1) ss) ≡ passed a b 0 ss
 pass-on a b ss next i r l e t = rw (t, pass-step a b ss next i l) e
 
 -- ---- parallel lists
@@ -300,15 +331,18 @@ spans-length (r ∷ rs) [] ls e f = absurd (omega arith)
 spans-length (r ∷ rs) (c ∷ cs) [] e f = absurd (omega arith)
 spans-length (r ∷ rs) (c ∷ cs) (l ∷ ls) e f = ap suc (spans-length rs cs ls (omega arith) (omega arith))
 
-pub spans-at : (rs cs ls : List ℕ) (i : ℕ) → i < length rs → length rs ≡ length cs → length rs ≡ length ls → record { row = getD rs i 0; column = getD cs i 0; size = getD ls i 0 } ≡ spanAt (spansOf rs cs ls) i
+pub spans-at : (rs cs ls : List ℕ) (i : ℕ) → i < length rs → length rs ≡ length cs → length rs ≡ length ls
+    → record { row = getD rs i 0; column = getD cs i 0; size = getD ls i 0 } ≡ spanAt (spansOf rs cs ls) i
 spans-at [] cs ls i h e f = absurd (omega arith)
 spans-at (r ∷ rs) [] ls i h e f = absurd (omega arith)
 spans-at (r ∷ rs) (c ∷ cs) [] i h e f = absurd (omega arith)
 spans-at (r ∷ rs) (c ∷ cs) (l ∷ ls) zero h e f = refl
 spans-at (r ∷ rs) (c ∷ cs) (l ∷ ls) (suc i) h e f = spans-at rs cs ls i (omega arith) (omega arith) (omega arith)
 
-module _ (a b rs cs ls : List ℕ) (next i : ℕ) (e : length rs ≡ length cs) (f : length rs ≡ length ls) (inv : passed a b next (drop i (spansOf rs cs ls)) ≡ passed a b 0 (spansOf rs cs ls)) where
-  pub lists-step : i < length rs → (next′ : ℕ) → next′ ≡ turned a b next (record { row = getD rs i 0; column = getD cs i 0; size = getD ls i 0 }) → passed a b next′ (drop (i + 1) (spansOf rs cs ls)) ≡ passed a b 0 (spansOf rs cs ls)
+module _ (a b rs cs ls : List ℕ) (next i : ℕ) (e : length rs ≡ length cs) (f : length rs ≡ length ls)
+    (inv : passed a b next (drop i (spansOf rs cs ls)) ≡ passed a b 0 (spansOf rs cs ls)) where
+  pub lists-step : i < length rs → (next′ : ℕ) → next′ ≡ turned a b next (record { row = getD rs i 0; column = getD cs i 0; size = getD ls i 0 })
+      → passed a b next′ (drop (i + 1) (spansOf rs cs ls)) ≡ passed a b 0 (spansOf rs cs ls)
   lists-step l next′ t = rw (t, spans-at rs cs ls i l e f, pass-step a b (spansOf rs cs ls) next i (omega (arith, spans-length rs cs ls e f))) inv
 
   pub lists-verdict : length rs ≤ i → (r : Verdict) → r ≡ finished a b next → ListsVerdict a b rs cs ls (verdictNumber r)

@@ -76,7 +76,8 @@ fn paints(
     personality: Personality,
     bytes: &[u8],
 ) -> bool
-    requires { ⌜ ((length (now before) ≡ 24 * columns wide) × (length (now before) ≡ length (now after))) × ((length (now scratch) ≡ length (now before)) × (length (now before) ≤ wideCells)) ⌝ }
+    requires { ⌜ ((length (now before) ≡ 24 * columns wide) × (length (now before) ≡ length (now after)))
+        × ((length (now scratch) ≡ length (now before)) × (length (now before) ≤ wideCells)) ⌝ }
     ensures { λ r. ⌜ r ≡ paintsRule personality wide (now (before .entry)) (now (after .entry)) (now (bytes .entry)) ⌝ }
 {
     copy_cells(before, scratch);

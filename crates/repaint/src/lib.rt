@@ -136,7 +136,8 @@ pub fn judge_lists(
     columns: &[u16],
     lengths: &[u16],
 ) -> Verdict
-    ensures { λ r. ⌜ ListsVerdict (now (before .entry)) (now (after .entry)) (now (rows .entry)) (now (columns .entry)) (now (lengths .entry)) (verdictNumber r) ⌝ }
+    ensures { λ r. ⌜ ListsVerdict (now (before .entry)) (now (after .entry)) (now (rows .entry)) (now (columns .entry)) (now (lengths .entry))
+        (verdictNumber r) ⌝ }
 {
     if rows.len() != columns.len() {
         return Verdict::WrongLength;

@@ -141,7 +141,8 @@ struct Painted {
 // Cells, each remembering its own attribute.
 fn put_cells(out: &mut [u8], start: usize, remembered: u16, part: &[u16]) -> Painted
     requires { ⌜ (length (now part) ≤ 1920) × (start + length (cellsBytes remembered (now part)) ≤ length (now out)) ⌝ }
-    ensures { λ r. ⌜ Put start (cellsBytes remembered (now (part .entry))) (now (out .entry)) (r .place) (now (out .exit)) × (r .remembered ≡ lastShown remembered (now (part .entry))) ⌝ }
+    ensures { λ r. ⌜ Put start (cellsBytes remembered (now (part .entry))) (now (out .entry)) (r .place) (now (out .exit))
+        × (r .remembered ≡ lastShown remembered (now (part .entry))) ⌝ }
 {
     let mut n = start;
     let mut a = remembered;
@@ -167,8 +168,11 @@ fn put_span(
     at: usize,
     end: usize,
 ) -> usize
-    requires { ⌜ ((at ≤ end) × (end ≤ 1920)) × ((at < end → n < length (now rows)) × ((at < end → n < length (now columns)) × ((at < end → n < length (now lengths)) × (n ≤ 1920)))) ⌝ }
-    ensures { λ r. ⌜ ((b : List ℕ) → length b ≡ 1920 → SpansPut n (oneOf at (end - at) b) (now (rows .entry)) (now (columns .entry)) (now (lengths .entry)) r (now (rows .exit)) (now (columns .exit)) (now (lengths .exit))) ⌝ }
+    requires { ⌜ ((at ≤ end) × (end ≤ 1920))
+        × ((at < end → n < length (now rows)) × ((at < end → n < length (now columns)) × ((at < end → n < length (now lengths)) × (n ≤ 1920)))) ⌝ }
+    ensures { λ r. ⌜ ((b : List ℕ) → length b ≡ 1920
+        → SpansPut n (oneOf at (end - at) b) (now (rows .entry)) (now (columns .entry)) (now (lengths .entry)) r (now (rows .exit))
+        (now (columns .exit)) (now (lengths .exit))) ⌝ }
 {
     if at < end {
         rows[n] = (at / 80 + 1) as u16;
@@ -188,8 +192,10 @@ fn put_stretch(
     at: usize,
     end: usize,
 ) -> Painted
-    requires { ⌜ ((at ≤ end) × (end ≤ 1920)) × ((length (now after) ≡ 1920) × (n + length (stretchesBytes remembered (oneOf at (end - at) (now after))) ≤ length (now out))) ⌝ }
-    ensures { λ r. ⌜ Put n (stretchesBytes remembered (oneOf at (end - at) (now (after .entry)))) (now (out .entry)) (r .place) (now (out .exit)) × (r .remembered ≡ shownAfter remembered (oneOf at (end - at) (now (after .entry)))) ⌝ }
+    requires { ⌜ ((at ≤ end) × (end ≤ 1920))
+        × ((length (now after) ≡ 1920) × (n + length (stretchesBytes remembered (oneOf at (end - at) (now after))) ≤ length (now out))) ⌝ }
+    ensures { λ r. ⌜ Put n (stretchesBytes remembered (oneOf at (end - at) (now (after .entry)))) (now (out .entry)) (r .place) (now (out .exit))
+        × (r .remembered ≡ shownAfter remembered (oneOf at (end - at) (now (after .entry)))) ⌝ }
 {
     if at < end {
         let row = (at / 80) as u8;
@@ -218,8 +224,11 @@ fn paint(
     before: &[u16],
     after: &[u16],
 ) -> Counts
-    requires { ⌜ ((length (now before) ≡ 1920) × (length (now after) ≡ 1920)) × Holding (now before) (now after) (now rows) (now columns) (now lengths) (now out) ⌝ }
-    ensures { λ r. ⌜ SpansPut 0 (stretches (now (before .entry)) (now (after .entry))) (now (rows .entry)) (now (columns .entry)) (now (lengths .entry)) (r .spans) (now (rows .exit)) (now (columns .exit)) (now (lengths .exit)) × Put 0 (paintBytes (now (before .entry)) (now (after .entry))) (now (out .entry)) (r .bytes) (now (out .exit)) ⌝ }
+    requires { ⌜ ((length (now before) ≡ 1920) × (length (now after) ≡ 1920))
+        × Holding (now before) (now after) (now rows) (now columns) (now lengths) (now out) ⌝ }
+    ensures { λ r. ⌜ SpansPut 0 (stretches (now (before .entry)) (now (after .entry))) (now (rows .entry)) (now (columns .entry))
+        (now (lengths .entry)) (r .spans) (now (rows .exit)) (now (columns .exit)) (now (lengths .exit))
+        × Put 0 (paintBytes (now (before .entry)) (now (after .entry))) (now (out .entry)) (r .bytes) (now (out .exit)) ⌝ }
 {
     let mut n = 0;
     let mut k = 0;
@@ -268,8 +277,12 @@ fn give(
     lengths: &mut [u16],
     out: &mut [u8],
 )
-    requires { ⌜ ((n ≤ 960) × ((n ≤ length (now r)) × ((n ≤ length (now c)) × ((n ≤ length (now l)) × (k ≤ length (now o)))))) × ((n ≤ length (now rows)) × ((n ≤ length (now columns)) × ((n ≤ length (now lengths)) × (k ≤ length (now out))))) ⌝ }
-    ensures { λ r′. ⌜ (now (rows .exit) ≡ over (take n (now (r .entry))) (now (rows .entry))) × ((now (columns .exit) ≡ over (take n (now (c .entry))) (now (columns .entry))) × ((now (lengths .exit) ≡ over (take n (now (l .entry))) (now (lengths .entry))) × (now (out .exit) ≡ over (take k (now (o .entry))) (now (out .entry))))) ⌝ }
+    requires { ⌜ ((n ≤ 960) × ((n ≤ length (now r)) × ((n ≤ length (now c)) × ((n ≤ length (now l)) × (k ≤ length (now o))))))
+        × ((n ≤ length (now rows)) × ((n ≤ length (now columns)) × ((n ≤ length (now lengths)) × (k ≤ length (now out))))) ⌝ }
+    ensures { λ r′. ⌜ (now (rows .exit) ≡ over (take n (now (r .entry))) (now (rows .entry)))
+        × ((now (columns .exit) ≡ over (take n (now (c .entry))) (now (columns .entry)))
+        × ((now (lengths .exit) ≡ over (take n (now (l .entry))) (now (lengths .entry)))
+        × (now (out .exit) ≡ over (take k (now (o .entry))) (now (out .entry))))) ⌝ }
 {
     copy_cells(&r[0..n], rows);
     copy_cells(&c[0..n], columns);
@@ -298,7 +311,9 @@ pub fn propose(
     lengths: &mut [u16],
     out: &mut [u8],
 ) -> ProposeResult
-    ensures { λ r. ⌜ Proposes (proposeRule personality (now (before .entry)) (now (after .entry)) (now (rows .entry)) (now (columns .entry)) (now (lengths .entry)) (now (out .entry))) r (now (rows .exit)) (now (columns .exit)) (now (lengths .exit)) (now (out .exit)) ⌝ }
+    ensures { λ r. ⌜ Proposes
+        (proposeRule personality (now (before .entry)) (now (after .entry)) (now (rows .entry)) (now (columns .entry)) (now (lengths .entry))
+        (now (out .entry))) r (now (rows .exit)) (now (columns .exit)) (now (lengths .exit)) (now (out .exit)) ⌝ }
 {
     if width_of(before, after) == 0 {
         return refuse(7);

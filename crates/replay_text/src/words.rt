@@ -2,7 +2,8 @@
 ghost use Prim.Native.Nat.{_≤_};
 ghost use mathlib.Core.Path.{_≡_};
 ghost use lib.ListN.{length};
-ghost use Rattle.replay_text.specs.Text.{none, Found, firstWord, laterWords, wordCount, parting, numberOf, decimalDigit, hexDigit, hexByte, byteOf, isHex, hexBytes, isString, Put};
+ghost use Rattle.replay_text.specs.Text.{none, Found, firstWord, laterWords, wordCount, parting, numberOf, decimalDigit, hexDigit, hexByte};
+ghost use Rattle.replay_text.specs.Text.{byteOf, isHex, hexBytes, isString, Put};
 use crate::rooms::part;
 use check::same;
 

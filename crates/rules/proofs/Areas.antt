@@ -133,7 +133,8 @@ module _ {n : ℕ} (k : Width n) (on : Bool) (f t o i : ℕ) (b : Beyond n f t o
   applied-outside : (w : Write) (p : List ℕ) → length p ≡ height * n → GoodWrite n w → Spans f t o n w → getD (applied n on w p) i 0 ≡ getD p i 0
   unfolding applied editShifted rowsShifted
   applied-outside Write.Nothing p l g r = refl
-  applied-outside (Write.Fill a e v) p l g r = part-outside a e (filled on v) (length-filled on v) p (g .0) (omega arith) (whole a e (r .0) (r .1 .0) (r .1 .1))
+  applied-outside (Write.Fill a e v) p l g r = part-outside a e (filled on v) (length-filled on v) p (g .0) (omega arith)
+      (whole a e (r .0) (r .1 .0) (r .1 .1))
   applied-outside (Write.FillAll a e v) p l g r =
       part-outside a e (filled false v) (length-filled false v) p (g .0) (omega arith) (whole a e (r .0) (r .1 .0) (r .1 .1))
   applied-outside (Write.Column top bottom c v) p l g r =
@@ -181,7 +182,8 @@ module _ (p : List ℕ) (c : Core) (n : length p ≡ pageLength (c .screen)) (g 
       size = n ∙ ap (λ (b : Bool). height * columns b) (sym (k .wide))
 
   obeyed-outside : (tabs : List Bool) (d : Decoded)
-      → (let a = areaOf (changes d) in Beyond (widthOf (c .screen)) (areaFrom a (c .screen) (c .modes)) (areaTo a (c .screen) (c .modes)) (oneColumn a (c .screen)) i)
+      → (let a = areaOf (changes d) in Beyond (widthOf (c .screen)) (areaFrom a (c .screen) (c .modes)) (areaTo a (c .screen) (c .modes))
+      (oneColumn a (c .screen)) i)
       → getD (obeyed p c tabs d room .page) i 0 ≡ getD p i 0
   unfolding obeyed
   obeyed-outside tabs (Decoded.Wait q) o = refl
@@ -191,7 +193,8 @@ module _ (p : List ℕ) (c : Core) (n : length p ≡ pageLength (c .screen)) (g 
   obeyed-outside tabs (Decoded.Do d) o =
       let l = length-guards (c .modes .protect) p ∙ n in
       carried-outside _ _ _ o _ (plan-kept (idle c) (h .screen) (guardedAt (c .modes .protect) p) l tabs d)
-      (of-form (record { ok = h .screen; inside = screen-inside (c .screen) (h .screen); size = l }) (formed (guardedAt (c .modes .protect) p) (idle c) tabs d))
+      (of-form (record { ok = h .screen; inside = screen-inside (c .screen) (h .screen); size = l })
+      (formed (guardedAt (c .modes .protect) p) (idle c) tabs d))
 
 -- ---- of a step
 
@@ -219,5 +222,6 @@ step-outside p s b room i h =
     let w = possible-parts s (r .1) in
     let d = decodeRule (s .core .pending) b in
     pick-if (λ (q : Effect). getD (q .page) i 0 ≡ getD p i 0) (ltb b 128)
-    (λ z. obeyed-outside p (s .core) (r .0) (s .gathered) (w .core) room i (s .setup .tabs) d (beyond (areaOf (changes d)) (s .core .screen) (s .core .modes) i h)) (λ z. refl)))
+    (λ z. obeyed-outside p (s .core) (r .0) (s .gathered) (w .core) room i (s .setup .tabs) d
+    (beyond (areaOf (changes d)) (s .core .screen) (s .core .modes) i h)) (λ z. refl)))
     (λ e. refl)

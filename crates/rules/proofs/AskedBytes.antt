@@ -14,7 +14,8 @@ use Rattle.rules.specs.declared.Argument.the-variants as Argument
 use Rattle.rules.specs.declared.Decoded.{Decoded}
 use Rattle.rules.specs.declared.Decoded.the-variants as Decoded
 use Rattle.rules.specs.Cell.{pick, either}
-use Rattle.rules.specs.Decode.{lookup, idleRule, escapeRule, judged, featureRule, fieldRule, splitRule, digitRule, decimalRowRule, decimalColumnRule, slotRule, textRule, spoiltRule, argumentRule, decodeRule}
+use Rattle.rules.specs.Decode.{lookup, idleRule, escapeRule, judged, featureRule, fieldRule, splitRule, digitRule, decimalRowRule}
+use Rattle.rules.specs.Decode.{decimalColumnRule, slotRule, textRule, spoiltRule, argumentRule, decodeRule}
 use Rattle.rules.proofs.Commands.{sendAsked, excludedAsked, kindOf}
 use Rattle.rules.proofs.ExcludedBytes.{values, below}
 

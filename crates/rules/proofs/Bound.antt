@@ -29,7 +29,8 @@ use Rattle.rules.specs.Row.{columns, height}
 use Rattle.rules.specs.State.{number, widthOf, pageLength, segmentTop, cursorOf, keyPlace, awaiting, idle, sends, sendingAfter}
 use Rattle.rules.specs.Arguments.{isAttribute, featurePlace, isKey}
 use Rattle.rules.specs.Slot.{allText, textOk, textsOk}
-use Rattle.rules.specs.Possible.{powerOn, unsplitOk, screenOk, attributesOk, featuresOk, noStops, pendingOk, rememberedOk, sendingOk, coreOk, setupOk, possible, good}
+use Rattle.rules.specs.Possible.{powerOn, unsplitOk, screenOk, attributesOk, featuresOk, noStops, pendingOk, rememberedOk, sendingOk, coreOk}
+use Rattle.rules.specs.Possible.{setupOk, possible, good}
 use Rattle.rules.specs.Decode.{lookup, escapeRule, decodeRule}
 use Rattle.rules.specs.Plan.{excludedPlan, planRule}
 use Rattle.rules.specs.Send.{cellPlace, textPlaces, followsLeftOut, textAt, places, bytesOf, sentFrom}
@@ -61,9 +62,17 @@ pub record Bounded (x : Screen) (room : ℕ) (e : Effect) : Type 0 where
   pub full : sends (sendingAfter (e .change) Sending.Nothing) ≡ true → length (e .reply) ≡ room
   pub some : sends (sendingAfter (e .change) Sending.Nothing) ≡ true → 0 < room
 
-silent : {x : Screen} {room : ℕ} {e : Effect} → length (e .reply) ≡ 0 → eqb (e .answer) 6 ≡ false → sends (sendingAfter (e .change) Sending.Nothing) ≡ false
+silent : {x : Screen} {room : ℕ} {e : Effect} → length (e .reply) ≡ 0 → eqb (e .answer) 6 ≡ false
+    → sends (sendingAfter (e .change) Sending.Nothing) ≡ false
     → Bounded x room e
-silent z a s = record { fits = omega arith; bound = omega arith; taken = λ r. a; full = λ t. absurd (false≢true (sym s ∙ t)); some = λ t. absurd (false≢true (sym s ∙ t)) }
+silent z a s = record {
+  fits = omega arith;
+  bound = omega arith;
+  taken = λ r. a;
+  full = λ t. absurd (false≢true (sym s ∙ t));
+  some = λ t. absurd
+      (false≢true (sym s ∙ t));
+}
 
 module _ (p : List ℕ) (c : Core) (n : length p ≡ pageLength (c .screen)) (g : List ℕ) (h : PossibleCore c g) where
   begun-bounded : {t : Bool} (x : Plan) (room : ℕ) → PlanKept t (idle c) x → 0 < room → Bounded (c .screen) room (begun p x room)
@@ -229,7 +238,8 @@ reply-bound = record {
 key-bound : (k : ShortText) (v : ℕ) → textOk 0 8 (k .len) (k .bytes) ≡ true → length (keySends k v) ≤ 8
 unfolding keySends
 key-bound k v h =
-    pick-if (λ (l : List ℕ). length l ≤ 8) (eqb (k .len) 0) (λ e. omega arith) (λ e. omega (arith, length-take (k .len) (k .bytes), text-parts 0 8 (k .len) (k .bytes) h .0))
+    pick-if (λ (l : List ℕ). length l ≤ 8) (eqb (k .len) 0) (λ e. omega arith)
+    (λ e. omega (arith, length-take (k .len) (k .bytes), text-parts 0 8 (k .len) (k .bytes) h .0))
 
 pub press-bound : (p : List ℕ) (s : State) (v room : ℕ) → length (pressRule p s v room .reply) ≤ 8
 unfolding pressRule textOk allText

@@ -26,10 +26,12 @@ use Rattle.rules.specs.Cell.{pick, both, between, code, protected, kind,
 use Rattle.rules.specs.Row.{height, columns, rowOf, columnOf}
 use Rattle.rules.specs.Search.{whichCells, guardedAt}
 use Rattle.rules.specs.Change.{within, filled}
-use Rattle.rules.specs.State.{segmentTop, segmentBottom, cursorOf, withModes, withAttribute, withMode, awaiting, changed, sends, sendingAfter, gatheredAfter, setupAfter}
+use Rattle.rules.specs.State.{segmentTop, segmentBottom, cursorOf, withModes, withAttribute, withMode, awaiting, changed, sends, sendingAfter}
+use Rattle.rules.specs.State.{gatheredAfter, setupAfter}
 use Rattle.rules.specs.Arguments.{isFlags, isAttribute, attributeContents, attributeOf, featurePlace}
 use Rattle.rules.specs.Slot.{allText, textOk, textsOk}
-use Rattle.rules.specs.Possible.{powerOn, blank, unsplitOk, screenOk, attributesOk, featuresOk, noStops, pendingOk, rememberedOk, sendingOk, coreOk, setupOk, possible, good}
+use Rattle.rules.specs.Possible.{powerOn, blank, unsplitOk, screenOk, attributesOk, featuresOk, noStops, pendingOk, rememberedOk, sendingOk}
+use Rattle.rules.specs.Possible.{coreOk, setupOk, possible, good}
 use Rattle.rules.specs.Decode.{lookup, idleRule, escapeRule, judged, argumentRule, decodeRule}
 use Rattle.rules.specs.Plan.{unlessGuarded, storing, advancing, storePlan, takesCell, attributePlan, clearPlan, planRule}
 use Rattle.rules.specs.Carry.{applied, landed, done, carried}
@@ -44,19 +46,23 @@ use Rattle.rules.proofs.ExcludedBytes.{values, below}
 use Rattle.rules.proofs.Kept.{powerOn-good, call-good, call-keeps}
 use Rattle.rules.proofs.Convert.{conversion}
 use Rattle.rules.proofs.RowSteps.{equal-results}
-use Rattle.rules.proofs.Numbers.{bit, normal-remembered, null-ok, flags-code, Kinds, is-null, is-text, is-graphic, is-free, is-protected, kinds}
+use Rattle.rules.proofs.Numbers.{bit, normal-remembered, null-ok, flags-code, Kinds, is-null, is-text, is-graphic, is-free, is-protected}
+use Rattle.rules.proofs.Numbers.{kinds}
 use Rattle.rules.proofs.PageNumbers.{each-replicate, call-numbers, powered-numbers}
 
 -- ---- the bytes of a number
 
 -- power-on with write-protect mode, a remembered attribute and a sequence under way
 abbrev core : Personality → Bool → ℕ → Pending → Core
-core m p a q = awaiting (withAttribute (withModes (powerOn m .core) (record { protect = false; writeprotect = p; insert = false; autoscroll = true; locked = false; local = false })) a) q
+core m p a q = awaiting
+    (withAttribute (withModes (powerOn m .core)
+    (record { protect = false; writeprotect = p; insert = false; autoscroll = true; locked = false; local = false })) a) q
 
 abbrev ready : Personality → Bool → ℕ → Pending → State
 ready m p a q = record { core = core m p a q; sending = powerOn m .sending; gathered = powerOn m .gathered; setup = powerOn m .setup }
 
-good-ready : (m : Personality) (p : Bool) (a : ℕ) (q : Pending) → rememberedOk m a ≡ true → pendingOk q (powerOn m .gathered) ≡ true → good blank (ready m p a q) ≡ true
+good-ready : (m : Personality) (p : Bool) (a : ℕ) (q : Pending) → rememberedOk m a ≡ true → pendingOk q (powerOn m .gathered) ≡ true
+    → good blank (ready m p a q) ≡ true
 unfolding good possible coreOk setupOk blank powerOn columns noStops screenOk unsplitOk textsOk textOk allText attributesOk isAttribute featuresOk
     featurePlace sendingOk
 good-ready m p a q h e = rw (h, e)
@@ -108,17 +114,20 @@ module _ (m : Personality) (p : Bool) (a : ℕ) (h : rememberedOk m a ≡ true) 
   unfolding carried done applied within filled clearPlan segmentTop segmentBottom columns powerOn blank
   clear-writes k q = refl
 
-  clear-answers : (k : Contents) (q : Pending) → eqb (carried blank (core m p a q) (clearPlan (core m p a Pending.Idle) (Clear.Segment k)) 1944 .answer) 6 ≡ false
+  clear-answers : (k : Contents) (q : Pending)
+      → eqb (carried blank (core m p a q) (clearPlan (core m p a Pending.Idle) (Clear.Segment k)) 1944 .answer) 6 ≡ false
   unfolding carried done clearPlan powerOn
   clear-answers k q = refl
 
-  text-left : (c : ℕ) → between 0x20 0x7e c ≡ true → getD (repeated (c ∷ []) blank (ready m p a Pending.Idle) 1944 .page) 0 0 ≡ written (Contents.Text c) p a
+  text-left : (c : ℕ) → between 0x20 0x7e c ≡ true
+      → getD (repeated (c ∷ []) blank (ready m p a Pending.Idle) 1944 .page) 0 0 ≡ written (Contents.Text c) p a
   unfolding obeyed planRule pendingOk decodeRule idleRule
   text-left c e =
       let r = between-parts 0x20 0x7e c e in
       let u = le-ltb c 0x20 (r .0) in
       let v = lt-ltb c 0x7f (r .1) in
-      writes c _ Pending.Idle (omega arith) refl (rw (u, v) (store-writes (Contents.Text c) Pending.Idle a)) (rw (u, v) (store-answers (Contents.Text c) Pending.Idle a))
+      writes c _ Pending.Idle (omega arith) refl (rw (u, v) (store-writes (Contents.Text c) Pending.Idle a))
+      (rw (u, v) (store-answers (Contents.Text c) Pending.Idle a))
 
   graphic-left : (c : ℕ) → between 0x30 0x3f c ≡ true
       → getD (repeated (c ∷ []) blank (ready m p a (Pending.Awaits Argument.Graphic)) 1944 .page) 0 0 ≡ written (Contents.Graphic c) p a
@@ -139,7 +148,8 @@ free-left m c e =
     (rw (r .1, e) (clear-answers m false 0 (normal-remembered m) (Contents.Attribute c) q))
 
 protected-left : (p : Bool) (c : ℕ) → isFlags c ≡ true
-    → getD (repeated (c ∷ []) blank (ready Personality.Wy50 p 0 (Pending.Awaits Argument.Attribute)) 1944 .page) 0 0 ≡ written (Contents.Attribute c) p 0
+    → getD (repeated (c ∷ []) blank (ready Personality.Wy50 p 0 (Pending.Awaits Argument.Attribute)) 1944 .page) 0 0
+    ≡ written (Contents.Attribute c) p 0
 unfolding obeyed planRule pendingOk decodeRule argumentRule judged isAttribute attributeContents attributePlan takesCell powerOn
 protected-left p c e =
     let r = flags-code c e in
@@ -188,11 +198,14 @@ remembered : (m : Personality) (p : Bool) (a : ℕ) → rememberedOk m a ≡ tru
 unfolding rememberBytes attributeBytes rememberedOk
 remembered Personality.Wy50 p a h bs = let z = eqb-true a 0 h in rw z
 remembered Personality.Wy60 p a h bs =
-    pick-if (λ (l : List ℕ). repeated (l ++ bs) blank (ready Personality.Wy60 p 0 Pending.Idle) 1944 .page ≡ repeated bs blank (ready Personality.Wy60 p a Pending.Idle) 1944 .page)
+    pick-if (λ (l : List ℕ). repeated (l ++ bs) blank (ready Personality.Wy60 p 0 Pending.Idle) 1944 .page
+    ≡ repeated bs blank (ready Personality.Wy60 p a Pending.Idle) 1944 .page)
     (eqb a 0) (λ e. let z = eqb-true a 0 e in rw z)
     (λ e.
-    let t = both-parts (isFlags (codeOf a)) _ (below 31 (λ a. both (isFlags (codeOf a)) (eqb (attributeOf (codeOf a)) a)) (λ a. true) codes a (ltb-true a 31 h)) in
-    remembers p (codeOf a) (t .0) bs ∙ ap (λ (n : ℕ). repeated bs blank (ready Personality.Wy60 p n Pending.Idle) 1944 .page) (eqb-true (attributeOf (codeOf a)) a (t .1)))
+    let t = both-parts (isFlags (codeOf a)) _
+    (below 31 (λ a. both (isFlags (codeOf a)) (eqb (attributeOf (codeOf a)) a)) (λ a. true) codes a (ltb-true a 31 h)) in
+    remembers p (codeOf a) (t .0) bs
+    ∙ ap (λ (n : ℕ). repeated bs blank (ready Personality.Wy60 p n Pending.Idle) 1944 .page) (eqb-true (attributeOf (codeOf a)) a (t .1)))
 
 prepared : (m : Personality) (p : Bool) (a : ℕ) → rememberedOk m a ≡ true → (bs : List ℕ)
     → repeated (protectBytes p ++ (rememberBytes a ++ bs)) blank (powerOn m) 1944 .page ≡ repeated bs blank (ready m p a Pending.Idle) 1944 .page
@@ -247,7 +260,8 @@ free m v k c =
     left-by m v (ready m false 0 q) (λ z. omega arith) (rw a n)
     (rw (kind-1 v (omega arith), p, a) (escapes m false 0 n 0x21 (code v ∷ []) q (lit< tt) refl)) (free-left m (code v) c ∙ d)
 
-protected-attribute : (v : ℕ) → v / 128 ≡ 3 → isFlags (code v) ≡ true → getD (runRule blank (powerOn Personality.Wy50) (cellBytes v) 1944 .page) 0 0 ≡ v
+protected-attribute : (v : ℕ) → v / 128 ≡ 3 → isFlags (code v) ≡ true
+    → getD (runRule blank (powerOn Personality.Wy50) (cellBytes v) 1944 .page) 0 0 ≡ v
 unfolding leadBytes escapeRule lookup
 protected-attribute v k c =
     let p : protected v ≡ true = eq-eqb (v / 128 % 2) 1 (omega arith) in
@@ -293,7 +307,8 @@ module _ {m : Personality} where
 
   each-converted : (wide : Bool) {p : List ℕ} → AllWritable m p → AllWritable m (converted wide p)
   unfolding converted
-  each-converted wide {p} h = each-listed (cellFor (columns wide) (otherWidth wide) p) (cell-for (columns wide) (otherWidth wide) h) 0 (height * otherWidth wide)
+  each-converted wide {p} h = each-listed (cellFor (columns wide) (otherWidth wide) p) (cell-for (columns wide) (otherWidth wide) h) 0
+      (height * otherWidth wide)
 
 -- a conversion that is done
 record Turns (m : Personality) (r : Turned) : Type 0 where
@@ -306,7 +321,8 @@ unfolding convertRule stateOn landed
 converted-turns m p s t e h =
     pick-if P (both (good p s) (eqb (length t) (height * otherWidth (s .core .screen .wide))))
     (λ g. pick-if P (sends (s .sending)) (λ u z. absurd (omega (arith, z)))
-    (λ u. pick-if P (loses (columns (s .core .screen .wide)) (otherWidth (s .core .screen .wide)) 0 p) (λ k z. absurd (omega (arith, z))) (λ k z. record { personality = e; page = each-converted (s .core .screen .wide) h })))
+    (λ u. pick-if P (loses (columns (s .core .screen .wide)) (otherWidth (s .core .screen .wide)) 0 p) (λ k z. absurd (omega (arith, z)))
+    (λ k z. record { personality = e; page = each-converted (s .core .screen .wide) h })))
     (λ g z. absurd (omega (arith, z)))
   where
     P : Turned → Type 0

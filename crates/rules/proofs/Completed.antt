@@ -20,9 +20,13 @@ use Rattle.rules.specs.Cell.{pick, both, either}
 use Rattle.rules.specs.State.{isIdle, sends}
 use Rattle.rules.specs.Possible.{good}
 use Rattle.rules.specs.Step.{goesOn, stepRule}
-use Rattle.rules.specs.Calls.{Ran, ended, joined, repeated, behind, runInside, runRule, Call, Step, Run, Press, callRule, Given, Played, after, play}
-use Rattle.rules.specs.theorems.Noninterference.{afterEscape, anyOf, excludedBytes, completes, runCompletes, insideCompletes, callCompletes, anyCompleted}
-use Rattle.rules.specs.theorems.Completed.{OneOfSix, protect-off, clear-nulls, clear-spaces, clear-protected, send-row, send-segment, Completing, CompletedInRun, CompletedIn, in-step, in-run, Completed, Characterised, UnlessCompleted, NoneCompleted}
+use Rattle.rules.specs.Calls.{Ran, ended, joined, repeated, behind, runInside, runRule, Call, Step, Run, Press, callRule, Given, Played, after}
+use Rattle.rules.specs.Calls.{play}
+use Rattle.rules.specs.theorems.Noninterference.{afterEscape, anyOf, excludedBytes, completes, runCompletes, insideCompletes, callCompletes}
+use Rattle.rules.specs.theorems.Noninterference.{anyCompleted}
+use Rattle.rules.specs.theorems.Completed.{OneOfSix, protect-off, clear-nulls, clear-spaces, clear-protected, send-row, send-segment}
+use Rattle.rules.specs.theorems.Completed.{Completing, CompletedInRun, CompletedIn, in-step, in-run, Completed, Characterised, UnlessCompleted}
+use Rattle.rules.specs.theorems.Completed.{NoneCompleted}
 use Rattle.rules.proofs.Tests.{either-way, both-parts, both-true}
 use Rattle.rules.proofs.Sends.{sending-idle}
 use Rattle.rules.proofs.Kept.{possible-parts, good-parts}
@@ -196,7 +200,8 @@ unfolding repeated
 took b bs p s room e = by (sends (s .sending)) (eqb (stepRule p s b room .answer) 6) refl refl e
   where
     r : Ran
-    r = joined (stepRule p s b room) (repeated bs (stepRule p s b room .page) (stepRule p s b room .state) (room - length (stepRule p s b room .reply)))
+    r = joined (stepRule p s b room)
+        (repeated bs (stepRule p s b room .page) (stepRule p s b room .state) (room - length (stepRule p s b room .reply)))
 
     by : (d t : Bool) → sends (s .sending) ≡ d → eqb ((stepRule p s b room) .answer) 6 ≡ t
         → (pick d (ended p s 0 (b ∷ bs)) (pick t (ended p s 6 (b ∷ bs)) r)) .rest ≡ []
@@ -212,7 +217,8 @@ byte-before : (a : ℕ) (before : List ℕ) (b : ℕ) (behind p : List ℕ) (s :
     ((repeated before ((stepRule p s a room) .page) ((stepRule p s a room) .state) (room - length ((stepRule p s a room) .reply))) .state) b
     (room - length ((stepRule p s a room) .reply)
     - length ((repeated before ((stepRule p s a room) .page) ((stepRule p s a room) .state) (room - length ((stepRule p s a room) .reply))) .reply))
-    → runCompletes (before ++ (b ∷ behind)) ((stepRule p s a room) .page) ((stepRule p s a room) .state) (room - length ((stepRule p s a room) .reply)) ≡ true)
+    → runCompletes (before ++ (b ∷ behind)) ((stepRule p s a room) .page) ((stepRule p s a room) .state)
+    (room - length ((stepRule p s a room) .reply)) ≡ true)
     → (repeated (a ∷ before) p s room) .rest ≡ []
     → Completing ((repeated (a ∷ before) p s room) .page) ((repeated (a ∷ before) p s room) .state) b
     (room - length ((repeated (a ∷ before) p s room) .reply))
@@ -340,7 +346,8 @@ call-counted p s (Run bytes room) (in-run _ _ _ _ x) = by (good p s) (sends (s .
 list-completed : (calls : List Call) (p : List ℕ) (s : State) → anyCompleted calls p s ≡ true → Completed calls p s
 unfolding anyCompleted play after
 list-completed [] p s e = absurd (false≢true e)
-list-completed (c ∷ cs) p s e = by (either-parts (callCompletes p s c) _ e) (list-completed cs ((callRule p s c) .page) ((callRule p s c) .given .state))
+list-completed (c ∷ cs) p s e = by (either-parts (callCompletes p s c) _ e)
+    (list-completed cs ((callRule p s c) .page) ((callRule p s c) .given .state))
   where
     by : (callCompletes p s c ≡ true) ⊎ (anyCompleted cs ((callRule p s c) .page) ((callRule p s c) .given .state) ≡ true)
         → (anyCompleted cs ((callRule p s c) .page) ((callRule p s c) .given .state) ≡ true

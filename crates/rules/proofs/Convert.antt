@@ -70,7 +70,8 @@ module _ (p : List ℕ) (s : State) (t : List ℕ) where
     kept : loses (columns wide) (otherWidth wide) 0 p ≡ false
     is : convertRule p s t ≡ record { answer = 0; target = converted wide p; state = stateOn (converted wide p) s }
 
-  pub converts : good p s ≡ true → length t ≡ height * otherWidth wide → sends (s .sending) ≡ false → loses (columns wide) (otherWidth wide) 0 p ≡ false
+  pub converts : good p s ≡ true → length t ≡ height * otherWidth wide → sends (s .sending) ≡ false
+      → loses (columns wide) (otherWidth wide) 0 p ≡ false
       → convertRule p s t ≡ record { answer = 0; target = converted wide p; state = stateOn (converted wide p) s }
   unfolding convertRule
   converts g n u k = rw (g, eq-eqb (length t) _ n, u, k)
@@ -94,7 +95,8 @@ module _ (p : List ℕ) (s : State) (t : List ℕ) where
     is-refused : (n : ℕ) → (n ≡ 0 → ⊥) → convertRule p s t ≡ unturned n t s → Way
 
   way : Way
-  way = by (both (good p s) (eqb (length t) (height * otherWidth wide))) (sends (s .sending)) (loses (columns wide) (otherWidth wide) 0 p) refl refl refl
+  way = by (both (good p s) (eqb (length t) (height * otherWidth wide))) (sends (s .sending))
+      (loses (columns wide) (otherWidth wide) 0 p) refl refl refl
     where
       by : (a c d : Bool) → both (good p s) (eqb (length t) (height * otherWidth wide)) ≡ a → sends (s .sending) ≡ c
           → loses (columns wide) (otherWidth wide) 0 p ≡ d → Way
@@ -177,7 +179,8 @@ module _ (p : List ℕ) (s : State) (t : List ℕ) where
       told : {o : Turned} {n : ℕ} → convertRule p s t ≡ o → o .answer ≡ n → n ≡ 4
       told i z = sym z ∙ sym (ap (λ (r : Turned). r .answer) i) ∙ e
 
-      from : LostFrom (columns (s .core .screen .wide)) (otherWidth (s .core .screen .wide)) 0 p → Lost (columns (s .core .screen .wide)) (otherWidth (s .core .screen .wide)) p
+      from : LostFrom (columns (s .core .screen .wide)) (otherWidth (s .core .screen .wide)) 0 p
+          → Lost (columns (s .core .screen .wide)) (otherWidth (s .core .screen .wide)) p
       from r = let z : 0 + r .at ≡ r .at = zero-add (r .at) in record {
         cell = r .at;
         inside = r .inside;
@@ -186,7 +189,8 @@ module _ (p : List ℕ) (s : State) (t : List ℕ) where
       }
 
       by : (a : Bool) → both (good p s) (eqb (length t) (height * otherWidth (s .core .screen .wide))) ≡ a → (c : Bool) → sends (s .sending) ≡ c
-          → (d : Bool) → loses (columns (s .core .screen .wide)) (otherWidth (s .core .screen .wide)) 0 p ≡ d → Lost (columns (s .core .screen .wide)) (otherWidth (s .core .screen .wide)) p
+          → (d : Bool) → loses (columns (s .core .screen .wide)) (otherWidth (s .core .screen .wide)) 0 p ≡ d
+          → Lost (columns (s .core .screen .wide)) (otherWidth (s .core .screen .wide)) p
       by false a c u d k = absurd (omega (arith, told (is-seven p s t a) refl))
       by true a true u d k = absurd (omega (arith, told (is-six p s t a u) refl))
       by true a false u true k = from (loses-lost (columns (s .core .screen .wide)) (otherWidth (s .core .screen .wide)) 0 p k)
@@ -206,7 +210,8 @@ module _ (p : List ℕ) (s : State) (t : List ℕ) where
 
 -- the row and the column of a place in a row of w columns
 row-at : {w : ℕ} → Width w → (row column : ℕ) → column < w → (rowOf w (row * w + column) ≡ row) × (columnOf w (row * w + column) ≡ column)
-row-at k row column = by-width (λ (w : ℕ). column < w → (rowOf w (row * w + column) ≡ row) × (columnOf w (row * w + column) ≡ column)) (λ h. (omega arith, omega arith)) (λ h. (omega arith, omega arith)) k
+row-at k row column = by-width (λ (w : ℕ). column < w → (rowOf w (row * w + column) ≡ row) × (columnOf w (row * w + column) ≡ column))
+    (λ h. (omega arith, omega arith)) (λ h. (omega arith, omega arith)) k
 
 module _ (wide : Bool) (p : List ℕ) (row column : ℕ) (r : row < height) (c : column < otherWidth wide) where
   abbrev at : ℕ
@@ -214,7 +219,8 @@ module _ (wide : Bool) (p : List ℕ) (row column : ℕ) (r : row < height) (c :
 
   there : getD (converted wide p) at 0 ≡ cellFor (columns wide) (otherWidth wide) p at
   unfolding converted
-  there = listed-at (cellFor (columns wide) (otherWidth wide) p) 0 (height * otherWidth wide) at (cell-inside (columns-width (not wide)) r c) ∙ rw (zero-add at) refl
+  there = listed-at (cellFor (columns wide) (otherWidth wide) p) 0 (height * otherWidth wide) at (cell-inside (columns-width (not wide)) r c)
+      ∙ rw (zero-add at) refl
 
   same-cell : column < columns wide → getD (converted wide p) at 0 ≡ getD p (row * columns wide + column) 0
   unfolding cellFor
@@ -275,8 +281,10 @@ module _ (p : List ℕ) (s : State) (g : good p s ≡ true) (u : sends (s .sendi
   turned-good =
       good-whole q (stateOn q s) (converted-length (s .core .screen .wide) p)
       (possible-whole (stateOn q s) record {
-        core = landed-kept (guardedAt (s .core .modes .protect) q) (Land.Settle 0) (withScreen (s .core) (unsplitScreen (not (s .core .screen .wide)))) (s .gathered)
-            (length-guards (s .core .modes .protect) q ∙ converted-length (s .core .screen .wide) p) on-screen (home-lands (not (s .core .screen .wide)));
+        core = landed-kept (guardedAt (s .core .modes .protect) q) (Land.Settle 0)
+            (withScreen (s .core) (unsplitScreen (not (s .core .screen .wide)))) (s .gathered)
+            (length-guards (s .core .modes .protect) q ∙ converted-length (s .core .screen .wide) p) on-screen
+            (home-lands (not (s .core .screen .wide)));
         sending = rw (not-sending (s .sending) u);
         setup = record {
           keys = k .setup .keys;
@@ -329,7 +337,8 @@ unfolding cellFor columns
 back-cell p k h =
     let row : k / 80 < 24 = omega arith in
     let column : k % 80 < 80 = omega arith in
-    let there : getD (converted false p) (k / 80 * 132 + k % 80) 0 ≡ getD p (k / 80 * 80 + k % 80) 0 = same-cell false p (k / 80) (k % 80) row (omega arith) column in
+    let there : getD (converted false p) (k / 80 * 132 + k % 80) 0
+    ≡ getD p (k / 80 * 80 + k % 80) 0 = same-cell false p (k / 80) (k % 80) row (omega arith) column in
     let whole : k / 80 * 80 + k % 80 ≡ k = omega arith in
     rw (lt-ltb (k % 80) 132 (omega arith)) (there ∙ rw whole)
 
@@ -427,7 +436,8 @@ back p s t u e n z m = rw (d .is, is) (record {
         (r .core ≡ coreOn (converted (w .core .screen .wide) q) (coreOn q (s .core))) × ((r .sending ≡ s .sending) × (r .gathered ≡ s .gathered))
     rest = back-rest (converted (w .core .screen .wide) q) q s
 
-    is : convertRule q w u ≡ record { answer = 0; target = converted (w .core .screen .wide) q; state = stateOn (converted (w .core .screen .wide) q) w }
+    is : convertRule q w u
+        ≡ record { answer = 0; target = converted (w .core .screen .wide) q; state = stateOn (converted (w .core .screen .wide) q) w }
     is =
         converts q w u (turned-good p s (d .fine) (d .quiet)) (m ∙ narrow-long p s (d .fine) e ∙ long narrow) (sends-still q s ∙ d .quiet)
         (ap (λ (b : Bool). loses (columns b) (otherWidth b) 0 q) narrow ∙ lost-none p (s .core .screen .wide) e)

@@ -29,7 +29,8 @@ use Rattle.rules.specs.Arguments.{isAttribute, attributeContents, featur
 use Rattle.rules.specs.Slot.{slotOk, slotEnd, slotMost, slotLow, isText, allText, textOk}
 use Rattle.rules.specs.Possible.{rememberedOk, pendingOk}
 use Rattle.rules.specs.Writable.{isStored, writable}
-use Rattle.rules.specs.Decode.{lookup, controls, escapes, idleRule, escapeRule, judged, featureRule, fieldRule, splitRule, digitRule, decimalRowRule, decimalColumnRule, slotRule, textRule, spoiltRule, argumentRule, decodeRule}
+use Rattle.rules.specs.Decode.{lookup, controls, escapes, idleRule, escapeRule, judged, featureRule, fieldRule, splitRule, digitRule}
+use Rattle.rules.specs.Decode.{decimalRowRule, decimalColumnRule, slotRule, textRule, spoiltRule, argumentRule, decodeRule}
 use Rattle.rules.proofs.Tests.{pick-if, both-parts, both-true, between-parts}
 use Rattle.rules.proofs.Commands.{settingOk, storeOk, fillOk, clearOk, kindOf}
 use Rattle.rules.proofs.Numbers.{filled-ok}
@@ -92,7 +93,8 @@ module _ (g : List ℕ) where
 
   feature-ok : (f : ℕ) → decodedOk g (featureRule f) ≡ true
   unfolding featureRule decodedOk settingOk
-  feature-ok f = pick-if (Ok g) (between 0x3a 0x3b f) (λ e. refl) (λ e. judged-ok (ltb (featurePlace f) 5) _ (λ z. both-true z (eq-eqb (featurePlace f) _ refl)))
+  feature-ok f = pick-if (Ok g) (between 0x3a 0x3b f) (λ e. refl)
+      (λ e. judged-ok (ltb (featurePlace f) 5) _ (λ z. both-true z (eq-eqb (featurePlace f) _ refl)))
 
   field-ok : (n a : ℕ) → decodedOk g (fieldRule n a) ≡ true
   unfolding fieldRule settingOk

@@ -2,7 +2,8 @@
 use mathlib.Core.Path.{refl}
 use Rattle.rules.specs.Row.{rowEnd}
 use Rattle.rules.specs.Search.{whichCells, firstIn}
-use Rattle.rules.specs.Fields.{pageWidth, startsAt, nextFieldRule, kept, trimmed, textOf, fitting, fieldTextRule, rowTextRule, positionRule, cellRule}
+use Rattle.rules.specs.Fields.{pageWidth, startsAt, nextFieldRule, kept, trimmed, textOf, fitting, fieldTextRule, rowTextRule, positionRule}
+use Rattle.rules.specs.Fields.{cellRule}
 use Rattle.rules.specs.Possible.{blank}
 use Rattle.rules.specs.cases.Inputs.{pageOf}
 use Rattle.rules.specs.cases.FieldCases.{filledForm, wideForm, FieldCases}

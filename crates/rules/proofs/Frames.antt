@@ -34,7 +34,8 @@ use Rattle.rules.specs.theorems.Parts as Part
 use Rattle.rules.proofs.Areas.{step-outside}
 use Rattle.rules.specs.theorems.Frames.{changes, commandParts, slotParts, SamePart, Frames}
 use Rattle.rules.proofs.Tests.{pick-if}
-use Rattle.rules.proofs.Framing.{never, ScreenKept, CoreKept, same-modes, same-screen, same-core, framed, kept-on, SetupKept, ChangeKept, no-change, setup-framed, page-framed, stored-keeps}
+use Rattle.rules.proofs.Framing.{never, ScreenKept, CoreKept, same-modes, same-screen, same-core, framed, kept-on, SetupKept, ChangeKept}
+use Rattle.rules.proofs.Framing.{no-change, setup-framed, page-framed, stored-keeps}
 use Rattle.rules.proofs.Commands.{Kind}
 use Rattle.rules.proofs.Forms.{Form, a-refusal, a-reply, a-change, a-write, formed}
 
@@ -79,7 +80,8 @@ unfolding landed
 settled-kept g Land.Stay m a = same-core
 settled-kept g (Land.Settle i) m a = framed same-modes (cursor-set (m .screen) _ a) (λ h. refl) (λ h. refl) refl
 
-landed-kept : {l : List Part} (g : List Bool) (y : Land) (m : Core) → (isListed Part.Cursor l ≡ false → y ≡ Land.Stay) → CoreKept l (m .screen .active) m (landed g y m)
+landed-kept : {l : List Part} (g : List Bool) (y : Land) (m : Core) → (isListed Part.Cursor l ≡ false → y ≡ Land.Stay)
+    → CoreKept l (m .screen .active) m (landed g y m)
 unfolding landed
 landed-kept {l = l} g y m h = by (isListed Part.Cursor l) refl
   where
@@ -147,7 +149,8 @@ step-kept p s b room x h =
     (λ u. pick-if (λ (o : Outcome). SamePart x p s (o .page) (o .state)) (eqb room 0) (λ z. refl) (λ z. refl))
     (λ u.
     let k = byte-kept p s b room in
-    page-framed (changes (decodeRule (s .core .pending) b)) (k .page) x h _ _ _ ∙ setup-framed (k .setup (s .setup)) x h _ _ p ∙ k .core .part x h (s .setup) p))
+    page-framed (changes (decodeRule (s .core .pending) b)) (k .page) x h _ _ _ ∙ setup-framed (k .setup (s .setup)) x h _ _ p
+    ∙ k .core .part x h (s .setup) p))
     (λ e. refl)
 
 pub frames : Frames

@@ -54,7 +54,14 @@ pub record CoreKept (l : List Part) (n : ℕ) (c m : Core) : Type 0 where
   pub part : (x : Part) → isListed x l ≡ false → (u : Setup) (p : List ℕ) → value x n m u p ≡ value x n c u p
 
 pub same-modes : {l : List Part} {m : Modes} → ModesKept l m m
-same-modes = record { protect = λ h. refl; writeprotect = λ h. refl; insert = λ h. refl; autoscroll = λ h. refl; locked = λ h. refl; local = λ h. refl }
+same-modes = record {
+  protect = λ h. refl;
+  writeprotect = λ h. refl;
+  insert = λ h. refl;
+  autoscroll = λ h. refl;
+  locked = λ h. refl;
+  local = λ h. refl;
+}
 
 module _ {l : List Part} {n : ℕ} where
   pub same-screen : {x : Screen} → ScreenKept l n x x
@@ -101,11 +108,46 @@ module _ {l : List Part} {n : ℕ} where
 
 pub turned-modes : (m : Modes) (k : Mode) (b : Bool) → ModesKept (modeParts k) m (withMode m k b)
 unfolding withMode
-turned-modes m Mode.WriteProtect b = record { protect = λ h. refl; writeprotect = may; insert = λ h. refl; autoscroll = λ h. refl; locked = λ h. refl; local = λ h. refl }
-turned-modes m Mode.Insert b = record { protect = λ h. refl; writeprotect = λ h. refl; insert = may; autoscroll = λ h. refl; locked = λ h. refl; local = λ h. refl }
-turned-modes m Mode.Autoscroll b = record { protect = λ h. refl; writeprotect = λ h. refl; insert = λ h. refl; autoscroll = may; locked = λ h. refl; local = λ h. refl }
-turned-modes m Mode.Lock b = record { protect = λ h. refl; writeprotect = λ h. refl; insert = λ h. refl; autoscroll = λ h. refl; locked = may; local = λ h. refl }
-turned-modes m Mode.LocalEdit b = record { protect = λ h. refl; writeprotect = λ h. refl; insert = λ h. refl; autoscroll = λ h. refl; locked = λ h. refl; local = may }
+turned-modes m Mode.WriteProtect b = record {
+  protect = λ h. refl;
+  writeprotect = may;
+  insert = λ h. refl;
+  autoscroll = λ h. refl;
+  locked = λ h. refl;
+  local = λ h. refl;
+}
+turned-modes m Mode.Insert b = record {
+  protect = λ h. refl;
+  writeprotect = λ h. refl;
+  insert = may;
+  autoscroll = λ h. refl;
+  locked = λ h. refl;
+  local = λ h. refl;
+}
+turned-modes m Mode.Autoscroll b = record {
+  protect = λ h. refl;
+  writeprotect = λ h. refl;
+  insert = λ h. refl;
+  autoscroll = may;
+  locked = λ h. refl;
+  local = λ h. refl;
+}
+turned-modes m Mode.Lock b = record {
+  protect = λ h. refl;
+  writeprotect = λ h. refl;
+  insert = λ h. refl;
+  autoscroll = λ h. refl;
+  locked = may;
+  local = λ h. refl;
+}
+turned-modes m Mode.LocalEdit b = record {
+  protect = λ h. refl;
+  writeprotect = λ h. refl;
+  insert = λ h. refl;
+  autoscroll = λ h. refl;
+  locked = λ h. refl;
+  local = may;
+}
 
 -- ---- of the set-up
 
@@ -147,7 +189,8 @@ setup-framed k (Part.Cells z) h n c p = refl
 
 -- ---- of the page
 
-pub page-framed : (l : List Part) {p q : List ℕ} → (isListed Part.page l ≡ false → q ≡ p) → (x : Part) → isListed x l ≡ false → (n : ℕ) (c : Core) (u : Setup)
+pub page-framed : (l : List Part) {p q : List ℕ} → (isListed Part.page l ≡ false → q ≡ p) → (x : Part) → isListed x l ≡ false
+    → (n : ℕ) (c : Core) (u : Setup)
     → value x n c u q ≡ value x n c u p
 page-framed l e (Part.Cells z) h n c u = ap Part.Numbers (e h)
 page-framed l e Part.Protect h n c u = refl
@@ -188,20 +231,110 @@ ChangeKept l y = (u : Setup) → SetupKept l u (changed y u)
 
 pub no-change : {l : List Part} → ChangeKept l SetupChange.Nothing
 unfolding changed
-no-change u = record { tabs = λ h. refl; attributes = λ h. refl; features = λ h. refl; keys = λ h. refl; labels = λ h. refl; message = λ h. refl; shifted = λ h. refl; wish = λ h. refl }
+no-change u = record {
+  tabs = λ h. refl;
+  attributes = λ h. refl;
+  features = λ h. refl;
+  keys = λ h. refl;
+  labels = λ h. refl;
+  message = λ h. refl;
+  shifted = λ h. refl;
+  wish = λ h. refl;
+}
 
 pub change-keeps : (y : SetupChange) → ChangeKept (changeParts y) y
 unfolding changed
 change-keeps SetupChange.Nothing u = no-change u
-change-keeps (SetupChange.Tab c b) u = record { tabs = may; attributes = λ h. refl; features = λ h. refl; keys = λ h. refl; labels = λ h. refl; message = λ h. refl; shifted = λ h. refl; wish = λ h. refl }
-change-keeps SetupChange.ClearTabs u = record { tabs = may; attributes = λ h. refl; features = λ h. refl; keys = λ h. refl; labels = λ h. refl; message = λ h. refl; shifted = λ h. refl; wish = λ h. refl }
-change-keeps (SetupChange.Attribute n a) u = record { tabs = λ h. refl; attributes = may; features = λ h. refl; keys = λ h. refl; labels = λ h. refl; message = λ h. refl; shifted = λ h. refl; wish = λ h. refl }
-change-keeps (SetupChange.Feature n f) u = record { tabs = λ h. refl; attributes = λ h. refl; features = may; keys = λ h. refl; labels = λ h. refl; message = λ h. refl; shifted = λ h. refl; wish = λ h. refl }
-change-keeps SetupChange.HideLine u = record { tabs = λ h. refl; attributes = λ h. refl; features = λ h. refl; keys = λ h. refl; labels = λ h. refl; message = λ h. refl; shifted = may; wish = λ h. refl }
-change-keeps (SetupChange.Wish b) u = record { tabs = λ h. refl; attributes = λ h. refl; features = λ h. refl; keys = λ h. refl; labels = λ h. refl; message = λ h. refl; shifted = λ h. refl; wish = may }
+change-keeps (SetupChange.Tab c b) u = record {
+  tabs = may;
+  attributes = λ h. refl;
+  features = λ h. refl;
+  keys = λ h. refl;
+  labels = λ h. refl;
+  message = λ h. refl;
+  shifted = λ h. refl;
+  wish = λ h. refl;
+}
+change-keeps SetupChange.ClearTabs u = record {
+  tabs = may;
+  attributes = λ h. refl;
+  features = λ h. refl;
+  keys = λ h. refl;
+  labels = λ h. refl;
+  message = λ h. refl;
+  shifted = λ h. refl;
+  wish = λ h. refl;
+}
+change-keeps (SetupChange.Attribute n a) u = record {
+  tabs = λ h. refl;
+  attributes = may;
+  features = λ h. refl;
+  keys = λ h. refl;
+  labels = λ h. refl;
+  message = λ h. refl;
+  shifted = λ h. refl;
+  wish = λ h. refl;
+}
+change-keeps (SetupChange.Feature n f) u = record {
+  tabs = λ h. refl;
+  attributes = λ h. refl;
+  features = may;
+  keys = λ h. refl;
+  labels = λ h. refl;
+  message = λ h. refl;
+  shifted = λ h. refl;
+  wish = λ h. refl;
+}
+change-keeps SetupChange.HideLine u = record {
+  tabs = λ h. refl;
+  attributes = λ h. refl;
+  features = λ h. refl;
+  keys = λ h. refl;
+  labels = λ h. refl;
+  message = λ h. refl;
+  shifted = may;
+  wish = λ h. refl;
+}
+change-keeps (SetupChange.Wish b) u = record {
+  tabs = λ h. refl;
+  attributes = λ h. refl;
+  features = λ h. refl;
+  keys = λ h. refl;
+  labels = λ h. refl;
+  message = λ h. refl;
+  shifted = λ h. refl;
+  wish = may;
+}
 
 pub stored-keeps : (x : Slot) (l : List ℕ) (u : Setup) → SetupKept (slotParts x) u (stored x l u)
 unfolding stored
-stored-keeps (Slot.Key v) l u = record { tabs = λ h. refl; attributes = λ h. refl; features = λ h. refl; keys = may; labels = λ h. refl; message = λ h. refl; shifted = λ h. refl; wish = λ h. refl }
-stored-keeps (Slot.Label v) l u = record { tabs = λ h. refl; attributes = λ h. refl; features = λ h. refl; keys = λ h. refl; labels = may; message = λ h. refl; shifted = may; wish = λ h. refl }
-stored-keeps Slot.Message l u = record { tabs = λ h. refl; attributes = λ h. refl; features = λ h. refl; keys = λ h. refl; labels = λ h. refl; message = may; shifted = λ h. refl; wish = λ h. refl }
+stored-keeps (Slot.Key v) l u = record {
+  tabs = λ h. refl;
+  attributes = λ h. refl;
+  features = λ h. refl;
+  keys = may;
+  labels = λ h. refl;
+  message = λ h. refl;
+  shifted = λ h. refl;
+  wish = λ h. refl;
+}
+stored-keeps (Slot.Label v) l u = record {
+  tabs = λ h. refl;
+  attributes = λ h. refl;
+  features = λ h. refl;
+  keys = λ h. refl;
+  labels = may;
+  message = λ h. refl;
+  shifted = may;
+  wish = λ h. refl;
+}
+stored-keeps Slot.Message l u = record {
+  tabs = λ h. refl;
+  attributes = λ h. refl;
+  features = λ h. refl;
+  keys = λ h. refl;
+  labels = λ h. refl;
+  message = may;
+  shifted = λ h. refl;
+  wish = λ h. refl;
+}

@@ -37,8 +37,10 @@ use Rattle.rules.specs.declared.Land.{Land}
 use Rattle.rules.specs.declared.Land.the-variants as Land
 use Rattle.rules.specs.Row.{columns}
 use Rattle.rules.specs.Search.{guardedAt}
-use Rattle.rules.specs.State.{widthOf, pageLength, withCursor, keyPlace, labelPlace, shortText, idle, isIdle, sends, changed, stored, sendingAfter, gatheredAfter, setupAfter}
-use Rattle.rules.specs.Possible.{powerOn, blank, unsplitOk, screenOk, attributesOk, featuresOk, pendingOk, rememberedOk, sendingOk, noStops, tabsOk, coreOk, setupOk, possible, good}
+use Rattle.rules.specs.State.{widthOf, pageLength, withCursor, keyPlace, labelPlace, shortText, idle, isIdle, sends, changed, stored}
+use Rattle.rules.specs.State.{sendingAfter, gatheredAfter, setupAfter}
+use Rattle.rules.specs.Possible.{powerOn, blank, unsplitOk, screenOk, attributesOk, featuresOk, pendingOk, rememberedOk, sendingOk, noStops}
+use Rattle.rules.specs.Possible.{tabsOk, coreOk, setupOk, possible, good}
 use Rattle.rules.specs.Arguments.{isAttribute, featurePlace}
 use Rattle.rules.specs.Slot.{slotOk, slotLow, slotMost, allText, textOk, textsOk}
 use Rattle.rules.specs.Decode.{decodeRule}
@@ -48,7 +50,8 @@ use Rattle.rules.specs.theorems.Kept.{Keeps, Kept}
 use Rattle.rules.specs.Send.{leftFrom}
 use Rattle.rules.specs.Carry.{landed, Effect, pageAfter, done, begun, carried}
 use Rattle.rules.specs.Step.{obeyed, innerRule, Outcome, outcomeOf, goesOn, stepInside, stepRule}
-use Rattle.rules.specs.Calls.{powerOnRule, Ran, joined, repeated, behind, runInside, runRule, Call, Step, Run, Press, ofStep, ofRun, ofPress, callRule, after, play}
+use Rattle.rules.specs.Calls.{powerOnRule, Ran, joined, repeated, behind, runInside, runRule, Call, Step, Run, Press, ofStep, ofRun, ofPress}
+use Rattle.rules.specs.Calls.{callRule, after, play}
 use Rattle.rules.proofs.Tests.{pick-if, both-parts, both-true}
 use Rattle.rules.proofs.Searching.{length-guards}
 use Rattle.rules.proofs.Places.{in-settled}
@@ -267,7 +270,13 @@ module _ (p : List ℕ) (c : Core) (n : length p ≡ pageLength (c .screen)) (g 
 
   next-kept : {t : Bool} {x : Plan} → PlanKept t (idle c) x → t ≡ true → PossibleCore (x .next) g
   unfolding pendingOk
-  next-kept {t} {x} k e = record { screen = k .good .screen; bells = k .bells (h .bells); remembered = k .remembered e (h .remembered); pending = rw (k .pending) }
+  next-kept {t} {x} k e = record {
+    screen = k .good .screen;
+    bells = k .bells (h .bells);
+    remembered = k .remembered e (h .remembered);
+    pending = rw
+        (k .pending);
+  }
 
   -- a reply that is due begins, on the page of the next core
   begun-left : {t : Bool} (x : Plan) (room : ℕ) → PlanKept t (idle c) x → 0 < room
@@ -304,10 +313,38 @@ module _ (p : List ℕ) (c : Core) (n : length p ≡ pageLength (c .screen)) (g 
 
   obeyed-kept : (tabs : List Bool) (d : Decoded) (room : ℕ) → decodedOk g d ≡ true → EffectKept c g (obeyed p c tabs d room)
   unfolding obeyed decodedOk changeOk effectOk gatheredAfter sendingAfter sendingOk
-  obeyed-kept tabs (Decoded.Wait q) room e = record { size = n; wide = refl; personality = refl; core = record { screen = h .screen; bells = h .bells; remembered = h .remembered; pending = e }; change = refl; sending = refl }
-  obeyed-kept tabs (Decoded.Gather x i b) room e = record { size = n; wide = refl; personality = refl; core = record { screen = h .screen; bells = h .bells; remembered = h .remembered; pending = e }; change = refl; sending = refl }
-  obeyed-kept tabs (Decoded.Take x i) room e = record { size = n; wide = refl; personality = refl; core = idle-kept c g h; change = e; sending = refl }
-  obeyed-kept tabs (Decoded.Reject a) room e = record { size = n; wide = refl; personality = refl; core = idle-kept c g h; change = refl; sending = refl }
+  obeyed-kept tabs (Decoded.Wait q) room e = record {
+    size = n;
+    wide = refl;
+    personality = refl;
+    core = record { screen = h .screen; bells = h .bells; remembered = h .remembered; pending = e };
+    change = refl;
+    sending = refl;
+  }
+  obeyed-kept tabs (Decoded.Gather x i b) room e = record {
+    size = n;
+    wide = refl;
+    personality = refl;
+    core = record { screen = h .screen; bells = h .bells; remembered = h .remembered; pending = e };
+    change = refl;
+    sending = refl;
+  }
+  obeyed-kept tabs (Decoded.Take x i) room e = record {
+    size = n;
+    wide = refl;
+    personality = refl;
+    core = idle-kept c g h;
+    change = e;
+    sending = refl;
+  }
+  obeyed-kept tabs (Decoded.Reject a) room e = record {
+    size = n;
+    wide = refl;
+    personality = refl;
+    core = idle-kept c g h;
+    change = refl;
+    sending = refl;
+  }
   obeyed-kept tabs (Decoded.Do d) room e = carried-kept _ room (planned-kept tabs d) e
 
   pub inner-kept : (tabs : List Bool) (b room : ℕ) → EffectKept c g (innerRule p c tabs b room)
@@ -332,7 +369,13 @@ keeps-same : {p : List ℕ} {s : State} → Keeps p s p s
 keeps-same = record { size = refl; wide = refl; personality = refl; state = λ h. h }
 
 keeps-then : {p q r : List ℕ} {s t u : State} → Keeps p s q t → Keeps q t r u → Keeps p s r u
-keeps-then a b = record { size = b .size ∙ a .size; wide = b .wide ∙ a .wide; personality = b .personality ∙ a .personality; state = λ h. b .state (a .state h) }
+keeps-then a b = record {
+  size = b .size ∙ a .size;
+  wide = b .wide ∙ a .wide;
+  personality = b .personality
+      ∙ a .personality;
+  state = λ h. b .state (a .state h);
+}
 
 pub good-parts : (p : List ℕ) (s : State) → good p s ≡ true → (length p ≡ pageLength (s .core .screen)) × (possible s ≡ true)
 unfolding good
@@ -364,7 +407,8 @@ goes-keeps p s room g u h =
       state = λ e. possible-whole _ record {
         core = w .core;
         sending = idle-ok x (s .core .pending) _ (sending-idle x (s .core .pending) (s .sending) (w .sending) u)
-            (left-ok p (s .core) (r .0) (screen-inside x (w .core .screen)) (s .sending) (ok-good x (s .core .pending) (s .sending) (w .sending)) room h);
+            (left-ok p (s .core) (r .0) (screen-inside x (w .core .screen)) (s .sending)
+            (ok-good x (s .core .pending) (s .sending) (w .sending)) room h);
         setup = w .setup;
       };
     }
@@ -398,7 +442,8 @@ outside-keeps p s b room g u =
 pub step-keeps : (p : List ℕ) (s : State) (b room : ℕ) → Keeps p s (stepRule p s b room .page) (stepRule p s b room .state)
 unfolding stepRule
 step-keeps p s b room =
-    pick-if P (good p s) (λ g. pick-if P (sends (s .sending)) (λ u. inside-keeps p s room g u) (λ u. outside-keeps p s b room g (not-sending (s .sending) u)))
+    pick-if P (good p s) (λ g. pick-if P (sends (s .sending)) (λ u. inside-keeps p s room g u)
+    (λ u. outside-keeps p s b room g (not-sending (s .sending) u)))
     (λ g. keeps-same)
   where
     P : Outcome → Type 0
@@ -426,7 +471,8 @@ run-inside-keeps p s bytes room g u =
 pub run-keeps : (p : List ℕ) (s : State) (bytes : List ℕ) (room : ℕ) → Keeps p s (runRule p s bytes room .page) (runRule p s bytes room .state)
 unfolding runRule
 run-keeps p s bytes room =
-    pick-if P (good p s) (λ g. pick-if P (sends (s .sending)) (λ u. run-inside-keeps p s bytes room g u) (λ u. repeated-keeps bytes p s room)) (λ g. keeps-same)
+    pick-if P (good p s) (λ g. pick-if P (sends (s .sending)) (λ u. run-inside-keeps p s bytes room g u) (λ u. repeated-keeps bytes p s room))
+    (λ g. keeps-same)
   where
     P : Ran → Type 0
     P r = Keeps p s (r .page) (r .state)

@@ -62,7 +62,8 @@ module _ {p q : List ℕ} (h : Related p q p q) (s : State) where
   abbrev Agree : Effect → Effect → Type 0
   Agree a b = Agreeing p q (outcomeOf s a) (outcomeOf s b)
 
-  begun-agrees : (segment : Bool) (room : ℕ) → Agree (begun p (text (idle (s .core)) false segment) room) (begun q (text (idle (s .core)) false segment) room)
+  begun-agrees : (segment : Bool) (room : ℕ)
+      → Agree (begun p (text (idle (s .core)) false segment) room) (begun q (text (idle (s .core)) false segment) room)
   unfolding begun sendingAfter
   begun-agrees segment room =
       let k = Place.Cell (textStart (s .core .screen) segment) in
@@ -83,7 +84,8 @@ module _ {p q : List ℕ} (h : Related p q p q) (s : State) where
       (begun-agrees segment room)
 
   obeyed-agrees : (x : Send) → OpenSend x → (room : ℕ)
-      → Agree (obeyed p (s .core) (s .setup .tabs) (Decoded.Do (Command.Send x)) room) (obeyed q (s .core) (s .setup .tabs) (Decoded.Do (Command.Send x)) room)
+      → Agree (obeyed p (s .core) (s .setup .tabs) (Decoded.Do (Command.Send x)) room)
+      (obeyed q (s .core) (s .setup .tabs) (Decoded.Do (Command.Send x)) room)
   unfolding obeyed planRule sendPlan
   obeyed-agrees Send.OpenRow of-row room = carried-agrees false room
   obeyed-agrees Send.OpenSegment of-segment room = carried-agrees true room
@@ -111,7 +113,8 @@ module _ {p q : List ℕ} (h : Related p q p q) (s : State) where
   unheard-agrees n = record { reply = refl; answer = refl; taken = refl; state = refl; first = refl; second = refl }
 
   -- on a bad page or state both answer 7
-  judged : (x y : Outcome) → (good p s ≡ true → Agreeing p q x y) → Agreeing p q (pick (good p s) x (unheard 7 p s)) (pick (good q s) y (unheard 7 q s))
+  judged : (x y : Outcome) → (good p s ≡ true → Agreeing p q x y)
+      → Agreeing p q (pick (good p s) x (unheard 7 p s)) (pick (good q s) y (unheard 7 q s))
   judged x y a = rw (← good-agrees) (by (good p s) a)
     where
       by : (t : Bool) → (t ≡ true → Agreeing p q x y) → Agreeing p q (pick t x (unheard 7 p s)) (pick t y (unheard 7 q s))
@@ -132,7 +135,8 @@ module _ {p q : List ℕ} (h : Related p q p q) (s : State) where
   unfolding stepRule
   step-agrees b room e z = judged _ _ (λ g. rw (not-inside g e) (byte-agrees b room e z))
 
-  goes-agrees : (segment : Bool) (k : Place) → s .sending ≡ Sending.Text false segment k → (room : ℕ) → Agreeing p q (goesOn p s room) (goesOn q s room)
+  goes-agrees : (segment : Bool) (k : Place) → s .sending ≡ Sending.Text false segment k → (room : ℕ)
+      → Agreeing p q (goesOn p s room) (goesOn q s room)
   unfolding goesOn
   goes-agrees segment k e room =
       record {

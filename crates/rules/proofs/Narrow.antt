@@ -129,7 +129,8 @@ pub still : (bytes p : List ℕ) (s : State) → good p s ≡ true → sends (s 
 unfolding runRule runInside
 still bytes p s g u = rw (g, u) record { taken = refl; refused = refl; reply = refl; rest = refl; page = refl; state = refl }
 
-none-more : (bytes p : List ℕ) (s : State) (x : List ℕ) (m : ℕ) → repeated bytes p s m ≡ ended p s 0 bytes → Same (runRule p s bytes 0) (ended p s 0 bytes)
+none-more : (bytes p : List ℕ) (s : State) (x : List ℕ) (m : ℕ) → repeated bytes p s m ≡ ended p s 0 bytes
+    → Same (runRule p s bytes 0) (ended p s 0 bytes)
     → Same (thenRun (behind x (repeated bytes p s m)) 0) (behind x (repeated bytes p s m))
 none-more bytes p s x m q y = rw q (same-behind x (ended p s 0 bytes) (ended p s 0 bytes) 0 (same-trans (same-ended p s 0 bytes 0) y))
 
@@ -151,7 +152,8 @@ rest-of bytes p a b x y z s v w e f l q r =
 -- ---- a send, and then bytes
 
 -- from a state t whose send stands at a place of its reply, the first or a later one
-module _ (p : List ℕ) (t : State) (n : length p ≡ pageLength (t .core .screen)) (i : Inside (t .core .screen)) (k : GoodSend (t .core .screen) (t .sending)) where
+module _ (p : List ℕ) (t : State) (n : length p ≡ pageLength (t .core .screen)) (i : Inside (t .core .screen))
+    (k : GoodSend (t .core .screen) (t .sending)) where
   goes-state : (a b : ℕ) → 0 < a → goesOn p (goesOn p t a .state) b .state ≡ goesOn p t (a + b) .state
   unfolding goesOn
   goes-state a b h = ap (withSending t) (left-add p (t .core) n i (t .sending) k a b h)
@@ -215,10 +217,12 @@ begins p t room =
 
 pub data Byte (p : List ℕ) (s : State) (b : ℕ) : Type 0 where
   -- the same whatever the room: it replies nothing
-  same : (o : Outcome) → ((room : ℕ) → stepRule p s b room ≡ o) → o .reply ≡ [] → sends (o .state .sending) ≡ false → eqb (o .answer) 6 ≡ false → Byte p s b
+  same : (o : Outcome) → ((room : ℕ) → stepRule p s b room ≡ o) → o .reply ≡ [] → sends (o .state .sending) ≡ false → eqb (o .answer) 6 ≡ false
+      → Byte p s b
   -- a reply is due
   due : (t : State) → length p ≡ pageLength (t .core .screen) → Inside (t .core .screen) → GoodSend (t .core .screen) (t .sending)
-      → (sends (t .sending) ≡ true) × (commandOf (t .sending) ≡ b) → stepRule p s b 0 .answer ≡ 6 → ((room : ℕ) → 0 < room → stepRule p s b room ≡ begins p t room) → Byte p s b
+      → (sends (t .sending) ≡ true) × (commandOf (t .sending) ≡ b) → stepRule p s b 0 .answer ≡ 6
+      → ((room : ℕ) → 0 < room → stepRule p s b room ≡ begins p t room) → Byte p s b
 
 none-due : (p : List ℕ) (c d : Core) (y : Sending) → sends y ≡ true → carried p c (replying d y) 0 ≡ quiet 6 c p
 unfolding carried
@@ -251,7 +255,8 @@ module _ (p : List ℕ) (s : State) (g : good p s ≡ true) (u : sends (s .sendi
   unfolding stepRule
   step-is room = rw (g, u)
 
-  quiet-inner : (e : Effect) → ((room : ℕ) → innerRule p (s .core) (s .setup .tabs) b room ≡ e) → e .reply ≡ [] → sends (sendingAfter (e .change) (s .sending)) ≡ false
+  quiet-inner : (e : Effect) → ((room : ℕ) → innerRule p (s .core) (s .setup .tabs) b room ≡ e) → e .reply ≡ []
+      → sends (sendingAfter (e .change) (s .sending)) ≡ false
       → eqb (e .answer) 6 ≡ false → Byte p s b
   quiet-inner e h r w a = same (outcomeOf s e) (λ room. step-is room ∙ ap (outcomeOf s) (h room)) r w a
 
@@ -267,8 +272,10 @@ module _ (p : List ℕ) (s : State) (g : good p s ≡ true) (u : sends (s .sendi
       quiet-inner (done (s .core .modes .protect) p x) (λ room. is room ∙ rw (ap sends r) refl) refl u (k .answer)
   carried-byte h x (refuses a e) k is = quiet-inner (done (s .core .modes .protect) p x) (λ room. is room) refl u (k .answer)
   carried-byte h x (replies y w m) k is =
-      due record { core = idle (s .core); sending = y; gathered = s .gathered; setup = s .setup } (good-parts p s g .0) (screen-inside (s .core .screen) (k .good .screen))
-      (k .good .reply) (w, command-is y w m h) (ap (λ (o : Outcome). o .answer) (step-is 0 ∙ ap (outcomeOf s) (is 0 ∙ none-due p (s .core) (idle (s .core)) y w)))
+      due record { core = idle (s .core); sending = y; gathered = s .gathered; setup = s .setup } (good-parts p s g .0)
+      (screen-inside (s .core .screen) (k .good .screen))
+      (k .good .reply) (w, command-is y w m h)
+      (ap (λ (o : Outcome). o .answer) (step-is 0 ∙ ap (outcomeOf s) (is 0 ∙ none-due p (s .core) (idle (s .core)) y w)))
       (λ room h. step-is room ∙ ap (outcomeOf s) (is room ∙ some-due p (s .core) (idle (s .core)) y room w h))
 
   ap-asked : {d : Decoded} → decodeRule (s .core .pending) b ≡ d
@@ -282,11 +289,14 @@ module _ (p : List ℕ) (s : State) (g : good p s ≡ true) (u : sends (s .sendi
       quiet-inner (effect 0 (awaiting (s .core) (Pending.Text x (n + 1))) (Change.Gather n c) p []) (λ room. rw (h, e)) refl u refl
   low-byte h (Decoded.Take x n) e k = quiet-inner (effect 0 (idle (s .core)) (Change.Take x n) p []) (λ room. rw (h, e)) refl u refl
   low-byte h (Decoded.Reject a) e k =
-      quiet-inner (quiet (number a) (idle (s .core)) p) (λ room. rw (h, e)) refl u (ne-eqb (number a) 6 (omega (arith, between-parts 2 4 (number a) k)))
+      quiet-inner (quiet (number a) (idle (s .core)) p) (λ room. rw (h, e)) refl u
+      (ne-eqb (number a) 6 (omega (arith, between-parts 2 4 (number a) k)))
   low-byte h (Decoded.Do d) e k =
       let x = planRule (guardedAt (s .core .modes .protect) p) (s .setup .tabs) (idle (s .core)) d in
-      carried-byte (ap-asked e (asked-byte (s .core .pending) b (ltb-true b 128 h))) x (planned (idle (s .core)) (guardedAt (s .core .modes .protect) p) (s .setup .tabs) d)
-      (planned-kept p (s .core) (good-parts p s g .0) (s .gathered) (possible-parts s (good-parts p s g .1) .core) (s .setup .tabs) d) (λ room. rw (h, e))
+      carried-byte (ap-asked e (asked-byte (s .core .pending) b (ltb-true b 128 h))) x
+      (planned (idle (s .core)) (guardedAt (s .core .modes .protect) p) (s .setup .tabs) d)
+      (planned-kept p (s .core) (good-parts p s g .0) (s .gathered) (possible-parts s (good-parts p s g .1) .core) (s .setup .tabs) d)
+      (λ room. rw (h, e))
 
   pub byte-is : Byte p s b
   byte-is = by (ltb b 128) refl
@@ -336,7 +346,8 @@ quiet-run b bs p s room o u e r a =
     rw (u, e, a, z)
 
 module _ (b : ℕ) (bs p : List ℕ) (s : State) (g : good p s ≡ true) (u : sends (s .sending) ≡ false)
-    (ih : (q : List ℕ) (t : State) → good q t ≡ true → sends (t .sending) ≡ false → (c d : ℕ) → Same (thenRun (repeated bs q t c) d) (repeated bs q t (c + d))) where
+    (ih : (q : List ℕ) (t : State) → good q t ≡ true → sends (t .sending) ≡ false → (c d : ℕ)
+    → Same (thenRun (repeated bs q t c) d) (repeated bs q t (c + d))) where
   split-byte : Byte p s b → (c d : ℕ) → Same (thenRun (repeated (b ∷ bs) p s c) d) (repeated (b ∷ bs) p s (c + d))
   split-byte (same o is r w a) c d =
       rw (quiet-run b bs p s c o u (is c) r a, quiet-run b bs p s (c + d) o u (is (c + d)) r a)
@@ -345,12 +356,14 @@ module _ (b : ℕ) (bs p : List ℕ) (s : State) (g : good p s ≡ true) (u : se
       rw (run-stop b bs p s 0 u z, zero-add d) (rw (← (outside p s (b ∷ bs) d g u)) (same-ended p s 6 (b ∷ bs) d))
   split-byte (due t n i k m z is) (suc c) d =
       let h : 0 < suc c = omega arith in
-      let l : good p (goesOn p t (suc c) .state) ≡ true = subst (λ (o : Outcome). good p (o .state) ≡ true) (is (suc c) h) (good-step (is (suc c) h)) in
+      let l : good p (goesOn p t (suc c) .state)
+      ≡ true = subst (λ (o : Outcome). good p (o .state) ≡ true) (is (suc c) h) (good-step (is (suc c) h)) in
       rw (begun-run b bs p s t (suc c) u (is (suc c) h), begun-run b bs p s t (suc c + d) u (is (suc c + d) (omega arith)))
       (same-taken _ _ d (by (sends (goesOn p t (suc c) .state .sending)) refl l))
     where
       good-step : stepRule p s b (suc c) ≡ begins p t (suc c) → good p (stepRule p s b (suc c) .state) ≡ true
-      good-step e = subst (λ (q : List ℕ). good q (stepRule p s b (suc c) .state) ≡ true) (ap (λ (o : Outcome). o .page) e) (step-good p s b (suc c) g)
+      good-step e = subst (λ (q : List ℕ). good q (stepRule p s b (suc c) .state) ≡ true) (ap (λ (o : Outcome). o .page) e)
+          (step-good p s b (suc c) g)
 
       by : (v : Bool) → sends (goesOn p t (suc c) .state .sending) ≡ v → good p (goesOn p t (suc c) .state) ≡ true
           → Same (thenRun (sentThen p t n i k bs (suc c)) d) (sentThen p t n i k bs (suc c + d))
@@ -360,7 +373,8 @@ module _ (b : ℕ) (bs p : List ℕ) (s : State) (g : good p s ≡ true) (u : se
 split-repeated : (bytes p : List ℕ) (s : State) → good p s ≡ true → sends (s .sending) ≡ false → (c d : ℕ)
     → Same (thenRun (repeated bytes p s c) d) (repeated bytes p s (c + d))
 split-repeated [] p s g u c d =
-    rw (run-done p s c, run-done p s (c + d)) (same-trans (same-ended p s 0 [] d) (rw (outside p s [] d g u, run-done p s d) (same-refl (ended p s 0 []))))
+    rw (run-done p s c, run-done p s (c + d))
+    (same-trans (same-ended p s 0 [] d) (rw (outside p s [] d g u, run-done p s d) (same-refl (ended p s 0 []))))
 split-repeated (b ∷ bs) p s g u c d = split-byte b bs p s g u (λ q t h v. split-repeated bs q t h v) (byte-is p s g u b) c d
 
 split-inside : (bytes p : List ℕ) (s : State) → good p s ≡ true → sends (s .sending) ≡ true → (c d : ℕ)
@@ -403,7 +417,8 @@ stays : (p : List ℕ) (s : State) → good p s ≡ true → sends (s .sending) 
 unfolding goesOn leftFrom
 stays p s g u =
     let w = possible-parts s (good-parts p s g .1) in
-    ap (withSending s) (stands-still p (s .core) (good-parts p s g .0) (screen-inside (s .core .screen) (w .core .screen)) (s .core .pending) (s .sending) (w .sending) u)
+    ap (withSending s) (stands-still p (s .core) (good-parts p s g .0) (screen-inside (s .core .screen) (w .core .screen)) (s .core .pending)
+    (s .sending) (w .sending) u)
 
 -- the same first run
 pub same-next : (r a b : Ran) → Same a b → Same (preceded (r .taken) (r .refused) (r .reply) a) (preceded (r .taken) (r .refused) (r .reply) b)
@@ -422,7 +437,8 @@ unfolding fed sum
 fed-as-one [] p s bytes room g = rw (add-zero room) (same-refl (runRule p s bytes room))
 fed-as-one (n ∷ rooms) p s bytes room g =
     let r = runRule p s bytes room in
-    same-trans (same-next r _ _ (fed-as-one rooms (r .page) (r .state) (r .rest) n (run-good p s bytes room g))) (split-run bytes p s g room (n + sum rooms))
+    same-trans (same-next r _ _ (fed-as-one rooms (r .page) (r .state) (r .rest) n (run-good p s bytes room g)))
+    (split-run bytes p s g room (n + sum rooms))
 
 -- from where nothing is left to do a run does nothing
 over-rests : (p : List ℕ) (s : State) (bytes : List ℕ) (room : ℕ) → good p s ≡ true → bytes ≡ [] → sends (s .sending) ≡ false
@@ -432,7 +448,14 @@ over-rests p s bytes room g e u = rw e (outside p s [] room g u ∙ run-done p s
 pub over-next : (r : Ran) (room : ℕ) → good (r .page) (r .state) ≡ true → Over r → Same r (thenRun r room)
 over-next r room g o =
     rw (over-rests (r .page) (r .state) (r .rest) room g (o .taken) (o .sent))
-    record { taken = sym (add-zero (r .taken)); refused = sym (add-zero (r .refused)); reply = sym (append-nil (r .reply)); rest = o .taken; page = refl; state = refl }
+    record {
+      taken = sym (add-zero (r .taken));
+      refused = sym (add-zero (r .refused));
+      reply = sym (append-nil (r .reply));
+      rest = o .taken;
+      page = refl;
+      state = refl;
+    }
 
 pub same-over : {a b : Ran} → Same a b → Over a → Over b
 same-over x o = record { taken = sym (x .rest) ∙ o .taken; sent = ap (λ (s : State). sends (s .sending)) (sym (x .state)) ∙ o .sent }
@@ -450,7 +473,8 @@ none-run : (p : List ℕ) (s : State) (room : ℕ) → good p s ≡ true → sen
 unfolding sentFrom
 none-run p s zero g u = rw (run-unheard p s [] g u) (refl, sym (stays p s g u))
 none-run p s (suc n) g u =
-    rw (inside-room p s [] (suc n) g u (omega arith), run-done p (goesOn p s (suc n) .state) (suc n - length (goesOn p s (suc n) .reply))) (unfold behind goesOn in (append-nil _, refl))
+    rw (inside-room p s [] (suc n) g u (omega arith), run-done p (goesOn p s (suc n) .state) (suc n - length (goesOn p s (suc n) .reply)))
+    (unfold behind goesOn in (append-nil _, refl))
 
 step-none : (p : List ℕ) (s : State) (b room : ℕ) → good p s ≡ true → sends (s .sending) ≡ true
     → (stepRule p s b room .reply ≡ runRule p s [] room .reply) × (stepRule p s b room .state ≡ runRule p s [] room .state)
@@ -480,7 +504,8 @@ step-moves p s b zero g h = absurd (omega arith)
 step-moves p s b (suc n) g h = by (sends (s .sending)) refl
   where
     by : (v : Bool) → sends (s .sending) ≡ v → (stepRule p s b (suc n) .taken ≡ true) ⊎ (0 < length (stepRule p s b (suc n) .reply))
-    by true u = inr (rw (step-inside p s b (suc n) g u) (rw (step-sends p s n .0) (unfold goesOn in goes-bounded p s g (suc n) u (omega arith) .some)))
+    by true u = inr (rw (step-inside p s b (suc n) g u)
+        (rw (step-sends p s n .0) (unfold goesOn in goes-bounded p s g (suc n) u (omega arith) .some)))
     by false u =
         let x = stepRule p s b (suc n) .answer in
         let l : x < 6 = omega (arith, step-good-most p s b (suc n) g u, eqb-false x 6 (step-taken p s b (suc n) g u (omega arith))) in
@@ -498,7 +523,8 @@ run-moves : (p : List ℕ) (s : State) (bytes : List ℕ) (room : ℕ) → good 
     → (0 < runRule p s bytes room .taken) ⊎ (0 < length (runRule p s bytes room .reply))
 run-moves p s bytes room g h w = by (sends (s .sending)) refl
   where
-    sent : sends (s .sending) ≡ true → 0 < length (behind (goesOn p s room .reply) (repeated bytes p (goesOn p s room .state) (room - length (goesOn p s room .reply))) .reply)
+    sent : sends (s .sending) ≡ true
+        → 0 < length (behind (goesOn p s room .reply) (repeated bytes p (goesOn p s room .state) (room - length (goesOn p s room .reply))) .reply)
     sent u =
         unfold behind in omega (
           arith,

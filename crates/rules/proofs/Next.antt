@@ -29,7 +29,8 @@ use Rattle.rules.proofs.Kept.{step-good, run-good}
 use Rattle.rules.proofs.Bound.{step-full, step-begins, goes-bounded}
 use Rattle.rules.proofs.Left.{step-left, step-good-most}
 use Rattle.rules.proofs.Run.{run-stop, run-go, run-done, run-unheard, run-refused, goes-good}
-use Rattle.rules.proofs.Narrow.{thenRun, same-joined, same-behind, same-ended, same-trans, same-refl, same-next, waits, outside, inside-room, still, split-run, over-next, fed-enough, begins, Byte, same, due, byte-is}
+use Rattle.rules.proofs.Narrow.{thenRun, same-joined, same-behind, same-ended, same-trans, same-refl, same-next, waits, outside, inside-room}
+use Rattle.rules.proofs.Narrow.{still, split-run, over-next, fed-enough, begins, Byte, same, due, byte-is}
 
 -- no event: 0, and no reply
 pub no-event : (n r : ℕ) → isEvent n r ≡ false → (n ≡ 0) × (r ≡ 0)
@@ -147,7 +148,8 @@ module _ (p : List ℕ) (s : State) (bytes : List ℕ) (room : ℕ) (g : good p 
   unfolding nextRule
   next-outside u = rw (g, u)
 
-  pub next-inside : sends (s .sending) ≡ true → 0 < room → nextRule p s bytes room ≡ behind (goesOn p s room .reply) (ended p (goesOn p s room .state) 0 bytes)
+  pub next-inside : sends (s .sending) ≡ true → 0 < room
+      → nextRule p s bytes room ≡ behind (goesOn p s room .reply) (ended p (goesOn p s room .state) 0 bytes)
   unfolding nextRule nextInside
   next-inside u h = rw (g, u, ne-eqb room 0 (omega arith))
 
@@ -178,7 +180,8 @@ inside-run p s bytes (suc n) g u =
     behind-run : (a : List ℕ) (t : State) (room : ℕ) → Same (runRule p t bytes (room - length a)) (repeated bytes p t (room - length a))
         → let r = behind a (ended p t 0 bytes) in Same (thenRun r (room - length (r .reply))) (behind a (repeated bytes p t (room - length a)))
     behind-run a t room x =
-        rw (left-behind a p t bytes room) (same-behind a (ended p t 0 bytes) _ (room - length a) (same-trans (same-ended p t 0 bytes (room - length a)) x))
+        rw (left-behind a p t bytes room)
+        (same-behind a (ended p t 0 bytes) _ (room - length a) (same-trans (same-ended p t 0 bytes (room - length a)) x))
 
 -- next, and then the run over the rest with what is left of the room, is the run
 pub next-first : (p : List ℕ) (s : State) (bytes : List ℕ) (room : ℕ) → good p s ≡ true
@@ -250,7 +253,8 @@ next-run p s bytes room = by (good p s) (sends (s .sending)) refl refl
         → let r = nextRule p s bytes room in let q = runRule p s (take (r .taken) bytes) room in (r .page ≡ q .page) × (r .state ≡ q .state)
     by false v g u = rw (next-refused p s bytes room g) (let r = run-refused p s [] room g in (sym (r .page), sym (r .state)))
     by true true g u = inside room g u
-    by true false g u = rw (next-outside p s bytes room g u, outside p s (take (toEvent bytes p s room .taken) bytes) room g u) (to-leaves bytes p s room g u)
+    by true false g u = rw (next-outside p s bytes room g u, outside p s (take (toEvent bytes p s room .taken) bytes) room g u)
+        (to-leaves bytes p s room g u)
 
 -- ---- a loop of it
 
@@ -307,7 +311,8 @@ heard-over (n ∷ rooms) p s bytes room more g o =
     let left = room - length (r .reply) in
     let d : left + (n + sum rooms + more) ≡ n + sum rooms + (more + left) = omega arith in
     let e : room + (n + sum rooms + more) ≡ room + (n + sum rooms) + more = omega arith in
-    let ih = heard-over rooms (r .page) (r .state) (r .rest) n (more + left) (next-good p s bytes room g) (record { taken = o .taken; sent = o .sent }) in
+    let ih = heard-over rooms (r .page) (r .state) (r .rest) n (more + left) (next-good p s bytes room g)
+    (record { taken = o .taken; sent = o .sent }) in
     same-trans (same-next r _ _ ih) (rw (d, e) at (next-then p s bytes room (n + sum rooms + more) g))
 
 -- ---- events
@@ -462,7 +467,8 @@ behind-one p s a rest = inl refl
 inside-one : (p : List ℕ) (s : State) (bytes : List ℕ) (room : ℕ) → good p s ≡ true → sends (s .sending) ≡ true
     → let r = nextRule p s bytes room in (r .answer ≡ 0) ⊎ (r .reply ≡ [])
 inside-one p s bytes zero g u = rw (next-unheard p s bytes g u) (inr refl)
-inside-one p s bytes (suc n) g u = rw (next-inside p s bytes (suc n) g u (omega arith)) (behind-one p (goesOn p s (suc n) .state) (goesOn p s (suc n) .reply) bytes)
+inside-one p s bytes (suc n) g u = rw (next-inside p s bytes (suc n) g u (omega arith))
+    (behind-one p (goesOn p s (suc n) .state) (goesOn p s (suc n) .reply) bytes)
 
 to-told : (bytes p : List ℕ) (s : State) (room : ℕ) → good p s ≡ true → sends (s .sending) ≡ false → 0 < length (toEvent bytes p s room .reply)
     → Told bytes room (toEvent bytes p s room)
@@ -472,7 +478,8 @@ to-told (b ∷ bs) p s room g u =
     by (tells o) refl (to-told bs (o .page) (o .state) room (step-good p s b room g))
   where
     by : (t : Bool) → tells (stepRule p s b room) ≡ t
-        → (let o = stepRule p s b room in sends (o .state .sending) ≡ false → let r = toEvent bs (o .page) (o .state) room in 0 < length (r .reply) → Told bs room r)
+        → (let o = stepRule p s b room in sends (o .state .sending) ≡ false → let r = toEvent bs (o .page) (o .state) room in 0 < length (r .reply)
+        → Told bs room r)
         → 0 < length (toEvent (b ∷ bs) p s room .reply) → Told (b ∷ bs) room (toEvent (b ∷ bs) p s room)
     by true e ih = rw (to-event b bs p s room e) (event-told b bs p s g u room)
     by false e ih =
@@ -493,7 +500,8 @@ stops : (p : List ℕ) (s : State) (bytes : List ℕ) (room : ℕ) → good p s 
     0 < length (r .rest) → isEvent (r .answer) (length (r .reply)) ≡ true
 stops p s bytes room g = by (sends (s .sending)) refl
   where
-    by : (t : Bool) → sends (s .sending) ≡ t → let r = nextRule p s bytes room in 0 < length (r .rest) → isEvent (r .answer) (length (r .reply)) ≡ true
+    by : (t : Bool) → sends (s .sending) ≡ t → let r = nextRule p s bytes room in 0 < length (r .rest)
+        → isEvent (r .answer) (length (r .reply)) ≡ true
     by true u = inside-stops p s bytes room g u
     by false u = rw (next-outside p s bytes room g u) (event-stops bytes p s room)
 

@@ -31,10 +31,13 @@ use Rattle.rules.specs.Plan.{planRule}
 use Rattle.rules.specs.Send.{Spot, bytesOf, beyond, standing, sentFrom, leftFrom}
 use Rattle.rules.specs.Carry.{Effect, effect, quiet, planWidth, landed, pageAfter, done, begun, carried}
 use Rattle.rules.specs.Step.{obeyed, innerRule, Outcome, unheard, outcomeOf, goesOn, stepInside, stepRule}
-use Rattle.rules.specs.Calls.{Ran, ended, joined, repeated, behind, runInside, runRule, pressRule, Call, Step, Run, Press, Called, ofStep, ofRun, ofPress, callRule, Played, after, play}
+use Rattle.rules.specs.Calls.{Ran, ended, joined, repeated, behind, runInside, runRule, pressRule, Call, Step, Run, Press, Called, ofStep}
+use Rattle.rules.specs.Calls.{ofRun, ofPress, callRule, Played, after, play}
 use Rattle.rules.specs.Next.{tells, atEvent, toEvent, nextInside, nextRule}
-use Rattle.rules.specs.theorems.Noninterference.{afterEscape, anyOf, excludedBytes, completes, runCompletes, insideCompletes, callCompletes, anyCompleted, revealing, AlikePages, KeptPages, Noninterference}
-use Rattle.rules.proofs.Related.{Related, related-alike, related-cell, related-length, related-guards, related-write, related-places, left-conceals}
+use Rattle.rules.specs.theorems.Noninterference.{afterEscape, anyOf, excludedBytes, completes, runCompletes, insideCompletes, callCompletes}
+use Rattle.rules.specs.theorems.Noninterference.{anyCompleted, revealing, AlikePages, KeptPages, Noninterference}
+use Rattle.rules.proofs.Related.{Related, related-alike, related-cell, related-length, related-guards, related-write, related-places}
+use Rattle.rules.proofs.Related.{left-conceals}
 use Rattle.rules.proofs.Commands.{kindOf}
 use Rattle.rules.proofs.Unrevealing.{both-false, Unrevealing, unrevealing}
 use Rattle.rules.proofs.ExcludedBytes.{givesExcluded, excluded-bytes}
@@ -121,7 +124,12 @@ module _ {p q x y : List ℕ} (h : Related p q x y) (s : State) (closed : Closed
   unfolding begun sendingAfter
   begun-agrees k room f =
       rw (sent-agrees h (k .next) (k .reply) (f .on) (f .reply) room, left-agrees h (k .next) (k .reply) (f .on) (f .reply) room)
-      record { page = y; but-page = refl; related = h; closed = record { on = f .on; conceals = left-conceals y (k .next) (k .reply) room (f .reply) } }
+      record {
+        page = y;
+        but-page = refl;
+        related = h;
+        closed = record { on = f .on; conceals = left-conceals y (k .next) (k .reply) room (f .reply) };
+      }
 
   -- a plan is carried out in both or, for want of room, in neither
   carried-agrees : (k : Plan) (room : ℕ) → (both (sends (k .reply)) (eqb room 0) ≡ false → Unrevealing k)
@@ -169,7 +177,11 @@ module _ {p q x y : List ℕ} (h : Related p q x y) (s : State) (closed : Closed
   goes-agrees : (room : ℕ) → Agree p q (goesOn x s room) (goesOn y s room)
   unfolding goesOn
   goes-agrees room =
-      rw (sent-agrees h (s .core) (s .sending) (closed .on) (closed .conceals) room, left-agrees h (s .core) (s .sending) (closed .on) (closed .conceals) room)
+      rw (
+        sent-agrees h (s .core) (s .sending) (closed .on) (closed .conceals) room,
+        left-agrees h (s .core) (s .sending) (closed .on)
+            (closed .conceals) room,
+      )
       record {
         page = y;
         but-page = refl;

@@ -16,7 +16,8 @@ use Rattle.rules.specs.declared.Personality.{Personality}
 use Rattle.rules.specs.declared.Personality.the-variants as Personality
 use Rattle.rules.specs.declared.Contents.{Contents}
 use Rattle.rules.specs.declared.Contents.the-variants as Contents
-use Rattle.rules.specs.Cell.{pick, both, either, between, code, kind, attribute, cell, written, null, space, protectedSpace, isDim, isUnderscore, isReverse, isBlink, isBlank}
+use Rattle.rules.specs.Cell.{pick, both, either, between, code, kind, attribute, cell, written, null, space, protectedSpace, isDim}
+use Rattle.rules.specs.Cell.{isUnderscore, isReverse, isBlink, isBlank}
 use Rattle.rules.specs.Possible.{rememberedOk}
 use Rattle.rules.specs.Arguments.{isFlags, isAttribute, attributeContents}
 use Rattle.rules.specs.Plan.{takesCell}
@@ -100,7 +101,8 @@ protected-space-ok m = text-ok m 0x20 true refl
 pub flags-code : (a : ℕ) → isFlags a ≡ true → (a < 128) × (eqb a 0x20 ≡ false)
 flags-code a e =
     ⊎-elim (λ h. let r = between-parts 0x30 0x3f a h in (omega arith, ne-eqb a 0x20 (omega arith)))
-    (λ h. let r = between-parts 0x70 0x7e a h in (omega arith, ne-eqb a 0x20 (omega arith))) (either-parts (between 0x30 0x3f a) (between 0x70 0x7e a) e)
+    (λ h. let r = between-parts 0x70 0x7e a h in (omega arith, ne-eqb a 0x20 (omega arith)))
+    (either-parts (between 0x30 0x3f a) (between 0x70 0x7e a) e)
 
 -- an attribute cell: ESC ! writes it unprotected, and in WY-50 ESC G as write-protect mode says
 attribute-free : (m : Personality) (c : ℕ) → isFlags c ≡ true → writable m (written (Contents.Attribute c) false 0) ≡ true
@@ -137,7 +139,8 @@ filled-ok m (Contents.Attribute c) e = attribute-free m c e
 filled-ok m (Contents.Graphic c) e = absurd (false≢true e)
 
 -- a code of ESC G that takes a cell
-pub taken-ok : (m : Personality) (p : Bool) (a : ℕ) → isAttribute a ≡ true → takesCell m a ≡ true → writable m (written (attributeContents a) p 0) ≡ true
+pub taken-ok : (m : Personality) (p : Bool) (a : ℕ) → isAttribute a ≡ true → takesCell m a ≡ true
+    → writable m (written (attributeContents a) p 0) ≡ true
 unfolding isAttribute attributeContents takesCell
 taken-ok m p a e t =
     pick-if (λ (k : Contents). writable m (written k p 0) ≡ true) (eqb a 0x20)
@@ -214,7 +217,8 @@ bit q n = by (eqb (q % 2) 1) refl
         let z : q % 2 ≡ 0 = omega (arith, eqb-false (q % 2) 1 e) in
         rw z (omega arith)
 
-pub attribute-flags : (v : ℕ) → attribute v ≡ pick (isDim v) 16 0 + pick (isUnderscore v) 8 0 + pick (isReverse v) 4 0 + pick (isBlink v) 2 0 + pick (isBlank v) 1 0
+pub attribute-flags : (v : ℕ)
+    → attribute v ≡ pick (isDim v) 16 0 + pick (isUnderscore v) 8 0 + pick (isReverse v) 4 0 + pick (isBlink v) 2 0 + pick (isBlank v) 1 0
 attribute-flags v =
     rw (bit (v / 16384) 16, bit (v / 8192) 8, bit (v / 4096) 4, bit (v / 2048) 2, bit (v / 1024) 1, a, b, c, d)
     (five (v / 1024) ∙ omega arith)

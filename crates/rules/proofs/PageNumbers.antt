@@ -27,7 +27,8 @@ use Rattle.rules.specs.Decode.{decodeRule}
 use Rattle.rules.specs.Plan.{planRule}
 use Rattle.rules.specs.Carry.{Effect, applied, done, begun, carried}
 use Rattle.rules.specs.Step.{obeyed, innerRule, Outcome, goesOn, stepInside, stepRule}
-use Rattle.rules.specs.Calls.{Ran, joined, repeated, behind, runInside, runRule, Call, Step, Run, Press, ofStep, ofRun, ofPress, callRule, after, play}
+use Rattle.rules.specs.Calls.{Ran, joined, repeated, behind, runInside, runRule, Call, Step, Run, Press, ofStep, ofRun, ofPress, callRule}
+use Rattle.rules.specs.Calls.{after, play}
 use Rattle.rules.specs.Writable.{writable, AllWritable, none, more}
 use Rattle.rules.proofs.Tests.{pick-if}
 use Rattle.rules.proofs.Decoding.{decodedOk, decoded-ok}
@@ -57,7 +58,8 @@ module _ {m : Personality} where
   each-replicate zero v e = none
   each-replicate (suc n) v e = more e (each-replicate n v e)
 
-  each-within : (a e : ℕ) (f : List ℕ → List ℕ) {p : List ℕ} → AllWritable m p → AllWritable m (f (take (e - a) (drop a p))) → AllWritable m (within a e f p)
+  each-within : (a e : ℕ) (f : List ℕ → List ℕ) {p : List ℕ} → AllWritable m p → AllWritable m (f (take (e - a) (drop a p)))
+      → AllWritable m (within a e f p)
   unfolding within
   each-within a e f h k = each-append (each-take a h) (each-append k (each-drop (e - a) (each-drop a h)))
 
@@ -77,7 +79,8 @@ module _ {m : Personality} where
   each-moved : (right : Bool) (n a e v : ℕ) → writable m v ≡ true → {p : List ℕ} → AllWritable m p → AllWritable m (within a e (shifted right n v) p)
   each-moved right n a e v k h = each-within a e (shifted right n v) h (each-shifted right n v k (each-take (e - a) (each-drop a h)))
 
-  each-column : (w : ℕ) (on : Bool) (v column n row : ℕ) → writable m v ≡ true → {p : List ℕ} → AllWritable m p → AllWritable m (columnFilled w on v column n row p)
+  each-column : (w : ℕ) (on : Bool) (v column n row : ℕ) → writable m v ≡ true → {p : List ℕ} → AllWritable m p
+      → AllWritable m (columnFilled w on v column n row p)
   unfolding columnFilled
   each-column w on v column zero row e h = h
   each-column w on v column (suc n) row e h =
@@ -106,7 +109,8 @@ of-form t h (a-change y e f i) = record { first = refl; second = refl }
 of-form t h (a-write m a b o e i) = record { first = a .numbers t h; second = b .numbers t h }
 
 -- every plan, of a command that a byte comes to
-pub plan-numbers : (g tabs : List Bool) (c : Core) → Remembers c → (d : Command) → kindOf d .ok ≡ true → PlanNumbers (c .personality) (planRule g tabs c d)
+pub plan-numbers : (g tabs : List Bool) (c : Core) → Remembers c → (d : Command) → kindOf d .ok ≡ true
+    → PlanNumbers (c .personality) (planRule g tabs c d)
 plan-numbers g tabs c h d e = of-form e h (formed g c tabs d)
 
 -- ---- the step
@@ -156,7 +160,8 @@ step-numbers p s b room h =
 
 -- ---- runs and calls
 
-repeated-numbers : (bytes p : List ℕ) (s : State) (room : ℕ) → AllWritable (personalityOf s) p → AllWritable (personalityOf s) (repeated bytes p s room .page)
+repeated-numbers : (bytes p : List ℕ) (s : State) (room : ℕ) → AllWritable (personalityOf s) p
+    → AllWritable (personalityOf s) (repeated bytes p s room .page)
 unfolding repeated joined
 repeated-numbers [] p s room h = h
 repeated-numbers (b ∷ bytes) p s room h =
@@ -184,7 +189,8 @@ call-numbers p s (Run bytes room) h =
     P r = AllWritable (personalityOf s) (r .page)
 call-numbers p s (Press v room) h = h
 
-pub play-numbers : (calls : List Call) (p : List ℕ) (s : State) → AllWritable (personalityOf s) p → AllWritable (personalityOf s) (play calls p s .page)
+pub play-numbers : (calls : List Call) (p : List ℕ) (s : State) → AllWritable (personalityOf s) p
+    → AllWritable (personalityOf s) (play calls p s .page)
 unfolding play after
 play-numbers [] p s h = h
 play-numbers (c ∷ calls) p s h =

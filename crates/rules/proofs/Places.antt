@@ -18,7 +18,8 @@ use Rattle.rules.specs.declared.Land.{Land}
 use Rattle.rules.specs.declared.Land.the-variants as Land
 use Rattle.rules.specs.Cell.{both, either}
 use Rattle.rules.specs.Row.{columnOf, rowStart}
-use Rattle.rules.specs.Search.{others, soughtAt, firstIn, lastIn, lastTrue, previousOpen, nextField, previousField, nextTab, previousTab, settled}
+use Rattle.rules.specs.Search.{others, soughtAt, firstIn, lastIn, lastTrue, previousOpen, nextField, previousField, nextTab, previousTab}
+use Rattle.rules.specs.Search.{settled}
 use Rattle.rules.specs.declared.Sought.the-variants as Sought
 use Rattle.rules.specs.State.{widthOf, pageLength, segmentStart, segmentEnd, cursorOf, Inside}
 use Rattle.rules.specs.Plan.{nextCell, atTop, upCell, isSegment}

@@ -29,8 +29,10 @@ use Rattle.rules.specs.Cell.{both, either, between}
 use Rattle.rules.specs.State.{awaiting, sends, changed, sendingAfter, gatheredAfter, setupAfter}
 use Rattle.rules.specs.Arguments.{isAttribute, featurePlace, isKey, isLabel}
 use Rattle.rules.specs.Slot.{slotOk, slotEnd, slotMost, slotLow, isText, allText, textOk, textsOk}
-use Rattle.rules.specs.Possible.{powerOn, blank, unsplitOk, screenOk, attributesOk, featuresOk, pendingOk, rememberedOk, sendingOk, noStops, coreOk, setupOk, possible, good}
-use Rattle.rules.specs.Decode.{lookup, idleRule, escapeRule, splitRule, digitRule, decimalRowRule, decimalColumnRule, slotRule, textRule, argumentRule, decodeRule}
+use Rattle.rules.specs.Possible.{powerOn, blank, unsplitOk, screenOk, attributesOk, featuresOk, pendingOk, rememberedOk, sendingOk, noStops}
+use Rattle.rules.specs.Possible.{coreOk, setupOk, possible, good}
+use Rattle.rules.specs.Decode.{lookup, idleRule, escapeRule, splitRule, digitRule, decimalRowRule, decimalColumnRule, slotRule, textRule}
+use Rattle.rules.specs.Decode.{argumentRule, decodeRule}
 use Rattle.rules.specs.Send.{digit}
 use Rattle.rules.specs.Step.{Outcome, obeyed, innerRule, stepRule}
 use Rattle.rules.specs.Calls.{Call, Ran, joined, repeated, runRule, play}
@@ -51,7 +53,8 @@ waiting m q g = record { core = awaiting (powerOn m .core) q; sending = Sending.
 -- the bytes lead from a sequence to a sequence, each being awaited or gathered
 data Leads : List ℕ → Pending → List ℕ → Pending → List ℕ → Type 0 where
   stay : {q : Pending} {g : List ℕ} → Leads [] q g q g
-  wait : {b : ℕ} {bs : List ℕ} {q r z : Pending} {g h : List ℕ} → b < 128 → decodeRule q b ≡ Decoded.Wait r → Leads bs r g z h → Leads (b ∷ bs) q g z h
+  wait : {b : ℕ} {bs : List ℕ} {q r z : Pending} {g h : List ℕ} → b < 128 → decodeRule q b ≡ Decoded.Wait r → Leads bs r g z h
+      → Leads (b ∷ bs) q g z h
   gather : {b n : ℕ} {bs : List ℕ} {x : Slot} {q z : Pending} {g h : List ℕ} → b < 128 → decodeRule q b ≡ Decoded.Gather x n b
       → Leads bs (Pending.Text x (n + 1)) (set g n b) z h → Leads (b ∷ bs) q g z h
 
@@ -152,7 +155,8 @@ gathered-text n (b ∷ l) g h =
 -- a byte of a kind is below 80h and ends no text of that kind
 pub text-byte : (x : Slot) (b : ℕ) → isText (slotLow x) b ≡ true → (b < 128) × (eqb b (slotEnd x) ≡ false)
 unfolding isText slotLow slotEnd
-text-byte (Slot.Key v) b e = let r = both-parts (leb 0 b) (ltb b 0x7f) e in let h = ltb-true b 0x7f (r .1) in (omega arith, ne-eqb b 0x7f (omega arith))
+text-byte (Slot.Key v) b e = let r = both-parts (leb 0 b) (ltb b 0x7f) e in let h = ltb-true b 0x7f
+    (r .1) in (omega arith, ne-eqb b 0x7f (omega arith))
 text-byte (Slot.Label v) b e =
     let r = both-parts (leb 0x20 b) (ltb b 0x7f) e in
     let h = ltb-true b 0x7f (r .1) in
@@ -248,7 +252,8 @@ led-text x n g k e =
     let size : length (take n g) ≡ n = omega (arith, length-take n g) in
     let y : Leads (take n g) (Pending.Text x 0) none (Pending.Text x n) (gatheredBy 0 (take n g) none) =
     rw (zero-add (length (take n g)), size) at (lead-text x 0 (take n g) none (omega arith) (t .1)) in
-    let w : take n (gatheredBy 0 (take n g) none) ≡ take n g = rw (zero-add (length (take n g)), size) at (gathered-text 0 (take n g) none (omega arith)) in
+    let w : take n (gatheredBy 0 (take n g) none)
+    ≡ take n g = rw (zero-add (length (take n g)), size) at (gathered-text 0 (take n g) none (omega arith)) in
     text n (λ z m q. cc) (led-slot x (r .0) y) w
 
 -- spaces, one too many
@@ -303,7 +308,8 @@ led-under-way m q g (text n h x t) = rw (run-leads m (bytesFor q g) x) (record {
 -- ---- and no other
 
 -- the text of k makes it possible as the text gathered does
-same-text : (q : Pending) (g k : List ℕ) → pendingOk q g ≡ true → ((x : Slot) (n : ℕ) → q ≡ Pending.Text x n → take n g ≡ take n k) → pendingOk q k ≡ true
+same-text : (q : Pending) (g k : List ℕ) → pendingOk q g ≡ true → ((x : Slot) (n : ℕ) → q ≡ Pending.Text x n → take n g ≡ take n k)
+    → pendingOk q k ≡ true
 unfolding pendingOk textOk
 same-text Pending.Idle g k h t = h
 same-text Pending.Escape g k h t = h
@@ -326,7 +332,8 @@ left-attribute : (m : Personality) (calls : List Call) → rememberedOk m (play 
 unfolding powerOn
 left-attribute m calls =
     let s = play calls blank (powerOn m) .state in
-    subst (λ (n : Personality). rememberedOk n (s .core .attribute) ≡ true) (play-keeps calls blank (powerOn m) .personality) (left m calls .core .remembered)
+    subst (λ (n : Personality). rememberedOk n (s .core .attribute) ≡ true) (play-keeps calls blank (powerOn m) .personality)
+    (left m calls .core .remembered)
 
 pub reach : Reach
 reach = record {

@@ -27,7 +27,8 @@ use Rattle.rules.specs.Row.{rowEnd}
 use Rattle.rules.specs.Search.{whichCells, guardedAt, firstTrue, firstIn, editEnd}
 use Rattle.rules.specs.Change.{within, fillCell, filled, shiftLeft, shiftRight, shifted, editShifted, columnFilled}
 use Rattle.rules.specs.State.{widthOf, cursorOf}
-use Rattle.rules.specs.Send.{Spot, openCell, shortReply, each, cellPlace, textPlaces, followsLeftOut, textAt, places, beyond, standing, leftFrom}
+use Rattle.rules.specs.Send.{Spot, openCell, shortReply, each, cellPlace, textPlaces, followsLeftOut, textAt, places, beyond, standing}
+use Rattle.rules.specs.Send.{leftFrom}
 use Rattle.rules.specs.Carry.{applied}
 use Rattle.rules.specs.theorems.Noninterference.{revealing}
 use Rattle.rules.proofs.Tests.{pick-if}
@@ -127,7 +128,8 @@ related-text w segment zero after i (public {a} {c} u h) = rw (related-text w se
 related-text w segment (suc n) after i (public {a} {c} u h) = rw (related-text w segment n (protected c) (suc i) h)
 
 -- from any place, protect mode on or off
-pub related-at : (w e : ℕ) (segment : Bool) (k : Place) {p q x y : List ℕ} → Related p q x y → textAt w x e false segment k ≡ textAt w y e false segment k
+pub related-at : (w e : ℕ) (segment : Bool) (k : Place) {p q x y : List ℕ} → Related p q x y
+    → textAt w x e false segment k ≡ textAt w y e false segment k
 unfolding textAt followsLeftOut
 related-at w e segment (Place.Cell i) h =
     rw (related-bit (i - 1) h) (related-text w segment _ _ i (related-take (e - i) (related-drop i h)))
@@ -315,7 +317,8 @@ spares (Write.Column top bottom c v) = true
 spares (Write.Edit right at v) = true
 spares (Write.Rows down top bottom) = false
 
-pub related-write : (w : ℕ) (r : Write) → spares r ≡ true → {p q x y : List ℕ} → Related p q x y → Related p q (applied w true r x) (applied w true r y)
+pub related-write : (w : ℕ) (r : Write) → spares r ≡ true → {p q x y : List ℕ} → Related p q x y
+    → Related p q (applied w true r x) (applied w true r y)
 unfolding applied
 related-write w Write.Nothing e h = h
 related-write w (Write.Fill a e v) s h = related-fill a e v h

@@ -14,11 +14,14 @@ use Rattle.rules.specs.Step.{unheard, stepRule}
 use Rattle.rules.specs.Calls.{Call, Step, Run, Called, runRule, ended, ofStep, ofRun, callRule, Given, after, play}
 use Rattle.rules.specs.theorems.Noninterference.{callCompletes, anyCompleted}
 use Rattle.rules.specs.RowList.{rowList, rowsOf, agrees}
-use Rattle.rules.specs.RowCalls.{stepRowsRule, runRowsRule, rowsAfter, canRebuild, Session, RowCall, Bare, ListStep, ListRun, Next, Rebuild, RowCalled, left, suits, nextRowsRule, handed, heard, runOf, rowCallRule, RowPlayed, rowAfter, rowPlay, bareCall, bareCalls}
+use Rattle.rules.specs.RowCalls.{stepRowsRule, runRowsRule, rowsAfter, canRebuild, Session, RowCall, Bare, ListStep, ListRun, Next, Rebuild}
+use Rattle.rules.specs.RowCalls.{RowCalled, left, suits, nextRowsRule, handed, heard, runOf, rowCallRule, RowPlayed, rowAfter, rowPlay}
+use Rattle.rules.specs.RowCalls.{bareCall, bareCalls}
 use Rattle.rules.specs.theorems.RowNoninterference.{RowNoninterference}
 use Rattle.rules.proofs.Related.{Related}
 use Rattle.rules.proofs.RowSteps.{call-leaves}
-use Rattle.rules.proofs.Noninterference.{protects, Closed, guards-agree, good-agrees, AgreeCall, call-agrees, next-call-agrees, either-left, either-right, start-related, related-kept}
+use Rattle.rules.proofs.Noninterference.{protects, Closed, guards-agree, good-agrees, AgreeCall, call-agrees, next-call-agrees, either-left}
+use Rattle.rules.proofs.Noninterference.{either-right, start-related, related-kept}
 
 record AgreeRows (p q : List ℕ) (a b : RowCalled) : Type 0 where
   called : AgreeCall p q (a .called) (b .called)
@@ -101,7 +104,8 @@ module _ {p q x y : List ℕ} (h : Related p q x y) (l : List ℕ) (s : State) (
       by true e = taken-agrees (Run bytes room) (first-completes (Run bytes room) [] x s e .0)
       by false e = record { called = record { given = refl; related = h; closed = closed }; rows = refl }
   call-with (Next with bytes room) e = next-with with bytes room (suits (handed with (session x l s)) x s) refl e
-  call-with Rebuild e = rw (← rows-agree, ← (good-agrees h s closed)) (record { called = record { given = refl; related = h; closed = closed }; rows = refl })
+  call-with Rebuild e = rw (← rows-agree, ← (good-agrees h s closed))
+      (record { called = record { given = refl; related = h; closed = closed }; rows = refl })
 
 -- what two lists of calls come to
 any-append : (a b : List Call) (p : List ℕ) (s : State) → anyCompleted (a ++ b) p s ≡ false

@@ -23,7 +23,9 @@ use Rattle.rules.specs.Step.{stepRule}
 use Rattle.rules.specs.Calls.{ended, runRule, Call, Step, Run, ofStep, ofRun, callRule, Given, Played, after, play}
 use Rattle.rules.specs.Next.{nextRule}
 use Rattle.rules.specs.RowList.{rowNumbers, rowList, rowsOf, agrees}
-use Rattle.rules.specs.RowCalls.{stepRowsRule, runRowsRule, suits, nextRowsRule, rowsAfter, canRebuild, rebuildAnswer, rebuilt, Session, RowCall, Bare, ListStep, ListRun, Next, Rebuild, handed, left, rowCallRule, rowAfter, rowPlay, bareCall, bareCalls}
+use Rattle.rules.specs.RowCalls.{stepRowsRule, runRowsRule, suits, nextRowsRule, rowsAfter, canRebuild, rebuildAnswer, rebuilt, Session}
+use Rattle.rules.specs.RowCalls.{RowCall, Bare, ListStep, ListRun, Next, Rebuild, handed, left, rowCallRule, rowAfter, rowPlay, bareCall}
+use Rattle.rules.specs.RowCalls.{bareCalls}
 use Rattle.rules.specs.theorems.RowSteps.{EqualResults, Disagreeing, Rebuilding}
 use Rattle.rules.proofs.Tests.{both-parts, both-true}
 use Rattle.rules.proofs.Next.{next-run}

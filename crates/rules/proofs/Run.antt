@@ -18,7 +18,8 @@ use Rattle.rules.specs.State.{sends}
 use Rattle.rules.specs.Possible.{good}
 use Rattle.rules.specs.Step.{Outcome, goesOn, stepRule}
 use Rattle.rules.specs.Calls.{Ran, ended, refusal, joined, repeated, runInside, runRule}
-use Rattle.rules.specs.theorems.Steps.{steps, isRefusal, refusals, repliesOf, lastPage, lastState, Stopped, in-send, no-room, Repeats, RunRepeats, RunResumes, RunUnheard, RunRefused, preceded, continued}
+use Rattle.rules.specs.theorems.Steps.{steps, isRefusal, refusals, repliesOf, lastPage, lastState, Stopped, in-send, no-room, Repeats}
+use Rattle.rules.specs.theorems.Steps.{RunRepeats, RunResumes, RunUnheard, RunRefused, preceded, continued}
 use Rattle.rules.proofs.Kept.{keeps-good, goes-keeps, step-good}
 use Rattle.rules.proofs.Bound.{reply-fits, step-full, goes-bounded}
 
@@ -124,7 +125,8 @@ step-spent : (p : List ℕ) (s : State) (b room : ℕ) → good p s ≡ true →
 step-spent p s b room g u h = omega (arith, step-full p s b room g u h)
 
 -- a byte before a run that is so, o being its step
-run-either : (b : ℕ) (bs p : List ℕ) (s : State) (room : ℕ) (o : Outcome) (l : List Outcome) (r : Ran) → stepRule p s b room ≡ o → length (o .reply) ≤ room
+run-either : (b : ℕ) (bs p : List ℕ) (s : State) (room : ℕ) (o : Outcome) (l : List Outcome) (r : Ran) → stepRule p s b room ≡ o
+    → length (o .reply) ≤ room
     → Spent s room → (sends (s .sending) ≡ false → Repeats (o .page) (o .state) bs (room - length (o .reply)) l r)
     → (u t : Bool) → sends (s .sending) ≡ u → eqb (o .answer) 6 ≡ t
     → Repeats p s (b ∷ bs) room (pick u [] (pick t [] (o ∷ l))) (pick u (ended p s 0 (b ∷ bs)) (pick t (ended p s 6 (b ∷ bs)) (joined o r)))

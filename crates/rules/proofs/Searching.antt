@@ -18,7 +18,8 @@ use lib.Seq.{length-take-le, slice, slice-cons, slice-empty, length-slice, take-
 use Rattle.rules.specs.Cell.{pick, both, either, guarded}
 use Rattle.rules.specs.Row.{Width, rowEnd}
 use Rattle.rules.proofs.Rows.{row-after, row-inside}
-use Rattle.rules.specs.Search.{guardedAt, others, whichCells, soughtAt, startsFrom, firstTrue, lastTrue, firstIn, lastIn, around, aroundBack, editEnd}
+use Rattle.rules.specs.Search.{guardedAt, others, whichCells, soughtAt, startsFrom, firstTrue, lastTrue, firstIn, lastIn, around, aroundBack}
+use Rattle.rules.specs.Search.{editEnd}
 use Rattle.rules.specs.declared.Sought.{Sought}
 use Rattle.rules.specs.declared.Sought.the-variants as Sought
 
@@ -150,7 +151,8 @@ before-start g (suc j) =
     rw (eqb·suc-zero, e)
 
 pub start-at : (first : ℕ) (g : List Bool) (i : ℕ) → i < length g
-    → getD (soughtAt (Sought.FieldStart first) g) i false ≡ both (not (getD g i false)) (either (eqb i first) (either (eqb i 0) (getD g (i - 1) false)))
+    → getD (soughtAt (Sought.FieldStart first) g) i false
+    ≡ both (not (getD g i false)) (either (eqb i first) (either (eqb i 0) (getD g (i - 1) false)))
 start-at first g i h = starts-from-at first 0 true g i h ∙ rw (zero-add, before-start g i)
 
 -- ---- where a search ends

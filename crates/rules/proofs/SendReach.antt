@@ -28,7 +28,8 @@ use Rattle.rules.specs.declared.Sending.{Sending}
 use Rattle.rules.specs.declared.Sending.the-variants as Sending
 use Rattle.rules.specs.Row.{columnOf}
 use Rattle.rules.specs.Search.{guardedAt}
-use Rattle.rules.specs.State.{widthOf, pageLength, cursorOf, textStart, awaiting, idle, isIdle, sends, Inside, changed, sendingAfter, gatheredAfter, setupAfter}
+use Rattle.rules.specs.State.{widthOf, pageLength, cursorOf, textStart, awaiting, idle, isIdle, sends, Inside, changed, sendingAfter}
+use Rattle.rules.specs.State.{gatheredAfter, setupAfter}
 use Rattle.rules.specs.Possible.{shortLength, placeOk, sendingOk, possible, good, repliesOn}
 use Rattle.rules.specs.Decode.{lookup, idleRule, escapeRule, decodeRule}
 use Rattle.rules.specs.Plan.{replying, sendPlan, excludedPlan, planRule, unlessWide}
@@ -39,7 +40,8 @@ use Rattle.rules.specs.Calls.{Ran, joined, runRule}
 use Rattle.rules.specs.theorems.SendReach.{asked, unsent, blankFor, LeftBy, SendReach}
 use Rattle.rules.proofs.Tests.{both-parts, pick-if}
 use Rattle.rules.proofs.Screens.{screen-inside}
-use Rattle.rules.proofs.Sends.{sending-idle, idle-is, places-small, beyond-zero, beyond-one, beyond-add, nextPlace, own-cell, own-break, own-return, short-long}
+use Rattle.rules.proofs.Sends.{sending-idle, idle-is, places-small, beyond-zero, beyond-one, beyond-add, nextPlace, own-cell, own-break}
+use Rattle.rules.proofs.Sends.{own-return, short-long}
 use Rattle.rules.proofs.Kept.{PossibleState, possible-parts, possible-whole, good-whole, play-keeps, step-good}
 use Rattle.rules.proofs.Run.{run-go, run-done}
 
@@ -52,7 +54,8 @@ record Comes (p : List ℕ) (c : Core) (y : Sending) (d : ℕ) (l : List Spot) :
   is : beyond room (places p c y) ≡ l
 
 -- a place that gives a byte is passed by one more
-comes-on : (p : List ℕ) (c : Core) (y : Sending) (d : ℕ) (z : Sending) (b : ℕ) (l : List Spot) → Comes p c y d (spot z (b ∷ []) ∷ l) → Comes p c y (suc d) l
+comes-on : (p : List ℕ) (c : Core) (y : Sending) (d : ℕ) (z : Sending) (b : ℕ) (l : List Spot) → Comes p c y d (spot z (b ∷ []) ∷ l)
+    → Comes p c y (suc d) l
 comes-on p c y d z b l x = record {
   room = x .room + 1;
   least = omega (arith, x .least);
@@ -146,7 +149,8 @@ module _ (c : Core) (i : Inside (c .screen)) (all segment : Bool) where
       let l = ltb-true start j (a .0) in
       let m = leb-true j (cursorOf (c .screen)) (a .1) in
       let e : start + (j - start) ≡ j = omega arith in
-      comes-less (j - start) 1 (omega arith) (subst (λ (n : ℕ). Comes blankPage c first (j - start) (at (Place.Cell n))) e (cell-comes (j - start) (omega arith)))
+      comes-less (j - start) 1 (omega arith)
+      (subst (λ (n : ℕ). Comes blankPage c first (j - start) (at (Place.Cell n))) e (cell-comes (j - start) (omega arith)))
   place-comes (Place.Break j) h =
       let a = both-parts (eqb (columnOf (widthOf (c .screen)) j) 0) _ h in
       let z = eqb-true (columnOf (widthOf (c .screen)) j) 0 (a .0) in
@@ -206,7 +210,8 @@ module _ (p : List ℕ) (s : State) (g : good p (unsent s) ≡ true) (e : s .cor
   good-escaped = subst (λ (o : Outcome). good (o .page) (o .state) ≡ true) first-step (step-good p (unsent s) 0x1b room g)
 
   module _ (b : ℕ) (d : Command) (y : Sending) (low : ltb b 128 ≡ true) (is : decodeRule Pending.Escape b ≡ Decoded.Do d)
-      (plan : planRule (guardedAt (s .core .modes .protect) p) (s .setup .tabs) (idle (s .core)) d ≡ replying (idle (s .core)) y) (w : sends y ≡ true) (h : 0 < room) where
+      (plan : planRule (guardedAt (s .core .modes .protect) p) (s .setup .tabs) (idle (s .core)) d ≡ replying (idle (s .core)) y) (w : sends y ≡ true)
+      (h : 0 < room) where
     second-step : stepRule p escaped b room .state ≡ changedTo s (idle (s .core)) (leftFrom p (idle (s .core)) y room)
     unfolding stepRule innerRule obeyed carried begun sendingAfter gatheredAfter setupAfter changed
     second-step = rw (good-escaped, low, is, plan, w, ne-eqb room 0 (omega arith))
@@ -227,7 +232,8 @@ module _ (p : List ℕ) (s : State) (g : good p (unsent s) ≡ true) (e : s .cor
 
 -- ---- each possible send
 
-standing-short : (p : List ℕ) (c : Core) (r : Short) (n : ℕ) → n < length (shortReply p c r) → standing (places p c (Sending.Short r n)) ≡ Sending.Short r n
+standing-short : (p : List ℕ) (c : Core) (r : Short) (n : ℕ) → n < length (shortReply p c r)
+    → standing (places p c (Sending.Short r n)) ≡ Sending.Short r n
 unfolding places each standing
 standing-short p c r n h = rw (drop-cons (shortReply p c r) n 0 h)
 
@@ -236,11 +242,13 @@ standing-text : (c : Core) (i : Inside (c .screen)) (all segment : Bool) (k : Pl
 unfolding placeOk standing
 standing-text c i all segment (Place.Cell j) h =
     let a = both-parts (ltb (textStart (c .screen) segment) j) _ h in
-    rw (own-cell (replicate (pageLength (c .screen)) 0) c (length-replicate (pageLength (c .screen)) 0) i all segment j (leb-true j (cursorOf (c .screen)) (a .1)))
+    rw (own-cell (replicate (pageLength (c .screen)) 0) c (length-replicate (pageLength (c .screen)) 0) i all segment j
+    (leb-true j (cursorOf (c .screen)) (a .1)))
 standing-text c i all segment (Place.Break j) h =
     let a = both-parts (eqb (columnOf (widthOf (c .screen)) j) 0) _ h in
     let b = both-parts (ltb (textStart (c .screen) segment) j) _ (a .1) in
-    rw (own-break (replicate (pageLength (c .screen)) 0) c (length-replicate (pageLength (c .screen)) 0) i all segment j (leb-true j (cursorOf (c .screen)) (b .1))
+    rw (own-break (replicate (pageLength (c .screen)) 0) c (length-replicate (pageLength (c .screen)) 0) i all segment j
+    (leb-true j (cursorOf (c .screen)) (b .1))
     (eqb-true (columnOf (widthOf (c .screen)) j) 0 (a .0)))
 standing-text c i all segment Place.Return h =
     rw (own-return (replicate (pageLength (c .screen)) 0) c (length-replicate (pageLength (c .screen)) 0) i all segment)
@@ -274,15 +282,19 @@ module _ (s : State) (h : possible s ≡ true) (u : sends (s .sending) ≡ true)
   by-short Short.Acknowledge n e k a b l = absurd (omega arith)
   by-short Short.Cell n e k a b l = absurd (omega arith)
   by-short Short.Identity n e k a b l =
-      leaves _ e n (asked-leaves (blankFor s) s fine no-sequence n 0x20 (Command.Send Send.Identity) (Sending.Short Short.Identity 0) refl refl refl refl (omega arith) l)
+      leaves _ e n (asked-leaves (blankFor s) s fine no-sequence n 0x20 (Command.Send Send.Identity)
+      (Sending.Short Short.Identity 0) refl refl refl refl (omega arith) l)
   by-short Short.Cursor n e k a b l =
-      leaves _ e n (asked-leaves (blankFor s) s fine no-sequence n 0x3f (Command.Send Send.Cursor) (Sending.Short Short.Cursor 0) refl refl (rw (not-true (s .core .screen .wide) k)) refl (omega arith) l)
+      leaves _ e n (asked-leaves (blankFor s) s fine no-sequence n 0x3f (Command.Send Send.Cursor) (Sending.Short Short.Cursor 0) refl refl
+      (rw (not-true (s .core .screen .wide) k)) refl (omega arith) l)
   by-short Short.SegmentCursor n e k a b l =
       leaves _ e n
-      (asked-leaves (blankFor s) s fine no-sequence n 0x2f (Command.Send Send.SegmentCursor) (Sending.Short Short.SegmentCursor 0) refl refl (rw (not-true (s .core .screen .wide) k)) refl (omega arith) l)
+      (asked-leaves (blankFor s) s fine no-sequence n 0x2f (Command.Send Send.SegmentCursor) (Sending.Short Short.SegmentCursor 0) refl refl
+      (rw (not-true (s .core .screen .wide) k)) refl (omega arith) l)
   by-short Short.DecimalCursor n e k a b l =
       leaves _ e n
-      (asked-leaves (blankFor s) s fine no-sequence n 0x62 (Command.Send Send.DecimalCursor) (Sending.Short Short.DecimalCursor 0) refl refl refl refl (omega arith) l)
+      (asked-leaves (blankFor s) s fine no-sequence n 0x62 (Command.Send Send.DecimalCursor) (Sending.Short Short.DecimalCursor 0) refl refl refl refl
+      (omega arith) l)
 
   by-text : (all segment : Bool) (k : Place) (room : ℕ) → s .sending ≡ Sending.Text all segment k → 0 < room
       → leftFrom (blankFor s) (s .core) (Sending.Text all segment (Place.Cell (textStart (s .core .screen) segment))) room ≡ s .sending → LeftBy s
@@ -300,7 +312,8 @@ module _ (s : State) (h : possible s ≡ true) (u : sends (s .sending) ≡ true)
   unfolding sendingOk leftFrom
   left-by Sending.Nothing e = absurd (false≢true (ap sends (sym e) ∙ u))
   left-by (Sending.Short r n) e =
-      let o : sendingOk (s .core .screen) (s .core .pending) (Sending.Short r n) ≡ true = ap (sendingOk (s .core .screen) (s .core .pending)) (sym e) ∙ w .sending in
+      let o : sendingOk (s .core .screen) (s .core .pending) (Sending.Short r n) ≡ true = ap (sendingOk (s .core .screen) (s .core .pending)) (sym e)
+      ∙ w .sending in
       let k = both-parts (repliesOn (s .core .screen) r) _ (both-parts (isIdle (s .core .pending)) _ o .1) in
       let a = both-parts (leb 1 n) _ (k .1) in
       let m = leb-true 1 n (a .0) in
@@ -309,7 +322,8 @@ module _ (s : State) (h : possible s ≡ true) (u : sends (s .sending) ≡ true)
       (ap standing (short-comes (blankFor s) (s .core) r n)
       ∙ (standing-short (blankFor s) (s .core) r n (short-long (blankFor s) (s .core) r n m l) ∙ sym e))
   left-by (Sending.Text all segment k) e =
-      let o : sendingOk (s .core .screen) (s .core .pending) (Sending.Text all segment k) ≡ true = ap (sendingOk (s .core .screen) (s .core .pending)) (sym e) ∙ w .sending in
+      let o : sendingOk (s .core .screen) (s .core .pending) (Sending.Text all segment k)
+      ≡ true = ap (sendingOk (s .core .screen) (s .core .pending)) (sym e) ∙ w .sending in
       let a = both-parts (isIdle (s .core .pending)) _ o .1 in
       let x = place-comes (s .core) inside all segment k a in
       by-text all segment k (x .room) e (omega (arith, x .least)) (ap standing (x .is) ∙ (standing-text (s .core) inside all segment k a ∙ sym e))

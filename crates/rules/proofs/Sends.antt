@@ -33,7 +33,8 @@ use Rattle.rules.specs.Row.{Width, columnOf}
 use Rattle.rules.specs.State.{widthOf, pageLength, cursorOf, textStart, isIdle, sends, Inside}
 use Rattle.rules.specs.Possible.{shortLength, placeOk, sendingOk, repliesOn}
 use Rattle.rules.specs.theorems.Good.{GoodPlace, GoodSend}
-use Rattle.rules.specs.Send.{Spot, spot, openCell, shortReply, each, leavesOut, leftOut, cellPlace, textPlaces, textFrom, followsLeftOut, textAt, places, bytesOf, beyond, standing, sentFrom, leftFrom}
+use Rattle.rules.specs.Send.{Spot, spot, openCell, shortReply, each, leavesOut, leftOut, cellPlace, textPlaces, textFrom, followsLeftOut}
+use Rattle.rules.specs.Send.{textAt, places, bytesOf, beyond, standing, sentFrom, leftFrom}
 use Rattle.rules.proofs.Tests.{pick-if, both-parts, both-true}
 use Rattle.rules.proofs.Rows.{by-width, columns-width, width-range, column-below}
 
@@ -159,7 +160,8 @@ module _ {w : ℕ} (k : Width w) (p : List ℕ) (e : ℕ) (m : e ≤ length p) (
   unfolding Follows textAt followsLeftOut
   at-cells i u =
       let z : w - 1 - columnOf w i ≡ w - columnOf w (suc i) =
-      by-width (λ (w : ℕ). (columnOf w (suc i) ≡ 0 → ⊥) → w - 1 - columnOf w i ≡ w - columnOf w (suc i)) (λ u. omega (arith, u)) (λ u. omega (arith, u))
+      by-width (λ (w : ℕ). (columnOf w (suc i) ≡ 0 → ⊥) → w - 1 - columnOf w i ≡ w - columnOf w (suc i)) (λ u. omega (arith, u))
+      (λ u. omega (arith, u))
       k u in
       let y : suc i - 1 ≡ i = omega arith in
       rw (z, ne-eqb (columnOf w (suc i)) 0 u, y)
@@ -180,11 +182,13 @@ module _ {w : ℕ} (k : Width w) (p : List ℕ) (e : ℕ) (m : e ≤ length p) (
       let a : drop i p ≡ getD p i 0 ∷ drop (suc i) p = drop-cons p i 0 (omega arith) in
       let b : e - i ≡ suc (e - suc i) = omega arith in
       let c : w - columnOf w i ≡ suc (w - 1 - columnOf w i) = omega (arith, column-below k i) in
-      rw (a, b, c) (ap (λ (r : List Spot). spot (Sending.Text all segment (Place.Cell i)) (cellPlace (leavesOut all) (followsLeftOut w all p i) (getD p i 0)) ∷ r)
+      rw (a, b, c) (ap (λ (r : List Spot). spot (Sending.Text all segment (Place.Cell i))
+      (cellPlace (leavesOut all) (followsLeftOut w all p i) (getD p i 0)) ∷ r)
       (at-next i h))
 
   pub at-break : (i : ℕ) → i < e → columnOf w i ≡ 0
-      → textAt w p e all segment (Place.Break i) ≡ spot (Sending.Text all segment (Place.Break i)) (0x1f ∷ []) ∷ textAt w p e all segment (Place.Cell i)
+      → textAt w p e all segment (Place.Break i) ≡ spot (Sending.Text all segment (Place.Break i)) (0x1f ∷ [])
+      ∷ textAt w p e all segment (Place.Cell i)
   unfolding textAt textPlaces followsLeftOut
   at-break i h z =
       let a : drop i p ≡ getD p i 0 ∷ drop (suc i) p = drop-cons p i 0 (omega arith) in
@@ -217,16 +221,19 @@ module _ (p : List ℕ) (c : Core) where
   short-few Short.DecimalCursor = omega arith
 
   each-next : (r : Short) (n : ℕ) → n < length (shortReply p c r)
-      → each r n (drop n (shortReply p c r)) ≡ spot (Sending.Short r n) (getD (shortReply p c r) n 0 ∷ []) ∷ each r (suc n) (drop (suc n) (shortReply p c r))
+      → each r n (drop n (shortReply p c r)) ≡ spot (Sending.Short r n) (getD (shortReply p c r) n 0 ∷ [])
+      ∷ each r (suc n) (drop (suc n) (shortReply p c r))
   unfolding each
   each-next r n h = rw (drop-cons (shortReply p c r) n 0 h)
 
   each-own : (r : Short) (n : ℕ) → n < length (shortReply p c r)
-      → places p c (Sending.Short r n) ≡ spot (Sending.Short r n) (getD (shortReply p c r) n 0 ∷ []) ∷ each r (suc n) (drop (suc n) (shortReply p c r))
+      → places p c (Sending.Short r n) ≡ spot (Sending.Short r n) (getD (shortReply p c r) n 0 ∷ [])
+      ∷ each r (suc n) (drop (suc n) (shortReply p c r))
   unfolding places
   each-own r n h = each-next r n h
 
-  each-ok : (r : Short) → repliesOn (c .screen) r ≡ true → (n : ℕ) → 0 < n → n < length (shortReply p c r) → sendingOk (c .screen) Pending.Idle (Sending.Short r n) ≡ true
+  each-ok : (r : Short) → repliesOn (c .screen) r ≡ true → (n : ℕ) → 0 < n → n < length (shortReply p c r)
+      → sendingOk (c .screen) Pending.Idle (Sending.Short r n) ≡ true
   unfolding sendingOk
   each-ok r k n a b = both-true k (both-true (le-leb 1 n (omega arith)) (lt-ltb n (shortLength r) (omega (arith, short-few r))))
 
@@ -234,7 +241,8 @@ module _ (p : List ℕ) (c : Core) where
   unfolding each
   each-none r n = none
 
-  each-row : (r : Short) → repliesOn (c .screen) r ≡ true → (d n : ℕ) → length (shortReply p c r) - n ≡ d → 0 < n → Row p c (each r n (drop n (shortReply p c r)))
+  each-row : (r : Short) → repliesOn (c .screen) r ≡ true → (d n : ℕ) → length (shortReply p c r) - n ≡ d → 0 < n
+      → Row p c (each r n (drop n (shortReply p c r)))
   each-row r k zero n e h =
       let z : drop n (shortReply p c r) ≡ [] = drop-of-length-le (shortReply p c r) {i = n} (omega arith) in
       rw z (each-none r n)
@@ -480,7 +488,8 @@ pub sent-some : (p : List ℕ) (c : Core) (q : Pending) (y : Sending) (room : �
 unfolding sentFrom
 sent-some p c q y room h s r = omega (arith, length-take room (bytesOf (places p c y)), some-left p c q y h s)
 
-module _ (p : List ℕ) (c : Core) (n : length p ≡ pageLength (c .screen)) (i : Inside (c .screen)) (y : Sending) (g : GoodSend (c .screen) y) (room : ℕ) (h : 0 < room) where
+module _ (p : List ℕ) (c : Core) (n : length p ≡ pageLength (c .screen)) (i : Inside (c .screen)) (y : Sending) (g : GoodSend (c .screen) y)
+    (room : ℕ) (h : 0 < room) where
   -- one that is not over wants more room, and has used its room up
   wants-more : sends (leftFrom p c y room) ≡ true → room < length (bytesOf (places p c y))
   wants-more s =
@@ -545,7 +554,8 @@ module _ {w : ℕ} (k : Width w) where
   at-bound p e all segment (Place.Cell i) h g =
       let x = length (take (e - i) (drop i p)) in
       from-bound all segment _ (w - columnOf w i) i (take (e - i) (drop i p)) (omega arith)
-      (by-width (λ (w : ℕ). e ≤ 24 * w → i < e → x ≤ e - i → x + (x - (w - columnOf w i) + (w - 1)) / w + 1 + i ≤ 24 * (w + 1)) (λ h b m. omega arith) (λ h b m. omega arith)
+      (by-width (λ (w : ℕ). e ≤ 24 * w → i < e → x ≤ e - i → x + (x - (w - columnOf w i) + (w - 1)) / w + 1 + i ≤ 24 * (w + 1)) (λ h b m. omega arith)
+      (λ h b m. omega arith)
       k h g (cells-most p e i))
   at-bound p e all segment (Place.Break i) h g =
       let x = length (take (e - i) (drop i p)) in
@@ -581,7 +591,8 @@ module _ (p : List ℕ) (c : Core) (i : Inside (c .screen)) where
       → length (bytesOf (places p c (Sending.Text all segment z))) + gone z ≤ 24 * (widthOf (c .screen) + 1)
   unfolding places
   text-bound all segment z g =
-      at-bound (columns-width (c .screen .wide)) p (cursorOf (c .screen) + 1) all segment z (omega (arith, i .below, i .placed .page)) (good-at segment z g)
+      at-bound (columns-width (c .screen .wide)) p (cursorOf (c .screen) + 1) all segment z (omega (arith, i .below, i .placed .page))
+      (good-at segment z g)
 
   whole-bound : (y : Sending) → GoodSend (c .screen) y → length (bytesOf (places p c y)) ≤ 24 * (widthOf (c .screen) + 1)
   whole-bound Sending.Nothing g = unfold places bytesOf in omega arith
@@ -606,12 +617,19 @@ module _ (p : List ℕ) (c : Core) (i : Inside (c .screen)) where
   left-bound q Sending.Nothing h = unfold places bytesOf in omega arith
   left-bound q (Sending.Short r n) h = omega (arith, short-bound r n)
   left-bound q (Sending.Text all segment z) h =
-      omega (arith, text-bound all segment z (ok-good (c .screen) q (Sending.Text all segment z) h), some-gone (c .screen) segment z (both-parts (isIdle q) _ h .1))
+      omega (
+        arith,
+        text-bound all segment z (ok-good (c .screen) q (Sending.Text all segment z) h),
+        some-gone (c .screen) segment z
+            (both-parts (isIdle q) _ h .1),
+      )
 
 -- with no room it stands where it stood
-pub stands-still : (p : List ℕ) (c : Core) → length p ≡ pageLength (c .screen) → Inside (c .screen) → (q : Pending) (y : Sending) → sendingOk (c .screen) q y ≡ true
+pub stands-still : (p : List ℕ) (c : Core) → length p ≡ pageLength (c .screen) → Inside (c .screen) → (q : Pending) (y : Sending)
+    → sendingOk (c .screen) q y ≡ true
     → sends y ≡ true → standing (beyond 0 (places p c y)) ≡ y
-stands-still p c n i q y ok s = rw (beyond-zero (places p c y)) (by (places p c y) (ahead p c n i y (ok-good (c .screen) q y ok)) (some-left p c q y ok s))
+stands-still p c n i q y ok s = rw (beyond-zero (places p c y))
+    (by (places p c y) (ahead p c n i y (ok-good (c .screen) q y ok)) (some-left p c q y ok s))
   where
     by : (l : List Spot) → Ahead p c y l → 0 < length (bytesOf l) → standing l ≡ y
     by _ over h = absurd (unfold bytesOf in omega arith)

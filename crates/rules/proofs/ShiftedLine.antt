@@ -39,7 +39,8 @@ use Rattle.rules.specs.State.{idle, isIdle, sends, changed, stored, setu
 use Rattle.rules.specs.Arguments.{isKey, isLabel}
 use Rattle.rules.specs.Slot.{slotEnd, slotMost, slotLow, isText}
 use Rattle.rules.specs.Possible.{powerOn, good}
-use Rattle.rules.specs.Decode.{lookup, controls, escapes, idleRule, escapeRule, judged, featureRule, fieldRule, splitRule, digitRule, decimalRowRule, decimalColumnRule, slotRule, textRule, spoiltRule, argumentRule, decodeRule}
+use Rattle.rules.specs.Decode.{lookup, controls, escapes, idleRule, escapeRule, judged, featureRule, fieldRule, splitRule, digitRule}
+use Rattle.rules.specs.Decode.{decimalRowRule, decimalColumnRule, slotRule, textRule, spoiltRule, argumentRule, decodeRule}
 use Rattle.rules.specs.Plan.{settingPlan, planRule}
 use Rattle.rules.specs.Carry.{Effect, done, begun, carried}
 use Rattle.rules.specs.Step.{obeyed, innerRule, Outcome, goesOn, stepInside, stepRule}
@@ -94,7 +95,8 @@ module _ (p : List ℕ) (c : Core) (g : List ℕ) (u : Setup) (room : ℕ) where
       P : Effect → Type 0
       P e = setupAfter (e .change) g u .shifted ≡ u .shifted
 
-  setting-line : (x : Setting) → setupAfter (carried p c (settingPlan (idle c) x) room .change) g u .shifted ≡ pick (commandStays (Command.Set x)) (u .shifted) false
+  setting-line : (x : Setting)
+      → setupAfter (carried p c (settingPlan (idle c) x) room .change) g u .shifted ≡ pick (commandStays (Command.Set x)) (u .shifted) false
   unfolding settingPlan carried done setupAfter changed
   setting-line (Setting.Tab b) = refl
   setting-line Setting.ClearTabs = refl
@@ -108,7 +110,8 @@ module _ (p : List ℕ) (c : Core) (g : List ℕ) (u : Setup) (room : ℕ) where
   still-formed tabs d h = still-carried _ (still h (formed (guardedAt (c .modes .protect) p) (idle c) tabs d))
 
   command-line : (tabs : List Bool) (d : Command)
-      → setupAfter (carried p c (planRule (guardedAt (c .modes .protect) p) tabs (idle c) d) room .change) g u .shifted ≡ pick (commandStays d) (u .shifted) false
+      → setupAfter (carried p c (planRule (guardedAt (c .modes .protect) p) tabs (idle c) d) room .change) g u .shifted
+      ≡ pick (commandStays d) (u .shifted) false
   unfolding planRule
   command-line tabs Command.Nothing = still-formed tabs Command.Nothing refl
   command-line tabs (Command.Go m) = still-formed tabs (Command.Go m) refl
@@ -186,7 +189,8 @@ module _ (g : List ℕ) (t : Bool) where
   unfolding idleRule
   idle-line b =
       pick-if (λ (d : Decoded). decodedLine g t d ≡ t) (ltb b 0x20)
-      (λ e. decoded-stays (lookup controls (Decoded.Do Command.Nothing) b) (looked-up stays controls (Decoded.Do Command.Nothing) b controls-stay refl))
+      (λ e. decoded-stays (lookup controls (Decoded.Do Command.Nothing) b)
+      (looked-up stays controls (Decoded.Do Command.Nothing) b controls-stay refl))
       (λ e. pick-if (λ (d : Decoded). decodedLine g t d ≡ t) (ltb b 0x7f) (λ z. refl) (λ z. refl))
 
   escape-line : (b : ℕ) → decodedLine g t (escapeRule b) ≡ t
@@ -216,7 +220,8 @@ module _ (g : List ℕ) (t : Bool) where
   argument-line Argument.FieldAttribute b = refl
   argument-line Argument.Slot b = slot-line b
 
-  label-line : (v n b : ℕ) (s : Bool) → eqb b 0x0d ≡ s → decodedLine g t (textRule (Slot.Label v) n b) ≡ lineAfter (Pending.Text (Slot.Label v) n) g b t
+  label-line : (v n b : ℕ) (s : Bool) → eqb b 0x0d ≡ s
+      → decodedLine g t (textRule (Slot.Label v) n b) ≡ lineAfter (Pending.Text (Slot.Label v) n) g b t
   unfolding textRule slotEnd
   label-line v n b true e = rw (e, both-one (upperText (Slot.Label v) (take n g)))
   label-line v n b false e =
@@ -247,7 +252,13 @@ module _ (g : List ℕ) (t : Bool) where
   -- 80h and above
   high-line : (q : Pending) (b : ℕ) → 128 ≤ b → t ≡ lineAfter q g b t
   high-line q b h =
-      rw (not-equal b 0x7f (λ e. omega (arith, e)), not-equal b 0x0d (λ e. omega (arith, e)), both-none (slotAwaited q), both-none (upperUnderWay q g))
+      rw (
+        not-equal b 0x7f (λ e. omega (arith, e)),
+        not-equal b 0x0d (λ e. omega (arith, e)),
+        both-none (slotAwaited q),
+        both-none
+            (upperUnderWay q g),
+      )
 
 byte-line : (p : List ℕ) (s : State) (b room : ℕ)
     → setupAfter (innerRule p (s .core) (s .setup .tabs) b room .change) (s .gathered) (s .setup) .shifted
@@ -281,8 +292,10 @@ inside-line : (p : List ℕ) (s : State) (b room : ℕ) → good p s ≡ true �
 unfolding stepInside goesOn
 inside-line p s b room h u =
     let w = possible-parts s (good-parts p s h .1) in
-    let e = idle-is (s .core .pending) (s .gathered) b (s .setup .shifted) (sending-idle (s .core .screen) (s .core .pending) (s .sending) (w .sending) u) in
-    pick-if (λ (o : Outcome). o .state .setup .shifted ≡ lineAfter (s .core .pending) (s .gathered) b (s .setup .shifted)) (eqb room 0) (λ z. e) (λ z. e)
+    let e = idle-is (s .core .pending) (s .gathered) b (s .setup .shifted)
+    (sending-idle (s .core .screen) (s .core .pending) (s .sending) (w .sending) u) in
+    pick-if (λ (o : Outcome). o .state .setup .shifted ≡ lineAfter (s .core .pending) (s .gathered) b (s .setup .shifted)) (eqb room 0) (λ z. e)
+    (λ z. e)
 
 step-line : (p : List ℕ) (s : State) (b room : ℕ) → good p s ≡ true
     → stepRule p s b room .state .setup .shifted ≡ lineAfter (s .core .pending) (s .gathered) b (s .setup .shifted)

@@ -12,7 +12,8 @@ use Rattle.rules.specs.Cell.{both, either, protected}
 use Rattle.rules.specs.State.{withCursor}
 use Rattle.rules.specs.Possible.{powerOn}
 use Rattle.rules.specs.Calls.{Call}
-use Rattle.rules.specs.theorems.Noninterference.{AlikePages, afterEscape, anyOf, excludedBytes, completes, callCompletes, anyCompleted, revealing}
+use Rattle.rules.specs.theorems.Noninterference.{AlikePages, afterEscape, anyOf, excludedBytes, completes, callCompletes, anyCompleted}
+use Rattle.rules.specs.theorems.Noninterference.{revealing}
 use Rattle.rules.specs.cases.Inputs.{cursorAt, protectAt}
 use Rattle.rules.specs.cases.PersonalityCases.{as60}
 use Rattle.rules.specs.cases.Wide.{wideAt, wideProtectAt}

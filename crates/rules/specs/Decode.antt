@@ -130,7 +130,8 @@ judged t d = pick t (Decoded.Do d) (Decoded.Reject Answer.BadArgument)
 -- ESC ` f: 3Ah and 3Bh wish for a narrow and a wide page (document 02, A11)
 unfoldable pub featureRule : ℕ → Decoded
 featureRule f =
-    pick (between 0x3a 0x3b f) (Decoded.Do (Command.Set (Setting.Wish (eqb f 0x3b)))) (judged (ltb (featurePlace f) 5) (Command.Set (Setting.Feature f)))
+    pick (between 0x3a 0x3b f) (Decoded.Do (Command.Set (Setting.Wish (eqb f 0x3b))))
+    (judged (ltb (featurePlace f) 5) (Command.Set (Setting.Feature f)))
 
 -- ESC A n attr
 unfoldable pub fieldRule : ℕ → ℕ → Decoded

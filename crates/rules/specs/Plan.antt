@@ -44,12 +44,21 @@ use Rattle.rules.specs.declared.Land.the-variants as Land
 use Rattle.rules.specs.Cell.{pick, both, either, among, between, normal, written, null, space, protectedSpace}
 use Rattle.rules.specs.Row.{columns, addressed, rowOf, columnOf, rowStart, rowEnd}
 use Rattle.rules.specs.Search.{previousOpen, nextField, previousField, nextTab, previousTab}
-use Rattle.rules.specs.State.{widthOf, segmentTop, segmentBottom, segmentStart, segmentEnd, cursorOf, textStart, activated, withScreen, withModes, withBells, withAttribute, withProtect, withMode}
+use Rattle.rules.specs.State.{widthOf, segmentTop, segmentBottom, segmentStart, segmentEnd, cursorOf, textStart, activated, withScreen}
+use Rattle.rules.specs.State.{withModes, withBells, withAttribute, withProtect, withMode}
 use Rattle.rules.specs.Arguments.{attributeContents, attributeOf, featurePlace}
 
 -- the forms of plans
 abbrev pub refusing : Core → Answer → Plan
-refusing c a = record { answer = a; first = Write.Nothing; second = Write.Nothing; change = SetupChange.Nothing; reply = Sending.Nothing; next = c; land = Land.Stay }
+refusing c a = record {
+  answer = a;
+  first = Write.Nothing;
+  second = Write.Nothing;
+  change = SetupChange.Nothing;
+  reply = Sending.Nothing;
+  next = c;
+  land = Land.Stay;
+}
 
 abbrev pub plain : Core → Plan
 plain c = refusing c Answer.Done
@@ -64,10 +73,26 @@ abbrev pub settling : Core → ℕ → Plan
 settling c i = writing c Write.Nothing (Land.Settle i)
 
 abbrev pub replying : Core → Sending → Plan
-replying c r = record { answer = Answer.Done; first = Write.Nothing; second = Write.Nothing; change = SetupChange.Nothing; reply = r; next = c; land = Land.Stay }
+replying c r = record {
+  answer = Answer.Done;
+  first = Write.Nothing;
+  second = Write.Nothing;
+  change = SetupChange.Nothing;
+  reply = r;
+  next = c;
+  land = Land.Stay;
+}
 
 abbrev pub changing : Core → SetupChange → Plan
-changing c x = record { answer = Answer.Done; first = Write.Nothing; second = Write.Nothing; change = x; reply = Sending.Nothing; next = c; land = Land.Stay }
+changing c x = record {
+  answer = Answer.Done;
+  first = Write.Nothing;
+  second = Write.Nothing;
+  change = x;
+  reply = Sending.Nothing;
+  next = c;
+  land = Land.Stay;
+}
 
 -- a guarded cursor cell answers 4
 unfoldable pub unlessGuarded : List Bool → Core → Plan → Plan

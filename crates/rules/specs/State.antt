@@ -125,16 +125,44 @@ abbrev pub labelPlace : ℕ → ℕ
 labelPlace v = pick (ltb v 0x50) (v - 0x30) (v - 0x48)
 
 abbrev pub withScreen : Core → Screen → Core
-withScreen c x = record { screen = x; modes = c .modes; bells = c .bells; pending = c .pending; personality = c .personality; attribute = c .attribute }
+withScreen c x = record {
+  screen = x;
+  modes = c .modes;
+  bells = c .bells;
+  pending = c .pending;
+  personality = c .personality;
+  attribute = c .attribute;
+}
 
 abbrev pub withModes : Core → Modes → Core
-withModes c m = record { screen = c .screen; modes = m; bells = c .bells; pending = c .pending; personality = c .personality; attribute = c .attribute }
+withModes c m = record {
+  screen = c .screen;
+  modes = m;
+  bells = c .bells;
+  pending = c .pending;
+  personality = c .personality;
+  attribute = c .attribute;
+}
 
 abbrev pub withBells : Core → ℕ → Core
-withBells c n = record { screen = c .screen; modes = c .modes; bells = n; pending = c .pending; personality = c .personality; attribute = c .attribute }
+withBells c n = record {
+  screen = c .screen;
+  modes = c .modes;
+  bells = n;
+  pending = c .pending;
+  personality = c .personality;
+  attribute = c .attribute;
+}
 
 abbrev pub withAttribute : Core → ℕ → Core
-withAttribute c a = record { screen = c .screen; modes = c .modes; bells = c .bells; pending = c .pending; personality = c .personality; attribute = a }
+withAttribute c a = record {
+  screen = c .screen;
+  modes = c .modes;
+  bells = c .bells;
+  pending = c .pending;
+  personality = c .personality;
+  attribute = a;
+}
 
 -- another sequence is under way
 abbrev pub awaiting : Core → Pending → Core
@@ -169,38 +197,152 @@ abbrev pub withSending : State → Sending → State
 withSending s x = record { core = s .core; sending = x; gathered = s .gathered; setup = s .setup }
 
 abbrev pub withProtect : Modes → Bool → Modes
-withProtect m b = record { protect = b; writeprotect = m .writeprotect; insert = m .insert; autoscroll = m .autoscroll; locked = m .locked; local = m .local }
+withProtect m b = record {
+  protect = b;
+  writeprotect = m .writeprotect;
+  insert = m .insert;
+  autoscroll = m .autoscroll;
+  locked = m .locked;
+  local = m .local;
+}
 
 unfoldable pub withMode : Modes → Mode → Bool → Modes
-withMode m Mode.WriteProtect b = record { protect = m .protect; writeprotect = b; insert = m .insert; autoscroll = m .autoscroll; locked = m .locked; local = m .local }
-withMode m Mode.Insert b = record { protect = m .protect; writeprotect = m .writeprotect; insert = b; autoscroll = m .autoscroll; locked = m .locked; local = m .local }
-withMode m Mode.Autoscroll b = record { protect = m .protect; writeprotect = m .writeprotect; insert = m .insert; autoscroll = b; locked = m .locked; local = m .local }
-withMode m Mode.Lock b = record { protect = m .protect; writeprotect = m .writeprotect; insert = m .insert; autoscroll = m .autoscroll; locked = b; local = m .local }
-withMode m Mode.LocalEdit b = record { protect = m .protect; writeprotect = m .writeprotect; insert = m .insert; autoscroll = m .autoscroll; locked = m .locked; local = b }
+withMode m Mode.WriteProtect b = record {
+  protect = m .protect;
+  writeprotect = b;
+  insert = m .insert;
+  autoscroll = m .autoscroll;
+  locked = m .locked;
+  local = m .local;
+}
+withMode m Mode.Insert b = record {
+  protect = m .protect;
+  writeprotect = m .writeprotect;
+  insert = b;
+  autoscroll = m .autoscroll;
+  locked = m .locked;
+  local = m .local;
+}
+withMode m Mode.Autoscroll b = record {
+  protect = m .protect;
+  writeprotect = m .writeprotect;
+  insert = m .insert;
+  autoscroll = b;
+  locked = m .locked;
+  local = m .local;
+}
+withMode m Mode.Lock b = record {
+  protect = m .protect;
+  writeprotect = m .writeprotect;
+  insert = m .insert;
+  autoscroll = m .autoscroll;
+  locked = b;
+  local = m .local;
+}
+withMode m Mode.LocalEdit b = record {
+  protect = m .protect;
+  writeprotect = m .writeprotect;
+  insert = m .insert;
+  autoscroll = m .autoscroll;
+  locked = m .locked;
+  local = b;
+}
 
 abbrev pub withTabs : Setup → List Bool → Setup
-withTabs u x = record { tabs = x; attributes = u .attributes; features = u .features; keys = u .keys; labels = u .labels; message = u .message; shifted = u .shifted; wish = u .wish }
+withTabs u x = record {
+  tabs = x;
+  attributes = u .attributes;
+  features = u .features;
+  keys = u .keys;
+  labels = u .labels;
+  message = u .message;
+  shifted = u .shifted;
+  wish = u .wish;
+}
 
 abbrev pub withAttributes : Setup → List ℕ → Setup
-withAttributes u x = record { tabs = u .tabs; attributes = x; features = u .features; keys = u .keys; labels = u .labels; message = u .message; shifted = u .shifted; wish = u .wish }
+withAttributes u x = record {
+  tabs = u .tabs;
+  attributes = x;
+  features = u .features;
+  keys = u .keys;
+  labels = u .labels;
+  message = u .message;
+  shifted = u .shifted;
+  wish = u .wish;
+}
 
 abbrev pub withFeatures : Setup → List ℕ → Setup
-withFeatures u x = record { tabs = u .tabs; attributes = u .attributes; features = x; keys = u .keys; labels = u .labels; message = u .message; shifted = u .shifted; wish = u .wish }
+withFeatures u x = record {
+  tabs = u .tabs;
+  attributes = u .attributes;
+  features = x;
+  keys = u .keys;
+  labels = u .labels;
+  message = u .message;
+  shifted = u .shifted;
+  wish = u .wish;
+}
 
 abbrev pub withKeys : Setup → List ShortText → Setup
-withKeys u x = record { tabs = u .tabs; attributes = u .attributes; features = u .features; keys = x; labels = u .labels; message = u .message; shifted = u .shifted; wish = u .wish }
+withKeys u x = record {
+  tabs = u .tabs;
+  attributes = u .attributes;
+  features = u .features;
+  keys = x;
+  labels = u .labels;
+  message = u .message;
+  shifted = u .shifted;
+  wish = u .wish;
+}
 
 abbrev pub withLabels : Setup → List ShortText → Bool → Setup
-withLabels u l s = record { tabs = u .tabs; attributes = u .attributes; features = u .features; keys = u .keys; labels = l; message = u .message; shifted = s; wish = u .wish }
+withLabels u l s = record {
+  tabs = u .tabs;
+  attributes = u .attributes;
+  features = u .features;
+  keys = u .keys;
+  labels = l;
+  message = u .message;
+  shifted = s;
+  wish = u .wish;
+}
 
 abbrev pub withMessage : Setup → LongText → Setup
-withMessage u x = record { tabs = u .tabs; attributes = u .attributes; features = u .features; keys = u .keys; labels = u .labels; message = x; shifted = u .shifted; wish = u .wish }
+withMessage u x = record {
+  tabs = u .tabs;
+  attributes = u .attributes;
+  features = u .features;
+  keys = u .keys;
+  labels = u .labels;
+  message = x;
+  shifted = u .shifted;
+  wish = u .wish;
+}
 
 abbrev pub withShifted : Setup → Bool → Setup
-withShifted u x = record { tabs = u .tabs; attributes = u .attributes; features = u .features; keys = u .keys; labels = u .labels; message = u .message; shifted = x; wish = u .wish }
+withShifted u x = record {
+  tabs = u .tabs;
+  attributes = u .attributes;
+  features = u .features;
+  keys = u .keys;
+  labels = u .labels;
+  message = u .message;
+  shifted = x;
+  wish = u .wish;
+}
 
 abbrev pub withWish : Setup → Bool → Setup
-withWish u x = record { tabs = u .tabs; attributes = u .attributes; features = u .features; keys = u .keys; labels = u .labels; message = u .message; shifted = u .shifted; wish = x }
+withWish u x = record {
+  tabs = u .tabs;
+  attributes = u .attributes;
+  features = u .features;
+  keys = u .keys;
+  labels = u .labels;
+  message = u .message;
+  shifted = u .shifted;
+  wish = x;
+}
 
 -- the set-up after a command's change
 unfoldable pub changed : SetupChange → Setup → Setup

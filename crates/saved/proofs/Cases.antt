@@ -8,7 +8,8 @@ use lib.ListN.{getD}
 use Rattle.rules.specs.Row.{columns}
 use Rattle.rules.specs.Arguments.{isAttribute, featurePlace}
 use Rattle.rules.specs.Slot.{isText, allText, textOk, textsOk}
-use Rattle.rules.specs.Possible.{powerOn, screenOk, unsplitOk, attributesOk, featuresOk, noStops, pendingOk, rememberedOk, sendingOk, coreOk, setupOk, possible}
+use Rattle.rules.specs.Possible.{powerOn, screenOk, unsplitOk, attributesOk, featuresOk, noStops, pendingOk, rememberedOk, sendingOk, coreOk, setupOk}
+use Rattle.rules.specs.Possible.{possible}
 use Rattle.saved.specs.SetupBytes.{stopBytes, byCode, featureBytes, attributeBytes, textBytes, textsBytes, keyValue, labelValue, setupBytes}
 use Rattle.saved.specs.Settings.{withSettings}
 use Rattle.saved.specs.Store.{place, cut, joined, laid, afterSave, allZero, isPlace, placesOk, isStore}

@@ -27,7 +27,8 @@ use Rattle.rules.specs.declared.Sending.the-variants as Sending
 use Rattle.rules.specs.declared.SetupChange.{SetupChange}
 use Rattle.rules.specs.Cell.{among}
 use Rattle.rules.specs.Row.{columns}
-use Rattle.rules.specs.State.{withScreen, withCursor, awaiting, segmentTop, segmentBottom, changed, stored, sends, sendingAfter, gatheredAfter, setupAfter}
+use Rattle.rules.specs.State.{withScreen, withCursor, awaiting, segmentTop, segmentBottom, changed, stored, sends, sendingAfter, gatheredAfter}
+use Rattle.rules.specs.State.{setupAfter}
 use Rattle.rules.specs.Search.{guardedAt, others, settled}
 use Rattle.rules.specs.Possible.{powerOn, good}
 use Rattle.rules.specs.Decode.{decodeRule}

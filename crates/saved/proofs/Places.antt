@@ -48,7 +48,8 @@ padded-split l h =
     rw e at (take-append-add l (replicate longest 0) (longest - length l)) ∙ rw (take-zeros (longest - length l) longest (omega arith))
 
 padded-length : (l : List ℕ) → length (padded longest l) ≡ longest
-padded-length l = omega (arith, length-take longest (l ++ replicate longest 0), length-append l (replicate longest 0), length-replicate {A = ℕ} longest 0)
+padded-length l = omega
+    (arith, length-take longest (l ++ replicate longest 0), length-append l (replicate longest 0), length-replicate {A = ℕ} longest 0)
 
 pub place-length : (l : List ℕ) → length (place l) ≡ placeSize
 unfolding place
@@ -115,7 +116,8 @@ is-place (a ∷ b ∷ l) s e =
     let zeros : drop n l ≡ replicate (longest - n) 0 = zero-zeros (drop n l) (q .0) ∙ ap (λ (k : ℕ). replicate k 0) rest in
     let short : length (take n l) ≤ longest = omega arith in
     let body : padded longest (take n l) ≡ l =
-    padded-split (take n l) short ∙ ap (λ (k : ℕ). take n l ++ replicate (longest - k) 0) size ∙ ap (λ (z : List ℕ). take n l ++ z) (sym zeros) ∙ take-append-drop n l in
+    padded-split (take n l) short ∙ ap (λ (k : ℕ). take n l ++ replicate (longest - k) 0) size ∙ ap (λ (z : List ℕ). take n l ++ z) (sym zeros)
+    ∙ take-append-drop n l in
     record { short = short; setup = q .1; is = held size body }
   where
     held : length (take (a + 256 * b) l) ≡ a + 256 * b → padded longest (take (a + 256 * b) l) ≡ l → place (take (a + 256 * b) l) ≡ a ∷ b ∷ l
@@ -159,7 +161,8 @@ unfolding cut joined
 joined-cut zero [] e = refl
 joined-cut zero (b ∷ l) e = absurd (omega arith)
 joined-cut (suc k) l e =
-    ap (λ (z : List ℕ). take placeSize l ++ z) (joined-cut k (drop placeSize l) (omega (arith, length-drop placeSize l))) ∙ take-append-drop placeSize l
+    ap (λ (z : List ℕ). take placeSize l ++ z) (joined-cut k (drop placeSize l) (omega (arith, length-drop placeSize l)))
+    ∙ take-append-drop placeSize l
 
 -- a store of bytes
 pub cut-all : (k : ℕ) (l : List ℕ) → length l ≡ k * placeSize → ((i : ℕ) → getD l i 0 < 256) → All (cut k l)

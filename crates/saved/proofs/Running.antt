@@ -24,7 +24,8 @@ use Rattle.page.specs.Room.{stored}
 use Rattle.page.proofs.Room.{stored-cons, stored-over}
 use Rattle.saved.specs.SetupBytes.{setupBytes, longest}
 use Rattle.saved.specs.Settings.{fed}
-use Rattle.saved.specs.Store.{placeSize, storeSize, twoBytes, twoAt, place, lastNumber, lastOfAll, cut, places, joined, laid, placeOf, setupIn, setupOf, afterSave, allZero, isSetup, isPlace, placesOk, isStore}
+use Rattle.saved.specs.Store.{placeSize, storeSize, twoBytes, twoAt, place, lastNumber, lastOfAll, cut, places, joined, laid, placeOf, setupIn}
+use Rattle.saved.specs.Store.{setupOf, afterSave, allZero, isSetup, isPlace, placesOk, isStore}
 use Rattle.saved.specs.Calls.{saved, saveRule, SaveGives, restorable, restored, restoreRule, RestoreGives, OneSave, OneRestore}
 use Rattle.saved.specs.Put.{Put}
 use Rattle.saved.specs.declared.SaveAnswer.{SaveAnswer}
@@ -80,9 +81,13 @@ pub after-run : (m : Personality) (bytes : List ℕ) {p : List ℕ} {s t : State
 unfolding blank fed
 after-run m bytes {p} {s} {t} {room} e f z h =
     let g : t ≡ runRule (replicate 1920 0) (powerOn m) bytes 0 .state =
-    h ∙ (ap (λ (x : List ℕ). runRule x s bytes room .state) e ∙ (ap (λ (y : State). runRule (replicate 1920 0) y bytes room .state) f ∙ ap (λ (n : ℕ). runRule (replicate 1920 0) (powerOn m) bytes n .state) z)) in
-    let k = fed-fine m bytes in
-    (ap (λ (x : State). x .setup) g, (ap (λ (x : State). textsOk 0 (x .setup .keys)) g ∙ k .keys, ap (λ (x : State). textsOk 0x20 (x .setup .labels)) g ∙ k .labels))
+    h ∙ (ap (λ (x : List ℕ). runRule x s bytes room .state) e
+    ∙ (ap (λ (y : State). runRule (replicate 1920 0) y bytes room .state) f
+    ∙ ap (λ (n : ℕ). runRule (replicate 1920 0) (powerOn m) bytes n .state) z)) in
+    let k = fed-fine m bytes in (
+      ap (λ (x : State). x .setup) g,
+      (ap (λ (x : State). textsOk 0 (x .setup .keys)) g ∙ k .keys, ap (λ (x : State). textsOk 0x20 (x .setup .labels)) g ∙ k .labels),
+    )
 
 -- the first n of the bytes put at the front
 pub front-part : {l w v : List ℕ} {n : ℕ} → Put 0 l w n v → n ≤ length w → take n v ≡ l
@@ -145,7 +150,8 @@ module _ (n k : ℕ) (l : List (List ℕ)) (h : k < length l) where
   unfolding placesOk
   opened = rw (add-one k, drop-cons l k [] h)
 
-  pub used-next : pick (ltb k n) (isPlace (getD l k [])) (allZero (getD l k [])) ≡ true → placesOk n (k + 1) (drop (k + 1) l) ≡ placesOk n k (drop k l)
+  pub used-next : pick (ltb k n) (isPlace (getD l k [])) (allZero (getD l k [])) ≡ true
+      → placesOk n (k + 1) (drop (k + 1) l) ≡ placesOk n k (drop k l)
   used-next e = sym (opened ∙ rw e)
 
   pub used-apart : pick (ltb k n) (isPlace (getD l k [])) (allZero (getD l k [])) ≡ false → placesOk n k (drop k l) ≡ false
@@ -216,14 +222,16 @@ two-written (x ∷ []) a b h = absurd (omega arith)
 two-written (x ∷ y ∷ l) a b h = refl
 
 -- bytes behind the first two, to the end
-pub behind-two : (p bytes : List ℕ) {q r : List ℕ} (a b : ℕ) → q ≡ a ∷ b ∷ drop 2 p → r ≡ stored 2 bytes q → length p ≡ 2 + length bytes → r ≡ a ∷ b ∷ bytes
+pub behind-two : (p bytes : List ℕ) {q r : List ℕ} (a b : ℕ) → q ≡ a ∷ b ∷ drop 2 p → r ≡ stored 2 bytes q → length p ≡ 2 + length bytes
+    → r ≡ a ∷ b ∷ bytes
 unfolding over
 behind-two p bytes {q} {r} a b e f size =
     let w = drop 2 p in
     let k : length w ≡ length bytes = omega (arith, length-drop 2 p) in
     let all : stored 0 bytes w ≡ bytes = stored-over bytes w (omega arith)
     ∙ (ap (λ (z : List ℕ). bytes ++ z) (drop-of-length-le w {i = length bytes} (omega arith)) ∙ append-nil bytes) in
-    f ∙ (ap (stored 2 bytes) e ∙ (stored-cons bytes 1 a (b ∷ w) ∙ ap {B = List ℕ} (λ z. a ∷ z) (stored-cons bytes 0 b w ∙ ap {B = List ℕ} (λ z. b ∷ z) all)))
+    f ∙ (ap (stored 2 bytes) e
+    ∙ (stored-cons bytes 1 a (b ∷ w) ∙ ap {B = List ℕ} (λ z. a ∷ z) (stored-cons bytes 0 b w ∙ ap {B = List ℕ} (λ z. b ∷ z) all)))
 
 drop-zeros : (n k : ℕ) → drop n (replicate {A = ℕ} k 0) ≡ replicate (k - n) 0
 drop-zeros zero k = let e : k - 0 ≡ k = omega arith in rw e

@@ -22,7 +22,8 @@ use Rattle.saved.specs.declared.SaveAnswer.the-variants as SaveAnswer
 use Rattle.saved.specs.declared.RestoreAnswer.the-variants as RestoreAnswer
 use Rattle.saved.specs.SetupBytes.{setupBytes}
 use Rattle.saved.specs.Settings.{SameSettings, withSettings, fed}
-use Rattle.saved.specs.Store.{place, lastNumber, lastOfAll, places, placeOf, setupIn, setupOf, afterSave, Saves, none, save, Leaves, isSetup, isStore}
+use Rattle.saved.specs.Store.{place, lastNumber, lastOfAll, places, placeOf, setupIn, setupOf, afterSave, Saves, none, save, Leaves, isSetup}
+use Rattle.saved.specs.Store.{isStore}
 use Rattle.saved.specs.Calls.{SaveOutcome, saved, saveRule, restorable, restored, RestoreOutcome, restoring, restoreRule}
 use Rattle.saved.specs.SavedSetups.{Possible, Gives, LeavesAlone, OfBytes, OfSave, OfRestore, OfBoth, SavedSetups}
 use Rattle.saved.proofs.Feed.{took}
@@ -36,7 +37,8 @@ use Rattle.saved.proofs.Stores.{Stands, stands-is, after-stands, leaves
 fine : (s : State) → Possible s → Fine (s .setup)
 fine s h = possible-fine s (h .shaped) (h .possible)
 
-took-gives : (m : Personality) (u : Setup) (r : Ran) → Fine u → r ≡ took (length (setupBytes u)) blank (givenState m u) → Gives u (setupBytes u) blank r
+took-gives : (m : Personality) (u : Setup) (r : Ran) → Fine u → r ≡ took (length (setupBytes u)) blank (givenState m u)
+    → Gives u (setupBytes u) blank r
 took-gives m u r h e = record {
   answer = ap (λ (x : Ran). x .answer) e;
   taken = ap (λ (x : Ran). x .taken) e;
@@ -284,7 +286,12 @@ module _ (s t : State) (store : List ℕ) (p : Possible s) (ok : possible t ≡ 
     gone : 8 ≤ more → restoreRule t end number ≡ restoring RestoreAnswer.BadNumber t
     gone k =
         let e : restorable (lastNumber end) number ≡ false =
-        rw (le-leb 1 number (omega arith), le-leb number (lastNumber end) (omega (arith, last)), le-ltb (lastNumber end) (number + 8) (omega (arith, last))) in
+        rw (
+          le-leb 1 number (omega arith),
+          le-leb number (lastNumber end) (omega (arith, last)),
+          le-ltb (lastNumber end) (number + 8)
+              (omega (arith, last)),
+        ) in
         restore-bad-number t end number ok good e
 
     -- the bytes of number are still there
@@ -305,7 +312,8 @@ module _ (s t : State) (store : List ℕ) (p : Possible s) (ok : possible t ≡ 
         let m = t .core .personality in
         let given-same : SameSettings (fed m bytes) (s .setup) = rw (fed-given m (s .setup) (fine s p)) (setup-same m (s .setup) (fine s p)) in (
           ap (λ (o : RestoreOutcome). o .answer) r,
-          subst (λ (o : RestoreOutcome). SameSettings (o .state .setup) (s .setup)) (sym r) (settings-same (fed m bytes) (t .setup) (fed-stops m bytes) given-same),
+          subst (λ (o : RestoreOutcome). SameSettings (o .state .setup) (s .setup)) (sym r)
+              (settings-same (fed m bytes) (t .setup) (fed-stops m bytes) given-same),
         )
 
 of-both : (s t : State) (store : List ℕ) (more : ℕ) (later : List ℕ) → Possible s → possible t ≡ true → Leaves store

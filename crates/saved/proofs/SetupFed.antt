@@ -30,7 +30,8 @@ use Rattle.rules.specs.declared.Pending.the-variants as Pending
 use Rattle.rules.specs.Cell.{both, either, between}
 use Rattle.rules.specs.Row.{columns}
 use Rattle.rules.specs.Search.{lastTrue}
-use Rattle.rules.specs.State.{cursorOf, shortBytes, shortText, noText, keyPlace, labelPlace, withTabs, withAttributes, withFeatures, withKeys, withLabels, changed, stored}
+use Rattle.rules.specs.State.{cursorOf, shortBytes, shortText, noText, keyPlace, labelPlace, withTabs, withAttributes, withFeatures, withKeys}
+use Rattle.rules.specs.State.{withLabels, changed, stored}
 use Rattle.rules.specs.Arguments.{isAttribute, featurePlace, isKey, isLabel}
 use Rattle.rules.specs.Slot.{slotEnd, slotMost, slotLow, isText, allText, textOk, textsOk}
 use Rattle.rules.specs.Possible.{powerOn, attributesOk, featuresOk}
@@ -39,7 +40,8 @@ use Rattle.rules.specs.Plan.{settingPlan, planRule}
 use Rattle.rules.proofs.Tests.{pick-if, both-parts, both-true, between-parts, either-way}
 use Rattle.rules.proofs.Texts.{text-parts}
 use Rattle.rules.proofs.Reach.{gatheredBy, gathered-text, text-byte}
-use Rattle.saved.specs.SetupBytes.{stopBytes, byCode, featureBytes, attributeBytes, textBytes, textsBytes, keyValue, labelValue, keysBytes, labelsBytes, setupBytes}
+use Rattle.saved.specs.SetupBytes.{stopBytes, byCode, featureBytes, attributeBytes, textBytes, textsBytes, keyValue, labelValue, keysBytes}
+use Rattle.saved.specs.SetupBytes.{labelsBytes, setupBytes}
 use Rattle.saved.specs.Settings.{Shaped}
 use Rattle.saved.proofs.Feed.{Fed, none, fed-append, stateAt, waits, gathers, takes, sets, goes}
 
@@ -57,7 +59,8 @@ module _ (m : Personality) (g : List ℕ) (u : Setup) (p : List ℕ) (size : len
       (stateAt m k Pending.Idle g (withTabs u (set (a ++ false ∷ rest) (k % 80) true))) =
       sets m 0x31 (lit< tt) (Command.Set (Setting.Tab true)) (SetupChange.Tab (k % 80) true) refl refl in
       waits m 0x1b (lit< tt) refl (waits m 0x3d (lit< tt) refl (waits m 0x20 (lit< tt) refl
-      (fed-append (goes m i g (withTabs u (a ++ false ∷ rest)) p size k h) (waits m 0x1b (lit< tt) refl (rw (c, set-at a false rest true k e) at y)))))
+      (fed-append (goes m i g (withTabs u (a ++ false ∷ rest)) p size k h)
+      (waits m 0x1b (lit< tt) refl (rw (c, set-at a false rest true k e) at y)))))
 
   pub stops-fed : (i k : ℕ) (a l : List Bool) → length a ≡ k → k + length l ≡ 80
       → Fed p (stopBytes k l) (stateAt m i Pending.Idle g (withTabs u (a ++ (replicate (length l) false ++ beyond))))
@@ -67,10 +70,12 @@ module _ (m : Personality) (g : List ℕ) (u : Setup) (p : List ℕ) (size : len
   stops-fed i k a (true ∷ l) e f =
       let more : length (a ++ true ∷ []) ≡ suc k = omega (arith, length-append a (true ∷ [])) in
       fed-append (stop-fed i k a (replicate (length l) false ++ beyond) (omega arith) e)
-      (rw (append-snoc a true (replicate (length l) false ++ beyond), append-snoc a true (l ++ beyond)) at (stops-fed k (suc k) (a ++ true ∷ []) l more (omega arith)))
+      (rw (append-snoc a true (replicate (length l) false ++ beyond), append-snoc a true (l ++ beyond)) at
+      (stops-fed k (suc k) (a ++ true ∷ []) l more (omega arith)))
   stops-fed i k a (false ∷ l) e f =
       let more : length (a ++ false ∷ []) ≡ suc k = omega (arith, length-append a (false ∷ [])) in
-      rw (append-snoc a false (replicate (length l) false ++ beyond), append-snoc a false (l ++ beyond)) at (stops-fed i (suc k) (a ++ false ∷ []) l more (omega arith))
+      rw (append-snoc a false (replicate (length l) false ++ beyond), append-snoc a false (l ++ beyond)) at
+      (stops-fed i (suc k) (a ++ false ∷ []) l more (omega arith))
 
 -- ---- features
 
@@ -109,7 +114,15 @@ feature-code f h = (low, wish (either-way (ltb f 0x3a)) (either-way (ltb f 0x3c)
     by (inl e) = ltb-true f 128 e
     by (inr e) =
         let k = ltb-false f 128 e in
-        let z : featurePlace f ≡ 5 = rw (between-beyond 0x30 0x31 f (omega arith), between-beyond 0x32 0x35 f (omega arith), between-beyond 0x36 0x37 f (omega arith), ne-eqb f 0x41 (λ e. omega arith), between-beyond 0x38 0x39 f (omega arith), between-beyond 0x3c 0x40 f (omega arith)) in
+        let z : featurePlace f
+        ≡ 5 = rw (
+          between-beyond 0x30 0x31 f (omega arith),
+          between-beyond 0x32 0x35 f (omega arith),
+          between-beyond 0x36 0x37 f (omega arith),
+          ne-eqb f 0x41 (λ e. omega arith),
+          between-beyond 0x38 0x39 f (omega arith),
+          between-beyond 0x3c 0x40 f (omega arith),
+        ) in
         absurd (omega (arith, h))
 
     low : f < 128
@@ -128,7 +141,8 @@ module _ (m : Personality) (i : ℕ) (g : List ℕ) (u : Setup) (p : List ℕ) w
       let c = feature-code f (omega (arith, at)) in
       let d : decodeRule (Pending.Awaits Argument.Feature) f ≡ Decoded.Do (Command.Set (Setting.Feature f)) =
       rw (c .1, lt-ltb (featurePlace f) 5 (omega (arith, at))) in
-      let y : Fed p (f ∷ []) (stateAt m i (Pending.Awaits Argument.Feature) g (withFeatures u old)) (Here (withFeatures u (set old (featurePlace f) f))) =
+      let y : Fed p (f ∷ []) (stateAt m i (Pending.Awaits Argument.Feature) g (withFeatures u old))
+      (Here (withFeatures u (set old (featurePlace f) f))) =
       sets m f (c .0) (Command.Set (Setting.Feature f)) (SetupChange.Feature (featurePlace f) f) d refl in
       waits m 0x1b (lit< tt) refl (waits m 0x60 (lit< tt) refl (rw at at y))
 
@@ -145,8 +159,10 @@ module _ (m : Personality) (i : ℕ) (g : List ℕ) (u : Setup) (p : List ℕ) w
       fed-append (feature-fed a 0 _ (r0 .0) (omega arith)) (fed-append (feature-fed b 1 _ (r1 .0) (omega arith))
       (pick-if (λ (l : List ℕ). Fed p (featureBytes l) (Here (withFeatures u (a ∷ b ∷ o3 ∷ o4 ∷ o5 ∷ [])))
       (Here (withFeatures u (a ∷ b ∷ c ∷ d ∷ e ∷ [])))) (ltb c 0x41)
-      (λ t. fed-append (feature-fed c 2 _ (r2 .0) (omega arith)) (fed-append (feature-fed d 3 _ (r3 .0) (omega arith)) (feature-fed e 4 _ (r4 .0) (omega arith))))
-      (λ t. fed-append (feature-fed d 3 _ (r3 .0) (omega arith)) (fed-append (feature-fed e 4 _ (r4 .0) (omega arith)) (feature-fed c 2 _ (r2 .0) (omega arith))))))
+      (λ t. fed-append (feature-fed c 2 _ (r2 .0) (omega arith))
+      (fed-append (feature-fed d 3 _ (r3 .0) (omega arith)) (feature-fed e 4 _ (r4 .0) (omega arith))))
+      (λ t. fed-append (feature-fed d 3 _ (r3 .0) (omega arith))
+      (fed-append (feature-fed e 4 _ (r4 .0) (omega arith)) (feature-fed c 2 _ (r2 .0) (omega arith))))))
 
   pub features-fed : (l : List ℕ) (o1 o2 o3 o4 o5 : ℕ) → length l ≡ 5 → featuresOk 0 l ≡ true
       → Fed p (featureBytes (byCode l)) (Here (withFeatures u (o1 ∷ o2 ∷ o3 ∷ o4 ∷ o5 ∷ []))) (Here (withFeatures u l))
@@ -191,7 +207,8 @@ module _ (m : Personality) (i : ℕ) (g : List ℕ) (u : Setup) (p : List ℕ) w
       let r = both-parts (isAttribute v) (attributesOk l) h in
       let more : length (a ++ v ∷ []) ≡ suc k = omega (arith, length-append a (v ∷ [])) in
       fed-append (rw (set-at a o old v k e) at (attribute-fed n k v (a ++ o ∷ old) is (omega arith) (r .0)))
-      (rw (append-snoc a v old, append-snoc a v l) at (attributes-fed (suc n) (suc k) (a ++ v ∷ []) l old (omega arith) more (omega arith) (omega arith) (r .1)))
+      (rw (append-snoc a v old, append-snoc a v l) at
+      (attributes-fed (suc n) (suc k) (a ++ v ∷ []) l old (omega arith) more (omega arith) (omega arith) (r .1)))
 
 -- ---- texts
 
@@ -273,7 +290,12 @@ key-at n h = pick-if (KeyAt n) (ltb n 16) (λ e. first (ltb-true n 16 e)) (λ e.
     second k =
         let t : between 0x60 0x6f (0x50 + n) ≡ true = both-true (le-leb 0x60 (0x50 + n) (omega arith)) (lt-ltb (0x50 + n) 0x70 (omega arith)) in
         let e : 0x50 + n - 0x50 ≡ n = omega arith in
-        record { low = omega arith; key = rw (between-beyond 0x40 0x4f (0x50 + n) (omega arith), t); place = rw (le-ltb (0x50 + n) 0x60 (omega arith), e) }
+        record {
+          low = omega arith;
+          key = rw (between-beyond 0x40 0x4f (0x50 + n) (omega arith), t);
+          place = rw
+              (le-ltb (0x50 + n) 0x60 (omega arith), e);
+        }
 
 -- a value below all of a range
 pub label-at : (n : ℕ) → n < 16 → LabelAt n (labelValue n)
@@ -342,7 +364,9 @@ module _ (m : Personality) (i : ℕ) (u : Setup) (p : List ℕ) where
       let c = clean t in
       let more : length (a ++ c ∷ []) ≡ suc n = omega (arith, length-append a (c ∷ [])) in
       fed-append (rw (set-at a o old c n e) at (key-fed n t (a ++ o ∷ old) g (omega arith) size (r .0)))
-      (rw (append-snoc a c old, append-snoc a c (map clean l)) at (keys-fed (suc n) (a ++ c ∷ []) l old (gatheredBy 0 (shortBytes t) g) more (omega arith) (omega arith) (gathered-length 0 (shortBytes t) g ∙ size) (r .1)))
+      (rw (append-snoc a c old, append-snoc a c (map clean l)) at
+      (keys-fed (suc n) (a ++ c ∷ []) l old (gatheredBy 0 (shortBytes t) g) more (omega arith) (omega arith)
+      (gathered-length 0 (shortBytes t) g ∙ size) (r .1)))
 
   label-fed : (n : ℕ) (t : ShortText) (l : List ShortText) (s : Bool) (g : List ℕ) → n < 16 → length g ≡ 46 → textOk 0x20 8 (t .len) (t .bytes) ≡ true
       → Fed p (textBytes 0x0d (labelValue n) t) (stateAt m i Pending.Idle g (withLabels u l s))
@@ -353,10 +377,12 @@ module _ (m : Personality) (i : ℕ) (u : Setup) (p : List ℕ) where
       let r = text-parts 0x20 8 (t .len) (t .bytes) ok in
       let k = label-at n h in
       let on = either (both (leb 0x50 (labelValue n)) (ltb 0 (length (shortBytes t)))) s in
-      let d : decodeRule (Pending.Awaits Argument.Slot) (labelValue n) ≡ Decoded.Wait (Pending.Text (Slot.Label (labelValue n)) 0) = rw (k .key, k .label) in
+      let d : decodeRule (Pending.Awaits Argument.Slot) (labelValue n)
+      ≡ Decoded.Wait (Pending.Text (Slot.Label (labelValue n)) 0) = rw (k .key, k .label) in
       let y : Fed p (shortBytes t ++ 0x0d ∷ []) (stateAt m i (Pending.Text (Slot.Label (labelValue n)) 0) g (withLabels u l s))
       (stateAt m i Pending.Idle (gatheredBy 0 (shortBytes t) g) (withLabels u (set l (labelPlace (labelValue n)) (clean t)) on)) =
-      text-fed m i (withLabels u l s) p (Slot.Label (labelValue n)) (shortBytes t) g size (omega (arith, r .0, length-take (t .len) (t .bytes))) (r .1) in
+      text-fed m i (withLabels u l s) p (Slot.Label (labelValue n)) (shortBytes t) g size (omega (arith, r .0, length-take (t .len) (t .bytes)))
+      (r .1) in
       waits m 0x1b (lit< tt) refl (waits m 0x7a (lit< tt) refl (waits m (labelValue n) (k .low) d (rw (k .place) at y)))
 
   pub labels-fed : (n : ℕ) (a l old : List ShortText) (s : Bool) (g : List ℕ) → length a ≡ n → length old ≡ length l → n + length l ≤ 16
@@ -373,7 +399,9 @@ module _ (m : Personality) (i : ℕ) (u : Setup) (p : List ℕ) where
       let on = either (both (leb 0x50 (labelValue n)) (ltb 0 (length (shortBytes t)))) s in
       let more : length (a ++ c ∷ []) ≡ suc n = omega (arith, length-append a (c ∷ [])) in
       fed-append (rw (set-at a o old c n e) at (label-fed n t (a ++ o ∷ old) s g (omega arith) size (r .0)))
-      (rw (append-snoc a c old, append-snoc a c (map clean l)) at (labels-fed (suc n) (a ++ c ∷ []) l old on (gatheredBy 0 (shortBytes t) g) more (omega arith) (omega arith) (gathered-length 0 (shortBytes t) g ∙ size) (r .1)))
+      (rw (append-snoc a c old, append-snoc a c (map clean l)) at
+      (labels-fed (suc n) (a ++ c ∷ []) l old on (gatheredBy 0 (shortBytes t) g) more (omega arith) (omega arith)
+      (gathered-length 0 (shortBytes t) g ∙ size) (r .1)))
 
 texts-length : (l : List ShortText) (g : List ℕ) → length (gatheredTexts l g) ≡ length g
 unfolding gatheredTexts
@@ -415,6 +443,8 @@ setup-fed m p u size h =
     let u4 = withKeys u3 (map clean (u .keys)) in
     let first = stops-fed m g u0 p size (replicate 52 false) 0 0 [] (take 80 (u .tabs)) refl (omega (arith, stops)) in
     fed-append (rw stops at first) (fed-append (features-fed m i g u1 p (u .features) 0x31 0x35 0x37 0x39 0x40 (z .features) (h .features))
-    (fed-append (attributes-fed m i g u2 p 0x30 0 [] (u .attributes) (replicate 4 0x30) (omega arith) refl (sym (z .attributes)) (omega (arith, z .attributes)) (h .attributes))
+    (fed-append (attributes-fed m i g u2 p 0x30 0 [] (u .attributes) (replicate 4 0x30) (omega arith) refl (sym (z .attributes))
+    (omega (arith, z .attributes)) (h .attributes))
     (fed-append (keys-fed m i u3 p 0 [] (u .keys) (replicate 32 noText) g refl (sym (z .keys)) (omega (arith, z .keys)) refl (h .keys))
-    (labels-fed m i u4 p 0 [] (u .labels) (replicate 16 noText) false (gatheredTexts (u .keys) g) refl (sym (z .labels)) (omega (arith, z .labels)) (texts-length (u .keys) g) (h .labels)))))
+    (labels-fed m i u4 p 0 [] (u .labels) (replicate 16 noText) false (gatheredTexts (u .keys) g) refl (sym (z .labels)) (omega (arith, z .labels))
+    (texts-length (u .keys) g) (h .labels)))))

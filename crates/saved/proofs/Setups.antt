@@ -34,7 +34,8 @@ use Rattle.rules.proofs.Tests.{pick-if, both-parts}
 use Rattle.rules.proofs.Texts.{text-of, text-parts}
 use Rattle.rules.proofs.RowSteps.{same-is, same-refl}
 use Rattle.rules.proofs.Kept.{possible-parts, good-whole, run-keeps, powerOn-possible}
-use Rattle.saved.specs.SetupBytes.{stopBytes, byCode, featureBytes, attributeBytes, textBytes, textsBytes, keyValue, labelValue, keysBytes, labelsBytes, setupBytes}
+use Rattle.saved.specs.SetupBytes.{stopBytes, byCode, featureBytes, attributeBytes, textBytes, textsBytes, keyValue, labelValue, keysBytes}
+use Rattle.saved.specs.SetupBytes.{labelsBytes, setupBytes}
 use Rattle.saved.specs.Settings.{SameSettings, fed, Shaped, Saved}
 use Rattle.saved.specs.Store.{isSetup}
 use Rattle.saved.proofs.Feed.{took, fed-run}
@@ -67,7 +68,12 @@ stops-given l e = take-at (take 80 l) (replicate 52 false) 80 (omega (arith, len
 pub setup-clean : (m : Personality) (u : Setup) → Fine u → setupBytes (given m u) ≡ setupBytes u
 unfolding setupBytes
 setup-clean m u h =
-    rw (stops-given (u .tabs) (h .shaped .tabs), texts-clean 0 0x7f keyValue 0 (u .keys) (h .keys), texts-clean 0x20 0x0d labelValue 0 (u .labels) (h .labels))
+    rw (
+      stops-given (u .tabs) (h .shaped .tabs),
+      texts-clean 0 0x7f keyValue 0 (u .keys) (h .keys),
+      texts-clean 0x20 0x0d labelValue 0 (u .labels)
+          (h .labels),
+    )
 
 pub setup-same : (m : Personality) (u : Setup) → Fine u → SameSettings (given m u) u
 setup-same m u h = record {
@@ -223,7 +229,8 @@ fedState m bytes = runRule blank (powerOn m) bytes 0 .state
 fed-shaped : (m : Personality) (bytes : List ℕ) → Shaped (fedState m bytes .setup)
 unfolding runRule powerOn
 fed-shaped m bytes =
-    pick-if (λ (r : Ran). Shaped (r .state .setup)) (good blank (powerOn m)) (λ e. repeated-shaped bytes blank (powerOn m) 0 (power-shaped m)) (λ e. power-shaped m)
+    pick-if (λ (r : Ran). Shaped (r .state .setup)) (good blank (powerOn m)) (λ e. repeated-shaped bytes blank (powerOn m) 0 (power-shaped m))
+    (λ e. power-shaped m)
 
 fed-possible : (m : Personality) (bytes : List ℕ) → possible (fedState m bytes) ≡ true
 fed-possible m bytes = run-keeps blank (powerOn m) bytes 0 .state (powerOn-possible m)
@@ -243,7 +250,8 @@ fed-fine m bytes = possible-fine (fedState m bytes) (fed-shaped m bytes) (fed-po
 pub fine-is : (u : Setup) → Fine u → isSetup (setupBytes u) ≡ true
 unfolding isSetup
 fine-is u h =
-    let e : setupBytes (fed Personality.Wy50 (setupBytes u)) ≡ setupBytes u = ap setupBytes (fed-given Personality.Wy50 u h) ∙ setup-clean Personality.Wy50 u h in
+    let e : setupBytes (fed Personality.Wy50 (setupBytes u)) ≡ setupBytes u = ap setupBytes (fed-given Personality.Wy50 u h)
+    ∙ setup-clean Personality.Wy50 u h in
     rw e (same-refl (setupBytes u))
 
 pub saved-is : (bytes : List ℕ) → Saved bytes → isSetup bytes ≡ true

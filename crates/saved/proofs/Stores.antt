@@ -16,9 +16,11 @@ use borrow.Author.Tests.{lt-ltb, le-ltb, ltb-true, ltb-false, eqb-true, eq-eqb}
 use Rattle.rules.specs.Cell.{pick}
 use Rattle.rules.proofs.Tests.{both-parts, both-true, either-way}
 use Rattle.saved.specs.SetupBytes.{setupBytes}
-use Rattle.saved.specs.Store.{placeSize, storeSize, place, lastNumber, places, joined, laid, setupIn, afterSave, lastOfAll, Saves, none, save, Leaves, allZero, isSetup, isPlace, placesOk, isStore}
+use Rattle.saved.specs.Store.{placeSize, storeSize, place, lastNumber, places, joined, laid, setupIn, afterSave, lastOfAll, Saves, none, save}
+use Rattle.saved.specs.Store.{Leaves, allZero, isSetup, isPlace, placesOk, isStore}
 use Rattle.saved.proofs.Setups.{setup-short, possible-fine, fine-is, is-saved}
-use Rattle.saved.proofs.Places.{zeros-zero, zero-zeros, empty, Sound, place-sound, empty-sound, Holds, is-place, place-is, All, all-set, all-at, cut-length, cut-all, laid-last, laid-places, laid-length, laid-self}
+use Rattle.saved.proofs.Places.{zeros-zero, zero-zeros, empty, Sound, place-sound, empty-sound, Holds, is-place, place-is, All, all-set}
+use Rattle.saved.proofs.Places.{all-at, cut-length, cut-all, laid-last, laid-places, laid-length, laid-self}
 
 -- ---- the test of places
 
@@ -121,7 +123,8 @@ after-ok bytes n l short good eight ok = ok-save n 0 (n % 8) (place bytes) l ok 
     by (inl e) = let h = ltb-true n 8 e in inl (omega arith)
     by (inr e) = let h = ltb-false n 8 e in inr (omega (arith, eight))
 
-abbrev pub after-stands : (bytes : List ℕ) {store : List ℕ} → length bytes ≤ 1087 → isSetup bytes ≡ true → Stands store → Stands (afterSave bytes store)
+abbrev pub after-stands : (bytes : List ℕ) {store : List ℕ} → length bytes ≤ 1087 → isSetup bytes ≡ true → Stands store
+    → Stands (afterSave bytes store)
 after-stands bytes {store} short good s = record {
   number = suc (s .number);
   list = set (s .list) (s .number % 8) (place bytes);
@@ -199,7 +202,8 @@ module _ (n : ℕ) (l : List (List ℕ)) (less : n < lastOfAll) (eight : length 
   put-back r e size a x =
       let v = is-saved bytes (holds .setup) in
       let f : afterSave (setupBytes (v .state .setup)) (laid n r) ≡ laid (suc n) l =
-      ap (λ (b : List ℕ). afterSave b (laid n r)) (v .bytes-of) ∙ after-laid bytes n r size a ∙ ap (λ (p : List ℕ). laid (suc n) (set r k p)) (holds .is)
+      ap (λ (b : List ℕ). afterSave b (laid n r)) (v .bytes-of) ∙ after-laid bytes n r size a
+      ∙ ap (λ (p : List ℕ). laid (suc n) (set r k p)) (holds .is)
       ∙ ap (laid (suc n)) e in
       let h : lastNumber (laid n r) < lastOfAll = omega (arith, laid-last n r) in
       subst (λ (z : List ℕ). Saves (replicate storeSize 0) (suc n) z) f (save (v .state) (v .shaped) (v .possible) h x)

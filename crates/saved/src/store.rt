@@ -133,7 +133,8 @@ fn write_place(p: &mut [u8], len: u16, bytes: &[u8])
 
 // The set-up under the next number, n.
 pub(crate) fn save_as(u: Setup, store: &mut [u8], n: u16)
-    requires { ⌜ ((textsOk 0 (u .keys) ≡ true) × (textsOk 0x20 (u .labels) ≡ true)) × ((length (now store) ≡ 8714) × (n ≡ lastNumber (now store) + 1)) ⌝ }
+    requires { ⌜ ((textsOk 0 (u .keys) ≡ true) × (textsOk 0x20 (u .labels) ≡ true))
+        × ((length (now store) ≡ 8714) × (n ≡ lastNumber (now store) + 1)) ⌝ }
     ensures { λ r. ⌜ now (store .exit) ≡ afterSave (setupBytes u) (now (store .entry)) ⌝ }
 {
     let mut bytes = [0; 1087];

@@ -8,8 +8,10 @@ use Rattle.rules.specs.Calls.{Given, Called, ofStep, ofRun}
 use Rattle.rules.specs.RowCalls.{Session, RowCall, RowCalled, left, rowCallRule}
 use Rattle.terminal.specs.RowNoninterference.{RowMade, bare, listStepped, listRan, heard, rebuiltRows}
 use Rattle.terminal.proofs.Noninterference.{front, made-is}
-use Rattle.session.specs.Sessions.{SessionCall, Heard, Kept, SessionCalled, sessionRule, SessionPlayed, sessionAfter, sessionPlay, SessionIndistinguishable, Act, callOf, handedBack, leftOf, StreamPlayed, streamPlay, StreamIndistinguishable}
-use Rattle.session.specs.CodeSessions.{SessionMade, terminal, saved, restored, SessionPerformed, StreamPerformed, none, next, CodeSessionNoninterference, CodeStreamNoninterference}
+use Rattle.session.specs.Sessions.{SessionCall, Heard, Kept, SessionCalled, sessionRule, SessionPlayed, sessionAfter, sessionPlay}
+use Rattle.session.specs.Sessions.{SessionIndistinguishable, Act, callOf, handedBack, leftOf, StreamPlayed, streamPlay, StreamIndistinguishable}
+use Rattle.session.specs.CodeSessions.{SessionMade, terminal, saved, restored, SessionPerformed, StreamPerformed, none, next}
+use Rattle.session.specs.CodeSessions.{CodeSessionNoninterference, CodeStreamNoninterference}
 use Rattle.session.proofs.Sessions.{session-noninterference}
 use Rattle.session.proofs.Streams.{stream-noninterference}
 
@@ -37,7 +39,8 @@ unfolding sessionPlay
 session-performed-is none = refl
 session-performed-is (next {r = r} m h) = rw (session-made-is m) (ap (sessionAfter r) (session-performed-is h))
 
-stream-performed-is : {x : Kept} {stream : List ℕ} {acts : List Act} {r : StreamPlayed} → StreamPerformed x stream acts r → streamPlay acts stream x ≡ r
+stream-performed-is : {x : Kept} {stream : List ℕ} {acts : List Act} {r : StreamPlayed} → StreamPerformed x stream acts r
+    → streamPlay acts stream x ≡ r
 unfolding streamPlay
 stream-performed-is none = refl
 stream-performed-is (next {x = x} {stream = stream} {a = a} {acts = acts} {r = r} m h) =

@@ -26,8 +26,10 @@ use Rattle.rules.proofs.Noninterference.{either-left, either-right}
 use Rattle.rules.proofs.RowSteps.{call-leaves}
 use Rattle.saved.specs.Calls.{RestoreOutcome, restoreRule}
 use Rattle.saved.proofs.SavedSetups.{saved-setups}
-use Rattle.session.specs.Sessions.{SessionCall, Terminal, Save, Restore, Kept, start, sessionRule, sessionAfter, sessionPlay, callCompleted, sessionCompleted}
-use Rattle.session.specs.Completed.{CompletedBy, bare, list-step, list-run, next, Completed, Characterised, UnlessCompleted, NoneCompleted, FromBad}
+use Rattle.session.specs.Sessions.{SessionCall, Terminal, Save, Restore, Kept, start, sessionRule, sessionAfter, sessionPlay, callCompleted}
+use Rattle.session.specs.Sessions.{sessionCompleted}
+use Rattle.session.specs.Completed.{CompletedBy, bare, list-step, list-run, next, Completed, Characterised, UnlessCompleted, NoneCompleted}
+use Rattle.session.specs.Completed.{FromBad}
 use Rattle.session.proofs.Sessions.{session-noninterference}
 
 either-parts : (a b : Bool) → either a b ≡ true → (a ≡ true) ⊎ (b ≡ true)
@@ -124,7 +126,8 @@ session-completed (c ∷ cs) x e = by (either-parts (callCompleted x c) _ e) (se
     by (inl h) ih = first-completed c cs x h
     by (inr h) ih = later-completed c cs x (ih h)
 
-session-counted : (earlier : List SessionCall) (c : RowCall) (later : List SessionCall) (x : Kept) → CompletedBy (sessionPlay earlier x .kept .terminal) c
+session-counted : (earlier : List SessionCall) (c : RowCall) (later : List SessionCall) (x : Kept)
+    → CompletedBy (sessionPlay earlier x .kept .terminal) c
     → sessionCompleted (earlier ++ (Terminal c ∷ later)) x ≡ true
 unfolding sessionCompleted sessionPlay sessionAfter callCompleted
 session-counted [] c later x k = rw (row-counted (x .terminal) c k)
@@ -170,8 +173,11 @@ unfolding play after
 bad-play [] p s g = (refl, refl)
 bad-play (c ∷ cs) p s g =
     let k = bad-call p s c g in
-    let h = bad-play cs p s g in
-    (ap₂ (λ (x : List ℕ) (t : State). play cs x t .page) (k .0) (k .1) ∙ h .0, ap₂ (λ (x : List ℕ) (t : State). play cs x t .state) (k .0) (k .1) ∙ h .1)
+    let h = bad-play cs p s g in (
+      ap₂ (λ (x : List ℕ) (t : State). play cs x t .page) (k .0) (k .1) ∙ h .0,
+      ap₂ (λ (x : List ℕ) (t : State). play cs x t .state) (k .0) (k .1)
+          ∙ h .1,
+    )
 
 bad-any : (cs : List Call) (p : List ℕ) (s : State) → good p s ≡ false → anyCompleted cs p s ≡ false
 unfolding anyCompleted
@@ -229,13 +235,17 @@ none-completed = record {
   restore = λ x n. refl;
   press = λ x v room. one-alone (Terminal (Bare (Press v room))) x (Rules.none-completed .press (x .terminal .page) (x .terminal .state) v room);
   rebuild = λ x. refl;
-  step-refused = λ p l store s b room e. one-alone (Terminal (ListStep b room)) (start p l s store) (refused-alone (agrees l p s) (Step b room) p s e);
-  run-refused = λ p l store s bytes room e. one-alone (Terminal (ListRun bytes room)) (start p l s store) (refused-alone (agrees l p s) (Run bytes room) p s e);
+  step-refused = λ p l store s b room e. one-alone (Terminal (ListStep b room)) (start p l s store)
+      (refused-alone (agrees l p s) (Step b room) p s e);
+  run-refused = λ p l store s bytes room e. one-alone (Terminal (ListRun bytes room)) (start p l s store)
+      (refused-alone (agrees l p s) (Run bytes room) p s e);
   next-refused = λ p l store s bytes room e.
-      one-alone (Terminal (Next true bytes room)) (start p l s store) (refused-alone (suits l p s) (runOf (start p l s store .terminal) bytes room) p s e);
+      one-alone (Terminal (Next true bytes room)) (start p l s store)
+      (refused-alone (suits l p s) (runOf (start p l s store .terminal) bytes room) p s e);
   bad = λ p l store s calls g. bad-session calls (start p l s store) g;
   together = together;
 }
 
 pub from-bad : FromBad
-from-bad p q l store s calls on conceals alike g = session-noninterference p q l store s calls on conceals alike (bad-session calls (start p l s store) g)
+from-bad p q l store s calls on conceals alike g = session-noninterference p q l store s calls on conceals alike
+    (bad-session calls (start p l s store) g)

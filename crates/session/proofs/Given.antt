@@ -19,13 +19,15 @@ use Rattle.rules.specs.Step.{Outcome, goesOn, stepRule}
 use Rattle.rules.specs.Calls.{Ran, ended, joined, behind, runRule, pressRule, Call, ofStep, ofRun, ofPress, callRule, Given, after, play}
 use Rattle.rules.specs.Next.{tells, atEvent, toEvent, nextRule}
 use Rattle.rules.specs.RowList.{agrees}
-use Rattle.rules.specs.RowCalls.{stepRowsRule, runRowsRule, suits, nextRowsRule, Session, RowCall, handed, left, rowCallRule, rowAfter, rowPlay, bareCall, bareCalls}
+use Rattle.rules.specs.RowCalls.{stepRowsRule, runRowsRule, suits, nextRowsRule, Session, RowCall, handed, left, rowCallRule, rowAfter, rowPlay}
+use Rattle.rules.specs.RowCalls.{bareCall, bareCalls}
 use Rattle.rules.specs.theorems.Noninterference.{KeptPages, callCompletes, anyCompleted}
 use Rattle.rules.proofs.Run.{run-repeats, run-resumes, run-unheard, run-refused}
 use Rattle.rules.proofs.Next.{to-done, to-event, to-go, next-outside, next-inside, next-unheard, next-refused}
 use Rattle.rules.proofs.RowSteps.{call-leaves}
 use Rattle.rules.proofs.Noninterference.{either-left, either-right}
-use Rattle.session.specs.Sessions.{SessionCall, Terminal, Kept, Told, Heard, Saved, Restored, sessionRule, SessionGiven, givenBy, sessionAfter, sessionPlay, callCompleted, sessionCompleted, hostBytes}
+use Rattle.session.specs.Sessions.{SessionCall, Terminal, Kept, Told, Heard, Saved, Restored, sessionRule, SessionGiven, givenBy, sessionAfter}
+use Rattle.session.specs.Sessions.{sessionPlay, callCompleted, sessionCompleted, hostBytes}
 use Rattle.session.specs.Given.{GivenBack, OneByOne, HandedBack, CarriesNoninterference}
 
 pub given-back : (p l : List ℕ) (s : State) (store : List ℕ) → GivenBack p l s store
@@ -84,7 +86,8 @@ to-rests (b ∷ bs) p s room = by (tells o) refl (to-rests bs (o .page) (o .stat
 
     by : (t : Bool) → tells o ≡ t → Rests bs (toEvent bs (o .page) (o .state) (room - length (o .reply))) → Rests (b ∷ bs) (toEvent (b ∷ bs) p s room)
     by true e ih = subst (Rests (b ∷ bs)) (sym (to-event b bs p s room e)) (event-rests o b bs)
-    by false e ih = subst (Rests (b ∷ bs)) (sym (to-go b bs p s room e)) (joined-rests o b bs (toEvent bs (o .page) (o .state) (room - length (o .reply))) ih)
+    by false e ih = subst (Rests (b ∷ bs)) (sym (to-go b bs p s room e))
+        (joined-rests o b bs (toEvent bs (o .page) (o .state) (room - length (o .reply))) ih)
 
 pub next-rests : (p : List ℕ) (s : State) (bytes : List ℕ) (room : ℕ) → Rests bytes (nextRule p s bytes room)
 next-rests p s bytes room = by (good p s) (sends (s .sending)) room refl refl

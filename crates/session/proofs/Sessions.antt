@@ -18,7 +18,8 @@ use Rattle.rules.proofs.Noninterference.{Closed, call-agrees, start-related, re
 use Rattle.rules.proofs.RowSteps.{call-leaves}
 use Rattle.rules.proofs.RowNoninterference.{row-noninterference}
 use Rattle.saved.proofs.SavedSetups.{saved-setups}
-use Rattle.session.specs.Sessions.{SessionCall, Terminal, Save, Restore, Kept, start, SessionCalled, sessionRule, sessionAfter, sessionPlay, callCompleted, sessionCompleted, SessionIndistinguishable, SessionNoninterference}
+use Rattle.session.specs.Sessions.{SessionCall, Terminal, Save, Restore, Kept, start, SessionCalled, sessionRule, sessionAfter, sessionPlay}
+use Rattle.session.specs.Sessions.{callCompleted, sessionCompleted, SessionIndistinguishable, SessionNoninterference}
 use Rattle.session.proofs.Pages.{kept-alike, kept-kept}
 
 -- ---- one call
@@ -103,7 +104,8 @@ module _ (p q l store : List ℕ) (s : State) (closed : Closed s) (alike : Alike
 
 -- ---- lists of calls
 
-session-agrees : (cs : List SessionCall) (p q l store : List ℕ) (s : State) → Closed s → AlikePages p q → sessionCompleted cs (start p l s store) ≡ false
+session-agrees : (cs : List SessionCall) (p q l store : List ℕ) (s : State) → Closed s → AlikePages p q
+    → sessionCompleted cs (start p l s store) ≡ false
     → SessionIndistinguishable p q (sessionPlay cs (start p l s store)) (sessionPlay cs (start q l s store))
 unfolding sessionPlay sessionCompleted sessionAfter
 session-agrees [] p q l store s closed alike e =
@@ -112,7 +114,8 @@ session-agrees (c ∷ cs) p q l store s closed alike e =
     let x = start p l s store in
     let r = sessionRule x c in
     let a = called-agrees p q l store s closed alike c (either-left (callCompleted x c) _ e) in
-    let b = session-agrees cs (r .kept .terminal .page) (a .page) (r .kept .terminal .rows) (r .kept .store) (r .kept .terminal .state) (a .closed) (a .alike)
+    let b = session-agrees cs (r .kept .terminal .page) (a .page) (r .kept .terminal .rows) (r .kept .store) (r .kept .terminal .state) (a .closed)
+    (a .alike)
     (either-right (callCompleted x c) _ e) in
     rw (a .but-page)
     record { given = rw (b .given); state = b .state; rows = b .rows; store = b .store; pages = kept-kept alike (a .kept) (b .pages) }

@@ -13,7 +13,10 @@ use Rattle.rules.specs.Calls.{Step, Run, Press}
 use Rattle.rules.specs.RowCalls.{Bare, ListStep, ListRun, Next, Rebuild}
 use Rattle.rules.specs.theorems.Noninterference.{AlikePages}
 use Rattle.rules.proofs.Noninterference.{Closed, either-left, either-right}
-use Rattle.session.specs.Sessions.{SessionCall, Terminal, Save, Restore, Kept, start, SessionCalled, sessionRule, sessionAfter, sessionPlay, callCompleted, sessionCompleted, SessionIndistinguishable, Act, HandStep, HandRun, HandNext, PressKey, RebuildRows, SaveSetup, RestoreSetup, callOf, hostBytes, handedBack, leftOf, streamPlay, callsOf, SessionNoninterference, StreamNoninterference}
+use Rattle.session.specs.Sessions.{SessionCall, Terminal, Save, Restore, Kept, start, SessionCalled, sessionRule, sessionAfter, sessionPlay}
+use Rattle.session.specs.Sessions.{callCompleted, sessionCompleted, SessionIndistinguishable, Act, HandStep, HandRun, HandNext, PressKey}
+use Rattle.session.specs.Sessions.{RebuildRows, SaveSetup, RestoreSetup, callOf, hostBytes, handedBack, leftOf, streamPlay, callsOf}
+use Rattle.session.specs.Sessions.{SessionNoninterference, StreamNoninterference}
 use Rattle.session.specs.Same.{Continues, none, whole, part, ContinuedNoninterference, SayTheSame}
 use Rattle.session.proofs.Sessions.{called-agrees, session-noninterference}
 
@@ -43,7 +46,8 @@ stream-agrees (a ∷ acts) stream p q l store s closed alike e =
     let c = callOf a stream in
     let r = sessionRule x c in
     let k = called-agrees p q l store s closed alike c (either-left (callCompleted x c) _ e) in
-    let t = stream-agrees acts (leftOf stream c (handedBack c (r .told))) (r .kept .terminal .page) (k .page) (r .kept .terminal .rows) (r .kept .store)
+    let t = stream-agrees acts (leftOf stream c (handedBack c (r .told))) (r .kept .terminal .page) (k .page) (r .kept .terminal .rows)
+    (r .kept .store)
     (r .kept .terminal .state) (k .closed) (k .alike) (either-right (callCompleted x c) _ e) in
     record {
       calls = rw (k .but-page) (ap (λ (cs : List SessionCall). c ∷ cs) (t .calls));
@@ -58,7 +62,8 @@ to-streams demand p q l store stream s acts on conceals alike e =
     let second : sessionPlay (callsOf acts stream x) y ≡ streamPlay acts stream y .session =
     ap (λ (cs : List SessionCall). sessionPlay cs y) (k .calls) ∙ sym (played acts stream y) in
     record {
-      session = subst₂ (SessionIndistinguishable p q) (sym (played acts stream x)) second (demand p q l store s (callsOf acts stream x) on conceals alike e);
+      session = subst₂ (SessionIndistinguishable p q) (sym (played acts stream x)) second
+          (demand p q l store s (callsOf acts stream x) on conceals alike e);
       left = k .left;
     }
 
@@ -104,15 +109,18 @@ cut (b ∷ u) rest (v ∷ owed) new e =
     cut-more b v u rest owed new (ap (λ (l : List ℕ). getD l 0 b) e) (cut u rest owed new (ap (λ (l : List ℕ). drop 1 l) e))
 
 -- one call, over what is known of the calls after it
-call-continues : (acts : List Act) (c : SessionCall) (owed new : List ℕ) (x : Kept) → Cut (hostBytes c) (drop (length (hostBytes c)) (owed ++ new)) owed new
+call-continues : (acts : List Act) (c : SessionCall) (owed new : List ℕ) (x : Kept)
+    → Cut (hostBytes c) (drop (length (hostBytes c)) (owed ++ new)) owed new
     → ((u v : List ℕ) → Continues u (callsOf acts (u ++ v) (sessionRule x c .kept)) (sessionRule x c .kept))
     → Continues owed (c ∷ callsOf acts (leftOf (owed ++ new) c (handedBack c (sessionRule x c .told))) (sessionRule x c .kept)) x
-call-continues acts c owed new x (beyond more f g) ih = whole more f (ih (handedBack c (sessionRule x c .told)) (drop (length (hostBytes c)) (owed ++ new)))
+call-continues acts c owed new x (beyond more f g) ih = whole more f
+    (ih (handedBack c (sessionRule x c .told)) (drop (length (hostBytes c)) (owed ++ new)))
 call-continues acts c owed new x (within behind f g) ih =
     let u = handedBack c (sessionRule x c .told) in
     let k = sessionRule x c .kept in
     part behind f
-    (subst (λ (l : List ℕ). Continues (u ++ behind) (callsOf acts l k) k) (append-assoc u behind new ∙ ap (λ (l : List ℕ). u ++ l) (sym g)) (ih (u ++ behind) new))
+    (subst (λ (l : List ℕ). Continues (u ++ behind) (callsOf acts l k) k) (append-assoc u behind new ∙ ap (λ (l : List ℕ). u ++ l) (sym g))
+    (ih (u ++ behind) new))
 
 continued : (acts : List Act) (owed new : List ℕ) (x : Kept) → Continues owed (callsOf acts (owed ++ new) x) x
 unfolding callsOf
@@ -173,7 +181,8 @@ found {owed} (whole {c = c} {cs = cs} {x = x} new e k) =
 found {owed} (part {c = c} {cs = cs} {x = x} behind e k) =
     let r = found k in
     let u = handedBack c (sessionRule x c .told) in
-    let is : hostBytes c ++ (behind ++ r .new) ≡ owed ++ r .new = sym (append-assoc (hostBytes c) behind (r .new)) ∙ ap (λ (l : List ℕ). l ++ r .new) (sym e) in
+    let is : hostBytes c ++ (behind ++ r .new) ≡ owed ++ r .new = sym (append-assoc (hostBytes c) behind (r .new))
+    ∙ ap (λ (l : List ℕ). l ++ r .new) (sym e) in
     let h = ap (λ (l : List ℕ). callsOf (r .acts) l (sessionRule x c .kept)) (sym (append-assoc u behind (r .new))) ∙ r .come-to in
     record {
       new = r .new;

@@ -70,7 +70,8 @@ module _ (l : List ShortText) where
   pub begin : Plain l true 0
   begin = record { rest = λ h. refl }
 
-  pub go : (b c : Bool) (i : ℕ) → i < length l → (c ≡ true → (b ≡ true) × (textOk 0 8 (getD l i record { len = 0; bytes = [] } .len) (getD l i record { len = 0; bytes = [] } .bytes) ≡ true))
+  pub go : (b c : Bool) (i : ℕ) → i < length l
+      → (c ≡ true → (b ≡ true) × (textOk 0 8 (getD l i record { len = 0; bytes = [] } .len) (getD l i record { len = 0; bytes = [] } .bytes) ≡ true))
       → Plain l b i → Plain l c (i + 1)
   unfolding textsOk
   go b c i h e x = record {

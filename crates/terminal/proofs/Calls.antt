@@ -100,7 +100,8 @@ refused p s l room g = rw g
 -- ---- a bad page or state: 7, and nothing changes
 
 module _ (p : List ℕ) (s : State) (g : good p s ≡ false) where
-  pub step-refused : (b : ℕ) (w : List ℕ) → Stepped (stepRule p s b (length w)) (record { answer = Answer.BadCall; taken = false; replied = 0; state = s }) p w w
+  pub step-refused : (b : ℕ) (w : List ℕ)
+      → Stepped (stepRule p s b (length w)) (record { answer = Answer.BadCall; taken = false; replied = 0; state = s }) p w w
   unfolding stepRule
   step-refused b w = rw g (record { answer = refl; taken = refl; state = refl; replied = refl; page = refl; room = over-none w; fits = omega arith })
 
@@ -195,14 +196,17 @@ module _ (p : List ℕ) (s : State) (g : good p s ≡ true) where
     unfolding over
     went-long =
         ap length (x .room)
-        ∙ (length-append (sentBy (length w)) (drop (length (sentBy (length w))) w) ∙ omega (arith, x .replied, went-fits, length-drop (length (sentBy (length w))) w))
+        ∙ (length-append (sentBy (length w)) (drop (length (sentBy (length w))) w)
+        ∙ omega (arith, x .replied, went-fits, length-drop (length (sentBy (length w))) w))
 
     -- the send is not over, or is the event to stop at
     sent-call : (stop : Bool) (l : List ℕ) → either (sends y) (both stop (sends (s .sending))) ≡ true
         → callTo stop p s l (length w) ≡ behind (sentBy (length w)) (ended p (withSending s (leftBy (length w))) 0 l)
     sent-call stop l e = by stop (sends (s .sending)) (sends y) refl refl e
       where
-        waits : sends y ≡ true → repeated l p (withSending s (leftBy (length w))) (length w - length (sentBy (length w))) ≡ ended p (withSending s (leftBy (length w))) 0 l
+        waits : sends y ≡ true
+            → repeated l p (withSending s (leftBy (length w))) (length w - length (sentBy (length w)))
+            ≡ ended p (withSending s (leftBy (length w))) 0 l
         waits v = run-rests l p (withSending s (leftBy (length w))) _ (ap sends (sym (x .left)) ∙ v)
 
         by : (stop t v : Bool) → sends (s .sending) ≡ t → sends y ≡ v → either v (both stop t) ≡ true
@@ -215,7 +219,8 @@ module _ (p : List ℕ) (s : State) (g : good p s ≡ true) where
         by false t false u d e = absurd (false≢true e)
 
     pub run-sent : (stop : Bool) (l : List ℕ) → either (sends y) (both stop (sends (s .sending))) ≡ true
-        → RunDone (callTo stop p s l (length w)) (record { answer = Answer.Done; taken = 0; replied = n; refused = 0; state = withSending s y }) l p w w₁
+        → RunDone (callTo stop p s l (length w))
+        (record { answer = Answer.Done; taken = 0; replied = n; refused = 0; state = withSending s y }) l p w w₁
     unfolding behind
     run-sent stop l e =
         rw (sent-call stop l e, ← (x .left), append-nil) (record {
@@ -283,7 +288,12 @@ pub none-went : (p : List ℕ) (c : Core) (x : Sending) (w : List ℕ) → x ≡
 unfolding sentFrom leftFrom places bytesOf beyond standing
 none-went p c x w e =
     subst (λ (y : Sending). Went p c y w 0 Sending.Nothing w) (sym e)
-    (record { replied = ap length (sym (take-nil (length w))); room = over-none w ∙ ap (λ (l : List ℕ). over l w) (sym (take-nil (length w))); left = refl })
+    (record {
+      replied = ap length (sym (take-nil (length w)));
+      room = over-none w
+          ∙ ap (λ (l : List ℕ). over l w) (sym (take-nil (length w)));
+      left = refl;
+    })
 
 -- past the test for a send without room there is room in a send
 pub has-room : (t : Bool) (n : ℕ) → both t (eqb n 0) ≡ false → t ≡ true → 0 < n
@@ -291,7 +301,8 @@ has-room t n e u = omega (arith, eqb-false n 0 (ap (λ (z : Bool). both z (eqb n
 
 -- ---- the single step
 
-by-event : (o : Outcome) {b : ℕ} {p′ w w′ : List ℕ} {r : RunResult} → eqb (pick (o .taken) 1 0) 1 ≡ o .taken → RunDone (atEvent o b []) r (b ∷ []) p′ w w′
+by-event : (o : Outcome) {b : ℕ} {p′ w w′ : List ℕ} {r : RunResult} → eqb (pick (o .taken) 1 0) 1 ≡ o .taken
+    → RunDone (atEvent o b []) r (b ∷ []) p′ w w′
     → Stepped o (record { answer = r .answer; taken = eqb (r .taken) 1; replied = r .replied; state = r .state }) p′ w w′
 unfolding atEvent
 by-event o e h = record {
@@ -363,7 +374,8 @@ module _ (p : List ℕ) (s : State) (v : ℕ) (w : List ℕ) where
       unfolding pressRule
       press-unknown i = rw (g, l, i) (press-refused Answer.BadArgument w)
 
-      pub press-waits : isKey v ≡ true → sends (s .sending) ≡ true → KeySent (pressRule p s v (length w)) (record { answer = Answer.NoRoom; replied = 0 }) w w
+      pub press-waits : isKey v ≡ true → sends (s .sending) ≡ true
+          → KeySent (pressRule p s v (length w)) (record { answer = Answer.NoRoom; replied = 0 }) w w
       unfolding pressRule
       press-waits i u = rw (g, l, i, u) (press-refused Answer.NoRoom w)
 

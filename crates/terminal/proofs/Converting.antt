@@ -12,7 +12,8 @@ use native.Mathlib.Nat.{zero-mul}
 use native.Mathlib.Numerals.{add-one}
 use native.Mathlib.Omega.{arith}
 use lib.Dec.{eqb}
-use lib.ListN.{length, getD, take, drop, set, replicate, length-append, length-replicate, take-append-drop, drop-of-length-le, replicate-append-replicate}
+use lib.ListN.{length, getD, take, drop, set, replicate, length-append, length-replicate, take-append-drop, drop-of-length-le}
+use lib.ListN.{replicate-append-replicate}
 use lib.Seq.{drop-cons, set-at, append-snoc, length-take-le}
 use borrow.Author.Tests.{eqb-true}
 use Rattle.rules.specs.declared.Answer.{Answer}
@@ -61,7 +62,8 @@ module _ (w : ℕ) (l : List Bool) (long : length l ≡ 132) (most : w ≤ 132) 
       ∙ omega (arith, length-take-le w l (omega arith), length-replicate {A = Bool} (i - w) false) in
       let h : i < length l = omega arith in
       let k : i - w + 1 ≡ i + 1 - w = omega arith in
-      ap (λ (x : List Bool). set x i false) (sym (append-assoc (take w l) (replicate (i - w) false) (drop i l)) ∙ ap (λ (x : List Bool). front ++ x) (drop-cons l i false h))
+      ap (λ (x : List Bool). set x i false)
+      (sym (append-assoc (take w l) (replicate (i - w) false) (drop i l)) ∙ ap (λ (x : List Bool). front ++ x) (drop-cons l i false h))
       ∙ set-at front (getD l i false) (drop (suc i) l) false i n
       ∙ append-assoc (take w l) (replicate (i - w) false) (false ∷ drop (suc i) l)
       ∙ ap (λ (x : List Bool). take w l ++ x)
@@ -97,7 +99,8 @@ end-page : (wide : Bool) → segmentEnd (unsplitScreen wide) ≡ 24 * columns wi
 unfolding segmentBottom
 end-page wide = refl
 
-pub settles-below : (wide on : Bool) (p : List ℕ) {n : ℕ} → length p ≡ 24 * columns wide → n ≡ settled (guardedAt on p) 0 (24 * columns wide) 0 → n < 3168
+pub settles-below : (wide on : Bool) (p : List ℕ) {n : ℕ} → length p ≡ 24 * columns wide → n ≡ settled (guardedAt on p) 0 (24 * columns wide) 0
+    → n < 3168
 settles-below wide on p long e =
     settle-range (unsplitScreen wide) (unsplit-screen wide) (home-lands wide) p long on (e ∙ rw (start-home wide, end-page wide))
 
@@ -105,18 +108,22 @@ settles-below wide on p long e =
 abbrev homeAt : Bool → ℕ → Screen
 homeAt wide n = record { wide = wide; active = 0; split = 0; cursor0 = n; cursor1 = 0 }
 
-pub home-is : (wide : Bool) (g : List Bool) (n e : ℕ) → e ≡ 24 * columns wide → n ≡ settled g 0 e 0 → homeAt wide n ≡ homeAt wide (settled g 0 (24 * columns wide) 0)
+pub home-is : (wide : Bool) (g : List Bool) (n e : ℕ) → e ≡ 24 * columns wide → n ≡ settled g 0 e 0
+    → homeAt wide n ≡ homeAt wide (settled g 0 (24 * columns wide) 0)
 home-is wide g n e h i = rw (i, h)
 
-pub on-core : (c : Core) (p : List ℕ) (x : Screen) → x ≡ homeAt (not (c .screen .wide)) (settled (guardedAt (c .modes .protect) p) 0 (24 * otherWidth (c .screen .wide)) 0)
+pub on-core : (c : Core) (p : List ℕ) (x : Screen)
+    → x ≡ homeAt (not (c .screen .wide)) (settled (guardedAt (c .modes .protect) p) 0 (24 * otherWidth (c .screen .wide)) 0)
     → withScreen c x ≡ coreOn p c
 unfolding landed withCursor segmentTop segmentBottom
 on-core c p x e =
     ap (withScreen c) e
-    ∙ ap (λ (k : ℕ). withScreen c (homeAt (not (c .screen .wide)) (settled (guardedAt (c .modes .protect) p) k (24 * otherWidth (c .screen .wide)) 0)))
+    ∙ ap (λ (k : ℕ). withScreen c
+    (homeAt (not (c .screen .wide)) (settled (guardedAt (c .modes .protect) p) k (24 * otherWidth (c .screen .wide)) 0)))
     (sym (zero-mul (otherWidth (c .screen .wide))))
 
-pub on-state : (s : State) (p : List ℕ) (c : Core) (t : List Bool) → c ≡ coreOn p (s .core) → t ≡ stopsWithin (otherWidth (s .core .screen .wide)) (s .setup .tabs)
+pub on-state : (s : State) (p : List ℕ) (c : Core) (t : List Bool) → c ≡ coreOn p (s .core)
+    → t ≡ stopsWithin (otherWidth (s .core .screen .wide)) (s .setup .tabs)
     → (record { core = c; sending = s .sending; gathered = s .gathered; setup = withTabs (s .setup) t }) ≡ stateOn p s
 unfolding stateOn
 on-state s p c t e f = rw (e, f)
@@ -134,8 +141,10 @@ module _ (p : List ℕ) (s : State) (t : List ℕ) where
     pub long-target : length t ≡ height * otherWidth (s .core .screen .wide)
     long-target = eqb-true (length t) (height * otherWidth (s .core .screen .wide)) (both-parts (good p s) _ g .1)
 
-  pub turned-over : (q : List ℕ) (u : State) → both (good p s) (eqb (length t) (height * otherWidth (s .core .screen .wide))) ≡ true → sends (s .sending) ≡ false
-      → loses (columns (s .core .screen .wide)) (otherWidth (s .core .screen .wide)) 0 p ≡ false → q ≡ converted (s .core .screen .wide) p → u ≡ stateOn q s
+  pub turned-over : (q : List ℕ) (u : State) → both (good p s) (eqb (length t) (height * otherWidth (s .core .screen .wide))) ≡ true
+      → sends (s .sending) ≡ false
+      → loses (columns (s .core .screen .wide)) (otherWidth (s .core .screen .wide)) 0 p ≡ false → q ≡ converted (s .core .screen .wide) p
+      → u ≡ stateOn q s
       → Turns (convertRule p s t) (record { answer = Answer.Done; state = u }) q
   turned-over q u g n k e f =
       let r = both-parts (good p s) _ g in

@@ -30,7 +30,8 @@ use Rattle.rules.specs.Cell.{pick, guarded, written}
 use Rattle.rules.specs.Row.{Width, columns, rowStart, rowEnd}
 use Rattle.rules.specs.Search.{guardedAt}
 use Rattle.rules.specs.Calls.{Ran}
-use Rattle.rules.specs.State.{Inside, pageLength, unchanged, segmentStart, segmentEnd, segmentTop, segmentBottom, cursorOf, withCursor, withScreen, awaiting, idle}
+use Rattle.rules.specs.State.{Inside, pageLength, unchanged, segmentStart, segmentEnd, segmentTop, segmentBottom, cursorOf, withCursor, withScreen}
+use Rattle.rules.specs.State.{awaiting, idle}
 use Rattle.rules.specs.Step.{innerRule}
 use Rattle.rules.specs.Decode.{argumentRule, decodeRule, idleRule, escapeRule, lookup}
 use Rattle.rules.specs.Change.{editShifted, rowsShifted}
@@ -44,10 +45,13 @@ use Rattle.page.proofs.Changes.{one-filled}
 use Rattle.carry.proofs.Carrying.{carried-is}
 use Rattle.terminal.specs.declared.fast.Ground.{Ground}
 use Rattle.terminal.specs.Loop.{stateOf}
-use Rattle.terminal.specs.FastPath.{textBase, groundOf, groundWidth, Fits, openAt, Outside, Edits, edits-cell, edits-row, reverses, clears-row, clears-rest, clears-all, Acts, stores, inserts, places, goes, rolls, edits, Passes, none, acted, refused, FastPath, still, passing, coreAt}
+use Rattle.terminal.specs.FastPath.{textBase, groundOf, groundWidth, Fits, openAt, Outside, Edits, edits-cell, edits-row, reverses, clears-row}
+use Rattle.terminal.specs.FastPath.{clears-rest, clears-all, Acts, stores, inserts, places, goes, rolls, edits, Passes, none, acted, refused}
+use Rattle.terminal.specs.FastPath.{FastPath, still, passing, coreAt}
 use Rattle.terminal.proofs.Carrying.{quiet-carried}
 use Rattle.terminal.proofs.Loop.{Running, ready, go, nothing-made, lentTail, backTail, tail-lent, tail-back}
-use Rattle.terminal.proofs.FastSteps.{rows-below, cursor-same, stores-on, inserts-on, waits, places-at, refuses-at, goes-on, rolls-on, edits-on}
+use Rattle.terminal.proofs.FastSteps.{rows-below, cursor-same, stores-on, inserts-on, waits, places-at, refuses-at, goes-on, rolls-on}
+use Rattle.terminal.proofs.FastSteps.{edits-on}
 
 -- ---- the segment
 
@@ -104,10 +108,12 @@ module _ {z : Ground} {p : List ℕ} (f : Fits z p) {at : ℕ} (h : at < z .end)
   pub edits-good : {b k : ℕ} {w : Write} → Edits z p at b w k → GoodWrite (groundWidth z) w
   edits-good (edits-cell right e g) = omega (arith, h, f .inside, f .whole)
   edits-good (edits-row down e o) =
-      let l = placed (columns-width (z .wide)) {top = 0} {bottom = z .bottom} {at = at} (omega (arith, f .rows)) (f .most) (omega arith) (omega (arith, h, f .past)) in
+      let l = placed (columns-width (z .wide)) {top = 0} {bottom = z .bottom} {at = at} (omega (arith, f .rows)) (f .most) (omega arith)
+      (omega (arith, h, f .past)) in
       (omega (arith, l .lower), f .most)
   edits-good (reverses e o t) = (omega (arith, f .rows), f .most)
-  edits-good (clears-row s e) = let l = placed (columns-width (z .wide)) {top = 0} {bottom = 24} {at = at} (omega arith) (omega arith) (omega arith) (omega (arith, h, f .inside, f .whole)) in
+  edits-good (clears-row s e) = let l = placed (columns-width (z .wide)) {top = 0} {bottom = 24} {at = at} (omega arith) (omega arith) (omega arith)
+      (omega (arith, h, f .inside, f .whole)) in
       (omega (arith, l .last, l .column, l .before), row-most)
   edits-good (clears-rest s e) = (omega (arith, h), omega (arith, f .inside, f .whole))
   edits-good (clears-all s e g) = (omega (arith, f .first), omega (arith, f .inside, f .whole))
@@ -126,7 +132,8 @@ module _ (z : Ground) where
   nothing-written p = refl
 
   module _ (p : List ℕ) {n : ℕ} {q : List ℕ} where
-    pub write-page : (w : Write) → q ≡ applied n (z .protect) w p → n ≡ groundWidth z → (q ≡ applied (groundWidth z) (z .protect) w p) × (length q ≡ length p)
+    pub write-page : (w : Write) → q ≡ applied n (z .protect) w p → n ≡ groundWidth z
+        → (q ≡ applied (groundWidth z) (z .protect) w p) × (length q ≡ length p)
     write-page w e f =
         let g = e ∙ ap (λ (n : ℕ). applied n (z .protect) w p) f in
         (g, ap length g ∙ length-applied (groundWidth z) (z .protect) w p)
@@ -181,7 +188,8 @@ module _ {z : Ground} {l : List ℕ} {at₀ i₀ : ℕ} {p₀ : List ℕ} where
       record { from = omega (arith, r .from, e); within = k; below = r .below; size = r .size }
 
   -- a run that took no byte
-  pub passes-same : {at i f : ℕ} {p : List ℕ} → Passes z l at₀ i₀ p₀ at i p f → i₀ ≤ length l → at₀ < z .end → i ≡ i₀ → (at ≡ at₀) × ((p ≡ p₀) × (f ≡ 0))
+  pub passes-same : {at i f : ℕ} {p : List ℕ} → Passes z l at₀ i₀ p₀ at i p f → i₀ ≤ length l → at₀ < z .end → i ≡ i₀
+      → (at ≡ at₀) × ((p ≡ p₀) × (f ≡ 0))
   passes-same none h b e = (refl, (refl, refl))
   passes-same (acted u a k j q) h b e = absurd (omega (arith, e, acts-some a, passes-range u h b .from))
   passes-same (refused u o k q) h b e = absurd (omega (arith, e, passes-range u h b .from))
@@ -254,7 +262,8 @@ run-same : (c : Core) (at : ℕ) → groundOf (coreAt c at) ≡ groundOf c
 unfolding segmentTop segmentBottom withCursor
 run-same c at = refl
 
-acts-is : {z z′ : Ground} {l : List ℕ} {i : ℕ} {p : List ℕ} {at at′ n k : ℕ} {w : Write} → z ≡ z′ → at ≡ at′ → Acts z′ l i p at′ n w k → Acts z l i p at n w k
+acts-is : {z z′ : Ground} {l : List ℕ} {i : ℕ} {p : List ℕ} {at at′ n k : ℕ} {w : Write} → z ≡ z′ → at ≡ at′ → Acts z′ l i p at′ n w k
+    → Acts z l i p at n w k
 acts-is e f a = rw (e, f) a
 
 outside-is : {z z′ : Ground} {l : List ℕ} {i : ℕ} → z ≡ z′ → Outside z′ l i → Outside z l i

@@ -27,7 +27,8 @@ use Rattle.carry.specs.Rows.{keepsGuards}
 use Rattle.carry.proofs.Guards.{kept-guards}
 use Rattle.terminal.specs.Rows.{closedNone, Behind}
 use Rattle.terminal.specs.declared.fast.Ground.{Ground}
-use Rattle.terminal.specs.FastPath.{groundOf, groundWidth, Edits, edits-cell, edits-row, reverses, clears-row, clears-rest, clears-all, Acts, stores, inserts, places, goes, rolls, edits, Passes, none, acted, refused, FastPath, still, passing, coreAt}
+use Rattle.terminal.specs.FastPath.{groundOf, groundWidth, Edits, edits-cell, edits-row, reverses, clears-row, clears-rest, clears-all, Acts}
+use Rattle.terminal.specs.FastPath.{stores, inserts, places, goes, rolls, edits, Passes, none, acted, refused, FastPath, still, passing, coreAt}
 use Rattle.terminal.proofs.FastSteps.{rolls-off, blank-free}
 use Rattle.terminal.proofs.FastPaths.{passes-same}
 
@@ -78,7 +79,9 @@ text-guards c {i₀ = i₀} {p₀ = p₀} {i = i} {p = p} ok h (passing quiet t)
         → guardedAt (c .modes .protect) p ≡ guardedAt (c .modes .protect) p₀
     by true u f = ap (guardedAt (c .modes .protect)) (passes-same t h (screen-inside (c .screen) ok .below) (eqb-true i i₀ u) .1 .0)
     by false u f =
-        typed-guards (groundOf c) (λ b k. text-open (c .modes .protect) (c .modes .writeprotect) (c .attribute) b k (not-both (c .modes .protect) (c .modes .writeprotect) f)) (rolls-off (c .modes)) t
+        typed-guards (groundOf c)
+        (λ b k. text-open (c .modes .protect) (c .modes .writeprotect) (c .attribute) b k
+        (not-both (c .modes .protect) (c .modes .writeprotect) f)) (rolls-off (c .modes)) t
 
 pub path-behind : (c : Core) {l : List ℕ} {i₀ : ℕ} {p₀ : List ℕ} {at i r : ℕ} {p : List ℕ} {rows : List ℕ} → screenOk (c .screen) ≡ true
     → i₀ ≤ length l → FastPath c l i₀ p₀ at i p r

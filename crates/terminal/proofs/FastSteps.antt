@@ -37,10 +37,12 @@ use Rattle.rules.specs.declared.Write.the-variants as Write
 use Rattle.rules.specs.Cell.{pick, guarded, among, both, written}
 use Rattle.rules.specs.Row.{Width, columnOf, rowStart}
 use Rattle.rules.specs.Search.{guardedAt, others, settled, lastIn, nextField, nextTab}
-use Rattle.rules.specs.State.{unchanged, widthOf, pageLength, segmentTop, segmentBottom, segmentStart, segmentEnd, cursorOf, withCursor, withScreen, awaiting, idle}
+use Rattle.rules.specs.State.{unchanged, widthOf, pageLength, segmentTop, segmentBottom, segmentStart, segmentEnd, cursorOf, withCursor, withScreen}
+use Rattle.rules.specs.State.{awaiting, idle}
 use Rattle.rules.specs.Possible.{screenOk}
 use Rattle.rules.specs.Decode.{decodeRule, idleRule, escapeRule, lookup}
-use Rattle.rules.specs.Plan.{writing, settling, unlessGuarded, storing, advancing, storePlan, addressPlan, scroll, scrolls, nextCell, atTop, upCell, downPlan, reversePlan, tabCell, movePlan, rowEditPlan, editPlan, clearPlan, planRule}
+use Rattle.rules.specs.Plan.{writing, settling, unlessGuarded, storing, advancing, storePlan, addressPlan, scroll, scrolls, nextCell, atTop, upCell}
+use Rattle.rules.specs.Plan.{downPlan, reversePlan, tabCell, movePlan, rowEditPlan, editPlan, clearPlan, planRule}
 use Rattle.rules.specs.Carry.{effect, applied, landed, done, carried}
 use Rattle.rules.specs.Step.{obeyed, innerRule}
 use Rattle.rules.proofs.Tests.{both-true, both-parts}
@@ -51,7 +53,9 @@ use Rattle.rules.proofs.Screens.{screen-inside}
 use Rattle.page.proofs.Changes.{one-filled}
 use Rattle.carry.specs.Rows.{keepsGuards}
 use Rattle.carry.proofs.Guards.{kept-guards}
-use Rattle.terminal.specs.FastPath.{groundOf, Stored, Goes, goes-back, goes-first, goes-field, goes-down, goes-up, goes-bottom, goes-right, goes-round, goes-return, goes-home, goes-line, Rolled, blank, Edits, edits-cell, edits-row, reverses, clears-row, clears-rest, clears-all, coreAt}
+use Rattle.terminal.specs.FastPath.{groundOf, Stored, Goes, goes-back, goes-first, goes-field, goes-down, goes-up, goes-bottom, goes-right}
+use Rattle.terminal.specs.FastPath.{goes-round, goes-return, goes-home, goes-line, Rolled, blank, Edits, edits-cell, edits-row, reverses}
+use Rattle.terminal.specs.FastPath.{clears-row, clears-rest, clears-all, coreAt}
 use Rattle.terminal.proofs.Carrying.{below}
 
 -- an open cell: settling stays there
@@ -107,12 +111,14 @@ module _ (p : List ℕ) (c : Core) (size : length p ≡ pageLength (c .screen)) 
       (settled-open g (segmentStart (c .screen)) (segmentEnd (c .screen)) i h k e)
 
   -- one that writes, and leaves the cursor
-  carried-staying : (x : Write) → carried p c (writing (idle c) x Land.Stay) room ≡ effect 0 (coreAt c (cursorOf (c .screen))) unchanged (applied w on x p) []
+  carried-staying : (x : Write)
+      → carried p c (writing (idle c) x Land.Stay) room ≡ effect 0 (coreAt c (cursorOf (c .screen))) unchanged (applied w on x p) []
   unfolding carried done landed applied
   carried-staying x = ap (λ (y : Screen). effect 0 (withScreen (idle c) y) unchanged (applied w on x p) []) (sym (cursor-same (c .screen)))
 
   -- a cell that is open stays open under a write that guards none; with protect mode off every one is
-  kept-open : (x : Write) (i : ℕ) → keepsGuards on x ≡ true → getD (guardedAt on p) i false ≡ false → getD (guardedAt on (applied w on x p)) i false ≡ false
+  kept-open : (x : Write) (i : ℕ) → keepsGuards on x ≡ true → getD (guardedAt on p) i false ≡ false
+      → getD (guardedAt on (applied w on x p)) i false ≡ false
   kept-open x i k e = ap (λ (g : List Bool). getD g i false) (kept-guards w on x p k) ∙ e
 
   off-open : (x : Write) (i : ℕ) → on ≡ false → i < segmentEnd (c .screen) → getD (guardedAt on (applied w on x p)) i false ≡ false
@@ -123,7 +129,8 @@ module _ (p : List ℕ) (c : Core) (size : length p ≡ pageLength (c .screen)) 
 
   -- ---- a byte of text
 
-  module _ (b : ℕ) (quiet : c .pending ≡ Pending.Idle) (s : Stored (groundOf c) p (cursorOf (c .screen)) b) (more : cursorOf (c .screen) + 1 < segmentEnd (c .screen)) where
+  module _ (b : ℕ) (quiet : c .pending ≡ Pending.Idle) (s : Stored (groundOf c) p (cursorOf (c .screen)) b)
+      (more : cursorOf (c .screen) + 1 < segmentEnd (c .screen)) where
     abbrev at : ℕ
     at = cursorOf (c .screen)
 
@@ -164,7 +171,8 @@ module _ (p : List ℕ) (c : Core) (size : length p ≡ pageLength (c .screen)) 
         guard-at on (set p at v) (at + 1) (omega (arith, inside, length-set p at v))
         ∙ ap (guarded on) (getD-set-other p at (at + 1) v 0 (λ e. omega arith)) ∙ sym (guard-at on p (at + 1) inside) ∙ s .next
 
-    pub stores-on : c .modes .insert ≡ false → innerRule p c tabs b room ≡ effect 0 (coreAt c (at + 1)) unchanged (applied w on (Write.Fill at (at + 1) v) p) []
+    pub stores-on : c .modes .insert ≡ false
+        → innerRule p c tabs b room ≡ effect 0 (coreAt c (at + 1)) unchanged (applied w on (Write.Fill at (at + 1) v) p) []
     unfolding storing
     stores-on e = written-on false (Write.Fill at (at + 1) v) e refl (rw page next)
 
@@ -233,8 +241,11 @@ module _ (p : List ℕ) (c : Core) (size : length p ≡ pageLength (c .screen)) 
       let m = others (guardedAt on p) in
       let s = screen-inside x ok in
       let l : cursorOf x ≤ length m = omega (arith, length-others (guardedAt on p), length-guards on p, size, s .below, s .placed .page) in
-      let t : getD m (cursorOf x - 1) false ≡ true = open-at (guardedAt on p) (cursorOf x - 1) (omega (arith, length-guards on p, size, s .below, s .placed .page)) ∙ ap not (rw i at g) in
-      settles Move.Back quiet (omega (arith, e)) (rw e refl) (ap (settling (idle c)) (hit-last (cursorOf x) m (segmentStart x) (cursorOf x) (omega arith) l refl t ∙ sym i)) h g
+      let t : getD m (cursorOf x - 1) false
+      ≡ true = open-at (guardedAt on p) (cursorOf x - 1) (omega (arith, length-guards on p, size, s .below, s .placed .page))
+      ∙ ap not (rw i at g) in
+      settles Move.Back quiet (omega (arith, e)) (rw e refl)
+      (ap (settling (idle c)) (hit-last (cursorOf x) m (segmentStart x) (cursorOf x) (omega arith) l refl t ∙ sym i)) h g
   goes-on b k quiet (goes-first e j i) h g =
       let m = others (guardedAt on p) in
       let f : segmentStart x ≡ cursorOf x = omega (arith, j, screen-inside x ok .from) in
@@ -245,7 +256,8 @@ module _ (p : List ℕ) (c : Core) (size : length p ≡ pageLength (c .screen)) 
       let field = ap (λ (b : Bool). pick b (nextField (guardedAt b p) (segmentStart x) (segmentEnd x) (cursorOf x)) column) t in
       settles Move.Tab quiet (omega (arith, e)) (rw e refl) (ap (settling (idle c)) (field ∙ sym i)) h g
   goes-on b k quiet (goes-down e i) h g =
-      settles Move.Down quiet (omega (arith, e)) (rw e refl) (rw (lt-ltb (cursorOf x + w) (segmentEnd x) (omega (arith, i))) (ap (settling (idle c)) (sym i))) h g
+      settles Move.Down quiet (omega (arith, e)) (rw e refl)
+      (rw (lt-ltb (cursorOf x + w) (segmentEnd x) (omega (arith, i))) (ap (settling (idle c)) (sym i))) h g
   goes-on b k quiet (goes-up e j i) h g =
       settles Move.Up quiet (omega (arith, e)) (rw e refl) (rw (le-ltb (cursorOf x) (segmentStart x + w) j) (ap (settling (idle c)) (sym i))) h g
   goes-on b k quiet (goes-bottom e j i) h g =
@@ -266,7 +278,9 @@ module _ (p : List ℕ) (c : Core) (size : length p ≡ pageLength (c .screen)) 
   unfolding downPlan
   rolls-from b k i m quiet low d e f t last h =
       moving b m quiet low d
-      ∙ ap (λ (z : Plan). carried p c z room) (e ∙ rw (le-ltb (i + w) (segmentEnd x) (omega (arith, f, last)), t) (ap (λ (n : ℕ). writing (idle c) (scroll x false) (Land.Settle n)) (sym f)))
+      ∙ ap (λ (z : Plan). carried p c z room)
+      (e ∙ rw (le-ltb (i + w) (segmentEnd x) (omega (arith, f, last)), t)
+      (ap (λ (n : ℕ). writing (idle c) (scroll x false) (Land.Settle n)) (sym f)))
       ∙ carried-writing (scroll x false) k h (off-open (scroll x false) k (rolls-off (c .modes) t) h)
 
   pub rolls-on : (b k : ℕ) → c .pending ≡ Pending.Idle → Rolled (groundOf c) (cursorOf x) b k → k < segmentEnd x
@@ -277,7 +291,8 @@ module _ (p : List ℕ) (c : Core) (size : length p ≡ pageLength (c .screen)) 
       by : ((b ≡ 0x0a) × (k ≡ cursorOf x)) ⊎ ((b ≡ 0x1f) × (k ≡ rowStart w (cursorOf x)))
           → innerRule p c tabs b room ≡ effect 0 (coreAt c k) unchanged (applied w on (scroll x false) p) []
       by (inl e) = rolls-from b k (cursorOf x) Move.Down quiet (omega (arith, e .0)) (rw (e .0) refl) refl (e .1) (r .mode) (r .last) h
-      by (inr e) = rolls-from b k (rowStart w (cursorOf x)) Move.NextLine quiet (omega (arith, e .0)) (rw (e .0) refl) refl (e .1) (r .mode) (r .last) h
+      by (inr e) = rolls-from b k (rowStart w (cursorOf x)) Move.NextLine quiet (omega (arith, e .0)) (rw (e .0) refl) refl (e .1) (r .mode)
+          (r .last) h
 
   -- ---- the byte behind ESC
 
@@ -306,13 +321,17 @@ module _ (p : List ℕ) (c : Core) (size : length p ≡ pageLength (c .screen)) 
       (rw (lt-ltb (cursorOf x) (segmentStart x + w) t, o) refl)
       ∙ carried-writing y k h (off-open y k o h)
   edits-on b k y pending (clears-row true e) h =
-      escaped b (Command.Clear (Clear.Row (Contents.Text 0x20))) (writing (idle c) y Land.Stay) pending (omega (arith, e)) (rw e refl) refl ∙ carried-staying y
+      escaped b (Command.Clear (Clear.Row (Contents.Text 0x20))) (writing (idle c) y Land.Stay) pending (omega (arith, e)) (rw e refl) refl
+      ∙ carried-staying y
   edits-on b k y pending (clears-row false e) h =
-      escaped b (Command.Clear (Clear.Row (Contents.Text 0))) (writing (idle c) y Land.Stay) pending (omega (arith, e)) (rw e refl) refl ∙ carried-staying y
+      escaped b (Command.Clear (Clear.Row (Contents.Text 0))) (writing (idle c) y Land.Stay) pending (omega (arith, e)) (rw e refl) refl
+      ∙ carried-staying y
   edits-on b k y pending (clears-rest true e) h =
-      escaped b (Command.Clear (Clear.Rest (Contents.Text 0x20))) (writing (idle c) y Land.Stay) pending (omega (arith, e)) (rw e refl) refl ∙ carried-staying y
+      escaped b (Command.Clear (Clear.Rest (Contents.Text 0x20))) (writing (idle c) y Land.Stay) pending (omega (arith, e)) (rw e refl) refl
+      ∙ carried-staying y
   edits-on b k y pending (clears-rest false e) h =
-      escaped b (Command.Clear (Clear.Rest (Contents.Text 0))) (writing (idle c) y Land.Stay) pending (omega (arith, e)) (rw e refl) refl ∙ carried-staying y
+      escaped b (Command.Clear (Clear.Rest (Contents.Text 0))) (writing (idle c) y Land.Stay) pending (omega (arith, e)) (rw e refl) refl
+      ∙ carried-staying y
   edits-on b k y pending (clears-all true e g) h =
       escaped b (Command.Clear (Clear.Segment (Contents.Text 0x20))) (writing (idle c) y (Land.Settle k)) pending (omega (arith, e)) (rw e refl) refl
       ∙ carried-writing y k h (kept-open y k (ap not (blank-free on true)) g)

@@ -130,7 +130,8 @@ module _ (b : ℕ) (bs p : List ℕ) (s : State) (room : ℕ) (g : good p s ≡ 
   ran-go false e h = run-go b bs p s room u e
 
   -- it ends behind the byte: at an event, or where a send is under way
-  ran-ends : (stop : Bool) → eqb (stepped .answer) 6 ≡ false → (stop ≡ true → tells stepped ≡ true) → (stop ≡ false → sends (stepped .state .sending) ≡ true)
+  ran-ends : (stop : Bool) → eqb (stepped .answer) 6 ≡ false → (stop ≡ true → tells stepped ≡ true)
+      → (stop ≡ false → sends (stepped .state .sending) ≡ true)
       → ranTo stop (b ∷ bs) p s room ≡ joined stepped (ended (stepped .page) (stepped .state) (pick stop (stepped .answer) 0) bs)
   ran-ends true e h k = to-event b bs p s room (h refl) ∙ event-taken b bs p s room g u e
   ran-ends false e h k =
@@ -179,7 +180,8 @@ pub ran-is : {o : Ran} {r r′ : RunResult} {l p w w′ : List ℕ} → r ≡ r�
 ran-is {o} {l = l} {p = p} {w = w} {w′ = w′} e h = subst (λ (x : RunResult). RunDone o x l p w w′) (sym e) h
 
 -- a run that ended where it stands, i bytes taken, n bytes replied, f bytes refused
-ended-there : {o : Ran} {s : State} {input w₀ p w : List ℕ} {i n f : ℕ} {x : Answer} {rest : List ℕ} → drop i input ≡ rest → n ≤ length w → n ≤ length w₀
+ended-there : {o : Ran} {s : State} {input w₀ p w : List ℕ} {i n f : ℕ} {x : Answer} {rest : List ℕ} → drop i input ≡ rest → n ≤ length w
+    → n ≤ length w₀
     → i ≤ length input → drop n w ≡ drop n w₀ → o ≡ preceded i f (take n w) (ended p s (number x) rest)
     → RunDone o (record { answer = x; taken = i; replied = n; refused = f; state = s }) input p w₀ w
 ended-there {s = s} {input = input} {w₀ = w₀} {p = p} {w = w} {i = i} {n = n} {f = f} {x = x} e fits used within untouched is =
@@ -231,7 +233,8 @@ module _ {stop : Bool} {p₀ : List ℕ} {o₀ : Ran} {input w₀ p w : List ℕ
   abbrev s : State
   s = stateOf c g u
 
-  pub ready : (length p ≡ pageLength (c .screen)) × ((screenOk (c .screen) ≡ true) × (((t : List ℕ) × (pendingOk (c .pending) t ≡ true)) × (c .attribute < 32)))
+  pub ready : (length p ≡ pageLength (c .screen))
+      × ((screenOk (c .screen) ≡ true) × (((t : List ℕ) × (pendingOk (c .pending) t ≡ true)) × (c .attribute < 32)))
   ready =
       let h = good-parts p s (R .fine) in
       let k = possible-parts s (h .1) .core in
@@ -303,7 +306,8 @@ module _ {stop : Bool} {p₀ : List ℕ} {o₀ : Ran} {input w₀ p w : List ℕ
         S .room ∙ ap (λ (x : List ℕ). over x (drop n w)) (sym (made .reply) ∙ l .reply) ∙ sym (over-none (drop n w)) in
         let room : w′ ≡ w = back ∙ ap (λ (x : List ℕ). take n w ++ x) none ∙ take-append-drop n w in
         ran-is result
-        (rw (page, room) (ending Answer.NoRoom (b ∷ drop (suc i) input) cons (ran-six b (drop (suc i) input) p s (length w₀ - n) (R .fine) refl stop a6)))
+        (rw (page, room) (ending Answer.NoRoom (b ∷ drop (suc i) input) cons
+        (ran-six b (drop (suc i) input) p s (length w₀ - n) (R .fine) refl stop a6)))
 
     -- the row list after it
     pub stop-beside : eqb (number (r .answer)) 6 ≡ true → {l : List ℕ}
@@ -431,7 +435,8 @@ module _ {stop : Bool} {p₀ : List ℕ} {o₀ : Ran} {input w₀ p w : List ℕ
           by false e = ap number (sym e)
 
       -- it stops behind the byte
-      pub halt : either (both stop (isEvent (number (r .answer)) (r .replied))) (sends y) ≡ true → {x : Answer} → x ≡ pick stop (r .answer) Answer.Done
+      pub halt : either (both stop (isEvent (number (r .answer)) (r .replied))) (sends y) ≡ true → {x : Answer}
+          → x ≡ pick stop (r .answer) Answer.Done
           → {z : RunResult}
           → z ≡ record {
             answer = x;
@@ -448,6 +453,7 @@ module _ {stop : Bool} {p₀ : List ℕ} {o₀ : Ran} {input w₀ p w : List ℕ
           (after _ ends ∙ cc (turned, reached, answer-is a, add-one i)))
 
 -- the row list of the core that a run ends with
-pub ended-beside : (z : RunResult) {c : Core} (p : List ℕ) {l : List ℕ} → z .state .core ≡ c → Beside (widthOf (c .screen)) (guardedAt (c .modes .protect) p) l
+pub ended-beside : (z : RunResult) {c : Core} (p : List ℕ) {l : List ℕ} → z .state .core ≡ c
+    → Beside (widthOf (c .screen)) (guardedAt (c .modes .protect) p) l
     → Beside (widthOf (z .state .core .screen)) (guardedAt (z .state .core .modes .protect) p) l
 ended-beside z p {l} e b = subst (λ (d : Core). Beside (widthOf (d .screen)) (guardedAt (d .modes .protect) p) l) (sym e) b

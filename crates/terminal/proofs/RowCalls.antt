@@ -108,7 +108,8 @@ module _ (p l : List ℕ) (s : State) where
     unfolding runRowsRule
     run-listed h = rw (both-parts (good p s) (agrees l p s) fine .1) h
 
-    pub rows-listed : (s′ : State) (p′ l′ : List ℕ) → length l′ ≡ length l → Beside (widthOf (s′ .core .screen)) (guardedAt (s′ .core .modes .protect) p′) l′
+    pub rows-listed : (s′ : State) (p′ l′ : List ℕ) → length l′ ≡ length l
+        → Beside (widthOf (s′ .core .screen)) (guardedAt (s′ .core .modes .protect) p′) l′
         → l′ ≡ rowsAfter p l s p′ s′
     unfolding rowsAfter
     rows-listed s′ p′ l′ n b =
@@ -145,7 +146,8 @@ module _ (p l : List ℕ) (s : State) (fine : both (good p s) (suits l p s) ≡ 
   unfolding nextRowsRule
   next-suited h = rw (both-parts (good p s) (suits l p s) fine .1) h
 
-  pub rows-suited : (s′ : State) (p′ l′ : List ℕ) → length l′ ≡ length l → Beside (widthOf (s′ .core .screen)) (guardedAt (s′ .core .modes .protect) p′) l′
+  pub rows-suited : (s′ : State) (p′ l′ : List ℕ) → length l′ ≡ length l
+      → Beside (widthOf (s′ .core .screen)) (guardedAt (s′ .core .modes .protect) p′) l′
       → l′ ≡ rowsAfter p l s p′ s′
   rows-suited s′ p′ l′ n b = by (agrees l p s) refl
     where
@@ -155,7 +157,8 @@ module _ (p l : List ℕ) (s : State) (fine : both (good p s) (suits l p s) ≡ 
       by : (t : Bool) → agrees l p s ≡ t → l′ ≡ rowsAfter p l s p′ s′
       by true e = rows-listed p l s (both-true g e) s′ p′ l′ n b
       by false e =
-          let z : length l ≡ 0 = eqb-true (length l) 0 (either-first (eqb (length l) 0) (agrees l p s) (both-parts (good p s) (suits l p s) fine .1) e) in
+          let z : length l ≡ 0 = eqb-true (length l) 0
+          (either-first (eqb (length l) 0) (agrees l p s) (both-parts (good p s) (suits l p s) fine .1) e) in
           empty l′ (n ∙ z) ∙ sym (empty l z) ∙ sym (disagreeing .kept p l s p′ s′ e)
 
 -- ---- the rebuild

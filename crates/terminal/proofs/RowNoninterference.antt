@@ -7,7 +7,8 @@ use Rattle.rules.specs.Calls.{Given, Called, ofStep, ofRun}
 use Rattle.rules.specs.RowCalls.{Session, RowCall, rowCallRule, RowPlayed, rowAfter, rowPlay}
 use Rattle.rules.specs.theorems.RowNoninterference.{RowIndistinguishable}
 use Rattle.rules.proofs.RowNoninterference.{row-noninterference}
-use Rattle.terminal.specs.RowNoninterference.{RowMade, bare, listStepped, listRan, heard, rebuiltRows, RowPerformed, none, next, CodeRowNoninterference}
+use Rattle.terminal.specs.RowNoninterference.{RowMade, bare, listStepped, listRan, heard, rebuiltRows, RowPerformed, none, next}
+use Rattle.terminal.specs.RowNoninterference.{CodeRowNoninterference}
 use Rattle.terminal.proofs.Noninterference.{front, made-is}
 
 row-made-is : {x : Session} {p′ l′ : List ℕ} {c : RowCall} {g : Given} → RowMade x c g p′ l′

@@ -42,7 +42,8 @@ module _ {stop : Bool} {p₀ : List ℕ} {o₀ : Ran} {input w₀ p w : List ℕ
   passing R (next {q} {r} {i} t h low d) = waited (i + 1) r (passing R t) refl (omega (arith, h)) low d
 
   -- d is the core behind them
-  pub passed : {j : ℕ} → Resumed stop p₀ o₀ input w₀ p w c g u i₀ n f j → {q : Pending} {i : ℕ} {d : Core} → Waits input (c .pending) i₀ q i → d ≡ awaiting c q
+  pub passed : {j : ℕ} → Resumed stop p₀ o₀ input w₀ p w c g u i₀ n f j → {q : Pending} {i : ℕ} {d : Core} → Waits input (c .pending) i₀ q i
+      → d ≡ awaiting c q
       → Resumed stop p₀ o₀ input w₀ p w d g u i n f j
   passed r t e =
       let k = waits-range (r .left) t in

@@ -112,7 +112,8 @@ pub data Edits (z : Ground) (p : List ℕ) (at b : ℕ) : Write → ℕ → Type
   reverses : b ≡ 0x6a → z .protect ≡ false → at < z .home + groundWidth z → Edits z p at b (Write.Rows true (z .top) (z .bottom)) at
   clears-row : (spaces : Bool) → b ≡ pick spaces 0x54 0x74 → Edits z p at b (Write.Fill at (rowEnd (groundWidth z) at) (blank spaces)) at
   clears-rest : (spaces : Bool) → b ≡ pick spaces 0x59 0x79 → Edits z p at b (Write.Fill at (z .end) (blank spaces)) at
-  clears-all : (spaces : Bool) → b ≡ pick spaces 0x3b 0x3a → openAt z p (z .home) → Edits z p at b (Write.Fill (z .home) (z .end) (blank spaces)) (z .home)
+  clears-all : (spaces : Bool) → b ≡ pick spaces 0x3b 0x3a → openAt z p (z .home)
+      → Edits z p at b (Write.Fill (z .home) (z .end) (blank spaces)) (z .home)
 
 -- the n bytes from i on write w, and leave the cursor at k
 pub data Acts (z : Ground) (l : List ℕ) (i : ℕ) (p : List ℕ) (at : ℕ) : ℕ → Write → ℕ → Type 0 where
@@ -135,7 +136,8 @@ pub data Passes (z : Ground) (l : List ℕ) (at₀ i₀ : ℕ) (p₀ : List ℕ)
 -- such a path from a core on, where nothing is under way; or nothing is done
 pub data FastPath (c : Core) (l : List ℕ) (i₀ : ℕ) (p₀ : List ℕ) : ℕ → ℕ → List ℕ → ℕ → Type 0 where
   still : FastPath c l i₀ p₀ (cursorOf (c .screen)) i₀ p₀ 0
-  passing : {at i f : ℕ} {p : List ℕ} → c .pending ≡ Pending.Idle → Passes (groundOf c) l (cursorOf (c .screen)) i₀ p₀ at i p f → FastPath c l i₀ p₀ at i p f
+  passing : {at i f : ℕ} {p : List ℕ} → c .pending ≡ Pending.Idle → Passes (groundOf c) l (cursorOf (c .screen)) i₀ p₀ at i p f
+      → FastPath c l i₀ p₀ at i p f
 
 -- the core after it
 abbrev pub coreAt : Core → ℕ → Core

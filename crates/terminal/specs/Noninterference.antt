@@ -17,7 +17,14 @@ use Rattle.terminal.specs.Promise.{Stepped, RunDone, KeySent}
 
 -- what the caller of a step sees: the numbers of its result, the reply at the front of the room w, and the state
 abbrev pub stepSeen : StepResult → List ℕ → Given
-stepSeen r w = record { answer = number (r .answer); counts = pick (r .taken) 1 0 ∷ r .replied ∷ []; reply = take (r .replied) w; rest = []; state = r .state }
+stepSeen r w = record {
+  answer = number (r .answer);
+  counts = pick (r .taken) 1 0 ∷ r .replied
+      ∷ [];
+  reply = take (r .replied) w;
+  rest = [];
+  state = r .state;
+}
 
 -- of a run over the input l; `rest` hands back what was not taken
 abbrev pub runSeen : RunResult → List ℕ → List ℕ → Given
@@ -51,5 +58,6 @@ pub data Performed : List ℕ → State → List Call → Played → Type 0 wher
 -- demand 3, of terminals that run the code
 abbrev pub CodeNoninterference : Type 0
 CodeNoninterference =
-    (p q : List ℕ) (s t : State) (calls : List Call) (a b : Played) → s .core .modes .protect ≡ true → revealing (s .sending) ≡ false → Alike p q s t → anyCompleted calls p s ≡ false
+    (p q : List ℕ) (s t : State) (calls : List Call) (a b : Played) → s .core .modes .protect ≡ true → revealing (s .sending) ≡ false → Alike p q s t
+    → anyCompleted calls p s ≡ false
     → Performed p s calls a → Performed q t calls b → Indistinguishable p q a b

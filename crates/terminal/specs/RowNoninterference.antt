@@ -12,7 +12,8 @@ use Rattle.rules.specs.Cell.{pick}
 use Rattle.rules.specs.State.{number}
 use Rattle.rules.specs.Calls.{Call, Given}
 use Rattle.rules.specs.theorems.Noninterference.{AlikePages, revealing, anyCompleted}
-use Rattle.rules.specs.RowCalls.{stepRowsRule, runRowsRule, nextRowsRule, rowsAfter, rebuildAnswer, rebuilt, Session, RowCall, Bare, ListStep, ListRun, Next, Rebuild, handed, RowPlayed, rowAfter, bareCalls}
+use Rattle.rules.specs.RowCalls.{stepRowsRule, runRowsRule, nextRowsRule, rowsAfter, rebuildAnswer, rebuilt, Session, RowCall, Bare, ListStep}
+use Rattle.rules.specs.RowCalls.{ListRun, Next, Rebuild, handed, RowPlayed, rowAfter, bareCalls}
 use Rattle.rules.specs.theorems.RowNoninterference.{RowIndistinguishable}
 use Rattle.terminal.specs.Promise.{Stepped, RunDone}
 use Rattle.terminal.specs.Noninterference.{stepSeen, runSeen, Made}
@@ -40,7 +41,8 @@ pub data RowPerformed : Session → List RowCall → RowPlayed → Type 0 where
 -- demand 3, of terminals that run the code
 abbrev pub CodeRowNoninterference : Type 0
 CodeRowNoninterference =
-    (p q l : List ℕ) (s : State) (calls : List RowCall) (a b : RowPlayed) → s .core .modes .protect ≡ true → revealing (s .sending) ≡ false → AlikePages p q
+    (p q l : List ℕ) (s : State) (calls : List RowCall) (a b : RowPlayed) → s .core .modes .protect ≡ true → revealing (s .sending) ≡ false
+    → AlikePages p q
     → anyCompleted (bareCalls calls (record { page = p; rows = l; state = s })) p s ≡ false
     → RowPerformed (record { page = p; rows = l; state = s }) calls a → RowPerformed (record { page = q; rows = l; state = s }) calls b
     → RowIndistinguishable p q a b

@@ -141,7 +141,9 @@ fn no_room(bytes: usize) -> Answer
 
 // The send under way goes on; outside a send there is none, and none is left.
 fn resume(page: &[u16], core: Core, sending: Sending, reply: &mut [u8]) -> Sent
-    requires { ⌜ (sends sending ≡ true → (length (now page) ≡ pageLength (core .screen)) × ((screenOk (core .screen) ≡ true) × (GoodSend (core .screen) sending × (0 < length (now reply))))) ⌝ }
+    requires { ⌜ (sends sending ≡ true
+        → (length (now page) ≡ pageLength (core .screen))
+        × ((screenOk (core .screen) ≡ true) × (GoodSend (core .screen) sending × (0 < length (now reply))))) ⌝ }
     ensures { λ r. ⌜ Went (now (page .entry)) core sending (now (reply .entry)) (r .replied) (r .left) (now (reply .exit)) ⌝ }
 {
     if !is_sending(sending) {
@@ -163,7 +165,13 @@ fn finished(
     gathered: [u8; 46],
     setup: Setup,
 ) -> RunResult
-    ensures { λ r. ⌜ r ≡ record { answer = answer; taken = taken; replied = replied; refused = refused; state = stateWith core sending gathered setup } ⌝ }
+    ensures { λ r. ⌜ r ≡ record {
+      answer = answer;
+      taken = taken;
+      replied = replied;
+      refused = refused;
+      state = stateWith core sending gathered setup;
+    } ⌝ }
 {
     let state = State {
         core: core,
@@ -182,7 +190,8 @@ fn finished(
 
 // The row list after the fast path, which took nothing if it is the `same`: only with protect and write-protect mode on has it closed cells.
 fn follow_path(rows: &mut [u16], page: &[u16], wide: bool, protect: bool, writes: bool, same: bool)
-    requires { ⌜ (length (now page) ≡ 24 * columns wide) × Behind (closedNone same protect writes) (columns wide) (guardedAt protect (now page)) (now rows) ⌝ }
+    requires { ⌜ (length (now page) ≡ 24 * columns wide)
+        × Behind (closedNone same protect writes) (columns wide) (guardedAt protect (now page)) (now rows) ⌝ }
     ensures { λ r. ⌜ Beside (columns wide) (guardedAt protect (now (page .entry))) (now (rows .exit)) ⌝ }
 {
     if rows.len() == 0 {
@@ -206,8 +215,11 @@ pub(crate) fn run_beside(
     reply: &mut [u8],
     stop: bool,
 ) -> RunResult
-    requires { ⌜ (good (now page) state ≡ true) × Beside (widthOf (state .core .screen)) (guardedAt (state .core .modes .protect) (now page)) (now rows) ⌝ }
-    ensures { λ r. ⌜ RunDone (callTo stop (now (page .entry)) state (now (input .entry)) (length (now (reply .entry)))) r (now (input .entry)) (now (page .exit)) (now (reply .entry)) (now (reply .exit)) × Beside (widthOf (r .state .core .screen)) (guardedAt (r .state .core .modes .protect) (now (page .exit))) (now (rows .exit)) ⌝ }
+    requires { ⌜ (good (now page) state ≡ true)
+        × Beside (widthOf (state .core .screen)) (guardedAt (state .core .modes .protect) (now page)) (now rows) ⌝ }
+    ensures { λ r. ⌜ RunDone (callTo stop (now (page .entry)) state (now (input .entry)) (length (now (reply .entry)))) r (now (input .entry))
+        (now (page .exit)) (now (reply .entry)) (now (reply .exit))
+        × Beside (widthOf (r .state .core .screen)) (guardedAt (r .state .core .modes .protect) (now (page .exit))) (now (rows .exit)) ⌝ }
 {
     let mut c = state.core;
     let mut g = state.gathered;

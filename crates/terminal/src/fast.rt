@@ -1,5 +1,6 @@
 // The fast path: host bytes that are carried out without a plan for each. It goes on in one segment while nothing is under way: text, ESC =, the
-// moves of one byte and the scrolls of 0Ah and 1Fh, edits and clears, as long as the cursor lands on open cells. docs/CHANGING.md says what may go here.
+// moves of one byte and the scrolls of 0Ah and 1Fh, edits and clears, as long as the cursor lands on open cells. docs/CHANGING.md says what may go
+// here.
 mod edits; // what it edits and clears
 mod moves; // where it moves the cursor
 mod text; // text that it stores
@@ -37,7 +38,8 @@ use state::screen::segment_top;
 use state::screen::with_cursor;
 use state::width::columns;
 
-// What the fast path goes by and does not change: the modes, the width, what the number of a text cell has beside its code, and the segment's cells and rows.
+// What the fast path goes by and does not change: the modes, the width, what the number of a text cell has beside its code, and the segment's cells
+// and rows.
 pub struct Ground {
     pub protect: bool,
     pub insert: bool,
@@ -66,7 +68,8 @@ pub struct Passed {
 // ESC =, refused outside the segment unless that is to stop the path, or an edit; no byte is taken where it is neither.
 fn escape(page: &mut [u16], ground: Ground, at: usize, input: &[u8], i: usize, stop: bool) -> Passed
     requires { ⌜ Fits ground (now page) × ((at < ground .end) × ((i < length (now input)) × (getD (now input) i 0 ≡ 0x1b))) ⌝ }
-    ensures { λ r. ⌜ Passes ground (now (input .entry)) at i (now (page .entry)) (r .at) (r .taken) (now (page .exit)) (r .refused) × (stop ≡ true → r .refused ≡ 0) ⌝ }
+    ensures { λ r. ⌜ Passes ground (now (input .entry)) at i (now (page .entry)) (r .at) (r .taken) (now (page .exit)) (r .refused)
+        × (stop ≡ true → r .refused ≡ 0) ⌝ }
 {
     let k = address(page, ground, input, i);
     if k < ground.end {
@@ -139,7 +142,8 @@ fn go(page: &mut [u16], ground: Ground, at: usize, input: &[u8], i: usize) -> Re
 
 fn turn(page: &mut [u16], ground: Ground, at: usize, input: &[u8], i: usize, stop: bool) -> Passed
     requires { ⌜ Fits ground (now page) × ((at < ground .end) × (i < length (now input))) ⌝ }
-    ensures { λ r. ⌜ Passes ground (now (input .entry)) at i (now (page .entry)) (r .at) (r .taken) (now (page .exit)) (r .refused) × (stop ≡ true → r .refused ≡ 0) ⌝ }
+    ensures { λ r. ⌜ Passes ground (now (input .entry)) at i (now (page .entry)) (r .at) (r .taken) (now (page .exit)) (r .refused)
+        × (stop ≡ true → r .refused ≡ 0) ⌝ }
 {
     if input[i] == 0x1b {
         return escape(page, ground, at, input, i, stop);
@@ -161,7 +165,8 @@ fn pass(
     stop: bool,
 ) -> Passed
     requires { ⌜ Fits ground (now page) × ((first < ground .end) × (from ≤ length (now input))) ⌝ }
-    ensures { λ r. ⌜ Passes ground (now (input .entry)) first from (now (page .entry)) (r .at) (r .taken) (now (page .exit)) (r .refused) × (stop ≡ true → r .refused ≡ 0) ⌝ }
+    ensures { λ r. ⌜ Passes ground (now (input .entry)) first from (now (page .entry)) (r .at) (r .taken) (now (page .exit)) (r .refused)
+        × (stop ≡ true → r .refused ≡ 0) ⌝ }
 {
     let mut at = first;
     let mut i = from;
@@ -238,8 +243,10 @@ pub(crate) fn fast_path(
     from: usize,
     stop: bool,
 ) -> Passed
-    requires { ⌜ (length (now page) ≡ pageLength (core .screen)) × ((screenOk (core .screen) ≡ true) × ((from < length (now input)) × (core .attribute < 32))) ⌝ }
-    ensures { λ r. ⌜ FastPath core (now (input .entry)) from (now (page .entry)) (r .at) (r .taken) (now (page .exit)) (r .refused) × (stop ≡ true → r .refused ≡ 0) ⌝ }
+    requires { ⌜ (length (now page) ≡ pageLength (core .screen))
+        × ((screenOk (core .screen) ≡ true) × ((from < length (now input)) × (core .attribute < 32))) ⌝ }
+    ensures { λ r. ⌜ FastPath core (now (input .entry)) from (now (page .entry)) (r .at) (r .taken) (now (page .exit)) (r .refused)
+        × (stop ≡ true → r .refused ≡ 0) ⌝ }
 {
     let q = core.pending;
     match q {

@@ -49,8 +49,15 @@ fn obey(
     d: Command,
     room: &mut [u8],
 ) -> CoreResult
-    requires { ⌜ (length (now page) ≡ pageLength (core .screen)) × ((screenOk (core .screen) ≡ true) × ((core .attribute < 32) × Beside (widthOf (core .screen)) (guardedAt (core .modes .protect) (now page)) (now rows))) ⌝ }
-    ensures { λ r. ⌜ Carried (carried (now (page .entry)) core (planRule (guardedAt (core .modes .protect) (now (page .entry))) tabs (idleOf core) d) (length (now (room .entry)))) r (now (page .exit)) (now (room .entry)) (now (room .exit)) × BesideAfter (widthOf (core .screen)) (carried (now (page .entry)) core (planRule (guardedAt (core .modes .protect) (now (page .entry))) tabs (idleOf core) d) (length (now (room .entry)))) (now (rows .exit)) ⌝ }
+    requires { ⌜ (length (now page) ≡ pageLength (core .screen))
+        × ((screenOk (core .screen) ≡ true)
+        × ((core .attribute < 32) × Beside (widthOf (core .screen)) (guardedAt (core .modes .protect) (now page)) (now rows))) ⌝ }
+    ensures { λ r. ⌜ Carried
+        (carried (now (page .entry)) core (planRule (guardedAt (core .modes .protect) (now (page .entry))) tabs (idleOf core) d)
+        (length (now (room .entry)))) r (now (page .exit)) (now (room .entry)) (now (room .exit))
+        × BesideAfter (widthOf (core .screen))
+        (carried (now (page .entry)) core (planRule (guardedAt (core .modes .protect) (now (page .entry))) tabs (idleOf core) d)
+        (length (now (room .entry)))) (now (rows .exit)) ⌝ }
 {
     let next = idle(core);
     let plan = plan_for(page, tabs, next, d);
@@ -67,8 +74,15 @@ pub(crate) fn inner(
     d: Decoded,
     room: &mut [u8],
 ) -> CoreResult
-    requires { ⌜ (length (now page) ≡ pageLength (core .screen)) × ((screenOk (core .screen) ≡ true) × (((g : List ℕ) × (pendingOk (core .pending) g ≡ true)) × ((core .attribute < 32) × (Beside (widthOf (core .screen)) (guardedAt (core .modes .protect) (now page)) (now rows) × (b < 128 → d ≡ decodeRule (core .pending) b))))) ⌝ }
-    ensures { λ r. ⌜ Carried (innerRule (now (page .entry)) core tabs b (length (now (room .entry)))) r (now (page .exit)) (now (room .entry)) (now (room .exit)) × BesideAfter (widthOf (core .screen)) (innerRule (now (page .entry)) core tabs b (length (now (room .entry)))) (now (rows .exit)) ⌝ }
+    requires { ⌜ (length (now page) ≡ pageLength (core .screen))
+        × ((screenOk (core .screen) ≡ true)
+        × (((g : List ℕ) × (pendingOk (core .pending) g ≡ true))
+        × ((core .attribute < 32)
+        × (Beside (widthOf (core .screen)) (guardedAt (core .modes .protect) (now page)) (now rows)
+        × (b < 128 → d ≡ decodeRule (core .pending) b))))) ⌝ }
+    ensures { λ r. ⌜ Carried (innerRule (now (page .entry)) core tabs b (length (now (room .entry)))) r (now (page .exit)) (now (room .entry))
+        (now (room .exit)) × BesideAfter (widthOf (core .screen)) (innerRule (now (page .entry)) core tabs b (length (now (room .entry))))
+        (now (rows .exit)) ⌝ }
 {
     if 128 <= b {
         return quiet(Answer::HighByte, core, Change::Set(SetupChange::Nothing));

@@ -13,7 +13,8 @@ use rules::ShortText;
 
 // Copy a text to the front of the room, where it fits.
 fn put(room: &mut [u8], text: &[u8]) -> bool
-    ensures { λ r. ⌜ (r ≡ leb (length (now (text .entry))) (length (now (room .entry)))) × (now (room .exit) ≡ pick r (over (now (text .entry)) (now (room .entry))) (now (room .entry))) ⌝ }
+    ensures { λ r. ⌜ (r ≡ leb (length (now (text .entry))) (length (now (room .entry))))
+        × (now (room .exit) ≡ pick r (over (now (text .entry)) (now (room .entry))) (now (room .entry))) ⌝ }
 {
     if room.len() < text.len() {
         return false;

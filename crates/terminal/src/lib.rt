@@ -109,8 +109,11 @@ fn step_beside(
     byte: u8,
     reply: &mut [u8],
 ) -> StepResult
-    requires { ⌜ (good (now page) state ≡ true) × Beside (widthOf (state .core .screen)) (guardedAt (state .core .modes .protect) (now page)) (now rows) ⌝ }
-    ensures { λ r. ⌜ Stepped (stepRule (now (page .entry)) state byte (length (now (reply .entry)))) r (now (page .exit)) (now (reply .entry)) (now (reply .exit)) × Beside (widthOf (r .state .core .screen)) (guardedAt (r .state .core .modes .protect) (now (page .exit))) (now (rows .exit)) ⌝ }
+    requires { ⌜ (good (now page) state ≡ true)
+        × Beside (widthOf (state .core .screen)) (guardedAt (state .core .modes .protect) (now page)) (now rows) ⌝ }
+    ensures { λ r. ⌜ Stepped (stepRule (now (page .entry)) state byte (length (now (reply .entry)))) r (now (page .exit)) (now (reply .entry))
+        (now (reply .exit)) × Beside (widthOf (r .state .core .screen)) (guardedAt (r .state .core .modes .protect) (now (page .exit)))
+        (now (rows .exit)) ⌝ }
 {
     let one = [byte];
     let t = run_beside(page, rows, state, &one, reply, true);
@@ -126,7 +129,8 @@ fn step_beside(
 
 // The single step. Ruled out: one that obeys E9h, or answers 0 to what it refuses.
 pub fn step(page: &mut [u16], state: State, byte: u8, reply: &mut [u8]) -> StepResult
-    ensures { λ r. ⌜ Stepped (stepRule (now (page .entry)) state byte (length (now (reply .entry)))) r (now (page .exit)) (now (reply .entry)) (now (reply .exit)) ⌝ }
+    ensures { λ r. ⌜ Stepped (stepRule (now (page .entry)) state byte (length (now (reply .entry)))) r (now (page .exit)) (now (reply .entry))
+        (now (reply .exit)) ⌝ }
 {
     if !is_good(page, state) {
         return StepResult {
@@ -142,7 +146,8 @@ pub fn step(page: &mut [u16], state: State, byte: u8, reply: &mut [u8]) -> StepR
 
 // The run over many bytes. Ruled out: one that makes up a count, or counts the byte that answered 6 as taken.
 pub fn run(page: &mut [u16], state: State, input: &[u8], reply: &mut [u8]) -> RunResult
-    ensures { λ r. ⌜ RunDone (runRule (now (page .entry)) state (now (input .entry)) (length (now (reply .entry)))) r (now (input .entry)) (now (page .exit)) (now (reply .entry)) (now (reply .exit)) ⌝ }
+    ensures { λ r. ⌜ RunDone (runRule (now (page .entry)) state (now (input .entry)) (length (now (reply .entry)))) r (now (input .entry))
+        (now (page .exit)) (now (reply .entry)) (now (reply .exit)) ⌝ }
 {
     if !is_good(page, state) {
         return refused(state);
@@ -170,7 +175,9 @@ pub fn step_rows(
     byte: u8,
     reply: &mut [u8],
 ) -> StepResult
-    ensures { λ r. ⌜ Stepped (stepRowsRule (now (page .entry)) (now (rows .entry)) state byte (length (now (reply .entry)))) r (now (page .exit)) (now (reply .entry)) (now (reply .exit)) × (now (rows .exit) ≡ rowsAfter (now (page .entry)) (now (rows .entry)) state (now (page .exit)) (r .state)) ⌝ }
+    ensures { λ r. ⌜ Stepped (stepRowsRule (now (page .entry)) (now (rows .entry)) state byte (length (now (reply .entry)))) r (now (page .exit))
+        (now (reply .entry)) (now (reply .exit))
+        × (now (rows .exit) ≡ rowsAfter (now (page .entry)) (now (rows .entry)) state (now (page .exit)) (r .state)) ⌝ }
 {
     if !is_listed(page, rows, state) {
         return StepResult {
@@ -191,7 +198,9 @@ pub fn run_rows(
     input: &[u8],
     reply: &mut [u8],
 ) -> RunResult
-    ensures { λ r. ⌜ RunDone (runRowsRule (now (page .entry)) (now (rows .entry)) state (now (input .entry)) (length (now (reply .entry)))) r (now (input .entry)) (now (page .exit)) (now (reply .entry)) (now (reply .exit)) × (now (rows .exit) ≡ rowsAfter (now (page .entry)) (now (rows .entry)) state (now (page .exit)) (r .state)) ⌝ }
+    ensures { λ r. ⌜ RunDone (runRowsRule (now (page .entry)) (now (rows .entry)) state (now (input .entry)) (length (now (reply .entry)))) r
+        (now (input .entry)) (now (page .exit)) (now (reply .entry)) (now (reply .exit))
+        × (now (rows .exit) ≡ rowsAfter (now (page .entry)) (now (rows .entry)) state (now (page .exit)) (r .state)) ⌝ }
 {
     if !is_listed(page, rows, state) {
         return refused(state);
@@ -217,7 +226,9 @@ pub fn next(
     input: &[u8],
     reply: &mut [u8],
 ) -> RunResult
-    ensures { λ r. ⌜ RunDone (nextRowsRule (now (page .entry)) (now (rows .entry)) state (now (input .entry)) (length (now (reply .entry)))) r (now (input .entry)) (now (page .exit)) (now (reply .entry)) (now (reply .exit)) × (now (rows .exit) ≡ rowsAfter (now (page .entry)) (now (rows .entry)) state (now (page .exit)) (r .state)) ⌝ }
+    ensures { λ r. ⌜ RunDone (nextRowsRule (now (page .entry)) (now (rows .entry)) state (now (input .entry)) (length (now (reply .entry)))) r
+        (now (input .entry)) (now (page .exit)) (now (reply .entry)) (now (reply .exit))
+        × (now (rows .exit) ≡ rowsAfter (now (page .entry)) (now (rows .entry)) state (now (page .exit)) (r .state)) ⌝ }
 {
     if !is_suited(page, rows, state) {
         return refused(state);
@@ -244,7 +255,8 @@ pub fn reply_command(sending: Sending, input: &[u8], taken: usize, replied: usiz
 
 // The row list made anew, whatever stood there. Ruled out: one that writes to a list of the wrong length.
 pub fn rebuild_rows(page: &[u16], rows: &mut [u16], state: State) -> Answer
-    ensures { λ r. ⌜ (number r ≡ rebuildAnswer (now (page .entry)) (now (rows .entry)) state) × (now (rows .exit) ≡ rebuilt (now (page .entry)) (now (rows .entry)) state) ⌝ }
+    ensures { λ r. ⌜ (number r ≡ rebuildAnswer (now (page .entry)) (now (rows .entry)) state)
+        × (now (rows .exit) ≡ rebuilt (now (page .entry)) (now (rows .entry)) state) ⌝ }
 {
     if !and(rows.len() == 48, is_good(page, state)) {
         return Answer::BadCall;

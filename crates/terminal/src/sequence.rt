@@ -21,7 +21,8 @@ pub struct Waited {
 // The awaited bytes from the byte `from` on.
 pub(crate) fn awaited(pending: Pending, input: &[u8], from: usize) -> Waited
     requires { ⌜ ((g : List ℕ) × (pendingOk pending g ≡ true)) × (from ≤ length (now input)) ⌝ }
-    ensures { λ r. ⌜ Waits (now (input .entry)) pending from (r .pending) (r .taken) × Reads (now (input .entry)) (r .pending) (r .taken) (r .decoded) ⌝ }
+    ensures { λ r. ⌜ Waits (now (input .entry)) pending from (r .pending) (r .taken)
+        × Reads (now (input .entry)) (r .pending) (r .taken) (r .decoded) ⌝ }
 {
     let mut q = pending;
     let mut i = from;

@@ -34,7 +34,14 @@ fn stops_within(tabs: [bool; 132], wide: bool) -> [bool; 132]
 // The screen unsplit, its cursor settled on the page.
 fn home(page: &[u16], protect: bool, wide: bool) -> Screen
     requires { ⌜ length (now page) ≡ 24 * columnsOf wide ⌝ }
-    ensures { λ r. ⌜ r ≡ record { wide = wide; active = 0; split = 0; cursor0 = settled (guardedAt protect (now (page .entry))) 0 (24 * columnsOf wide) 0; cursor1 = 0 } ⌝ }
+    ensures { λ r. ⌜ r ≡ record {
+      wide = wide;
+      active = 0;
+      split = 0;
+      cursor0 = settled (guardedAt protect (now (page .entry))) 0
+          (24 * columnsOf wide) 0;
+      cursor1 = 0;
+    } ⌝ }
 {
     let end = cells(wide, 24) as usize;
     let n = settle(page, protect, 0, end, 0);

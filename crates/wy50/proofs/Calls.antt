@@ -39,13 +39,18 @@ use Rattle.state.proofs.Tests.{both-left, both-right}
 use Rattle.terminal.specs.Promise as terminal
 use Rattle.wy50.specs.declared.raw.RawSequence.{RawSequence}
 use Rattle.wy50.specs.declared.raw.RawState.{RawState}
-use Rattle.wy50.specs.Raw.{allBelow, flag, isPersonality, personalityAt, areFlags, sequenceOf, gatheredIn, blanked, laidOver, isSequence, isSending, numbers, packed, unpacked, named}
-use Rattle.wy50.specs.Promise.{rawGood, rawPossible, rawCursor, freshNumbers, rawPowerOn, rawStep, rawRan, badRun, rawRun, rawPress, PoweredOn, Stepped, RunDone, Sent}
+use Rattle.wy50.specs.Raw.{allBelow, flag, isPersonality, personalityAt, areFlags, sequenceOf, gatheredIn, blanked, laidOver, isSequence}
+use Rattle.wy50.specs.Raw.{isSending, numbers, packed, unpacked, named}
+use Rattle.wy50.specs.Promise.{rawGood, rawPossible, rawCursor, freshNumbers, rawPowerOn, rawStep, rawRan, badRun, rawRun, rawPress, PoweredOn}
+use Rattle.wy50.specs.Promise.{Stepped, RunDone, Sent}
 
 pub named-bells : (x : RawState) → named x ≡ true → x .bells < 256
 unfolding named
 named-bells x h =
-    let r = both (isSequence (x .sequence)) (both (isSending (x .sending)) (both (allBelow 2 (x .tabs)) (both (both (ltb (x .shifted) 2) (both (ltb (x .wish) 2) (ltb (x .screen .wide) 2))) (isPersonality (x .personality))))) in
+    let r = both (isSequence (x .sequence))
+    (both (isSending (x .sending))
+    (both (allBelow 2 (x .tabs))
+    (both (both (ltb (x .shifted) 2) (both (ltb (x .wish) 2) (ltb (x .screen .wide) 2))) (isPersonality (x .personality))))) in
     ltb-true (x .bells) 256 (both-left (ltb (x .bells) 256) r (both-right (areFlags (x .modes)) (both (ltb (x .bells) 256) r) h))
 
 -- ---- a good page and state answer no 7
@@ -104,7 +109,8 @@ unfolding rawGood
 raw-good p x on g = rw (on, g)
 
 -- the numbers of a state that a call leaves, from their parts
-pub packed-is : (x : RawState) (s : State) {q : RawSequence} {n m : ℕ} {g : List ℕ} {r : RawState} → q ≡ sequenceOf (s .core .pending) → n ≡ gatheredIn q
+pub packed-is : (x : RawState) (s : State) {q : RawSequence} {n m : ℕ} {g : List ℕ} {r : RawState} → q ≡ sequenceOf (s .core .pending)
+    → n ≡ gatheredIn q
     → m ≡ gatheredIn (x .sequence) → g ≡ laidOver n (s .gathered) (blanked m (x .gathered)) → r ≡ numbers g s → r ≡ packed x s
 packed-is x s a b c d e = e ∙ ap (λ (t : List ℕ). numbers t s) (d ∙ rw (b ∙ ap gatheredIn a, c))
 
@@ -162,7 +168,8 @@ module _ {n : ℕ} {y : RawState} where
 
   -- a run of the terminal's
   pub numbered : (x : RawState) {o : Ran} {t : RunResult} {l p′ w w′ : List ℕ} → terminal.RunDone o t l p′ w w′ → n ≡ number (t .answer)
-      → y ≡ packed x (t .state) → RunDone (rawRan x o) (record { answer = n; taken = t .taken; replied = t .replied; refused = t .refused; state = y }) l p′ w w′
+      → y ≡ packed x (t .state)
+      → RunDone (rawRan x o) (record { answer = n; taken = t .taken; replied = t .replied; refused = t .refused; state = y }) l p′ w w′
   numbered x h a v = record {
     answer = a ∙ h .answer;
     taken = h .taken;
@@ -220,7 +227,8 @@ pub unnamed-bad : (p : List ℕ) (x : RawState) → named x ≡ false → rawGoo
 unfolding rawGood
 unnamed-bad p x off = rw off
 
-pub press-refused : (p : List ℕ) (x : RawState) → named x ≡ false → (w : List ℕ) (v : ℕ) → Sent (rawPress p x v (length w)) (record { answer = 7; replied = 0 }) w w
+pub press-refused : (p : List ℕ) (x : RawState) → named x ≡ false → (w : List ℕ) (v : ℕ)
+    → Sent (rawPress p x v (length w)) (record { answer = 7; replied = 0 }) w w
 unfolding rawPress over
 press-refused p x off w v = rw off (record { answer = refl; replied = refl; room = refl; fits = omega arith })
 
@@ -246,7 +254,8 @@ module _ (p : List ℕ) (x : RawState) (w : List ℕ) {n : ℕ} {s : State} {p�
       let k = step-left p s b w g in
       rw (h .page, k .0, h .room, k .1) (step-refused p x (raw-good p x on (ap (good p) (sym e) ∙ g)) w b)
 
-  run-bad : (l : List ℕ) {t : RunResult} → terminal.RunDone (runRule p s l (length w)) t l p′ w w′ → n ≡ number (t .answer) → n ≡ 7 → good p s ≡ false
+  run-bad : (l : List ℕ) {t : RunResult} → terminal.RunDone (runRule p s l (length w)) t l p′ w w′ → n ≡ number (t .answer) → n ≡ 7
+      → good p s ≡ false
   run-bad l h a z = not-good (good p s) (λ k. good-run p s l (length w) k (sym (a ∙ h .answer) ∙ z))
 
   pub run-seven : (l : List ℕ) {t : RunResult} → terminal.RunDone (runRule p s l (length w)) t l p′ w w′ → n ≡ number (t .answer) → n ≡ 7

@@ -20,7 +20,8 @@ module _ (p : List ℕ) (x : RawState) (t : List ℕ) where
   unfolding rawConvert
   turns-unnamed off = rw off (record { answer = refl; target = refl; state = refl })
 
-  module _ {s : State} {r : ConvertResult} {k : ℕ} {q : List ℕ} (on : named x ≡ true) (e : s ≡ unpacked x) (h : Terminal.Turns (convertRule p s t) r q)
+  module _ {s : State} {r : ConvertResult} {k : ℕ} {q : List ℕ} (on : named x ≡ true) (e : s ≡ unpacked x)
+      (h : Terminal.Turns (convertRule p s t) r q)
       (z : k ≡ number (r .answer)) where
     number-is : k ≡ convertRule p (unpacked x) t .answer
     number-is = z ∙ h .answer ∙ ap (λ (y : State). convertRule p y t .answer) e

@@ -57,7 +57,8 @@ unfolding rawGood
 numbers-good b p s h k =
     let g = good-parts p s h in
     let w = possible-parts s (g .1) in
-    let core : PossibleCore (s .core) b = record { screen = w .core .screen; bells = w .core .bells; remembered = w .core .remembered; pending = k } in
+    let core : PossibleCore
+    (s .core) b = record { screen = w .core .screen; bells = w .core .bells; remembered = w .core .remembered; pending = k } in
     let fits = possible-fits (s .core .screen) (s .core .pending) (s .sending) (w .sending) in
     rw (numbers-named b s (w .core .bells) fits, unpacked-numbers b s fits)
     (good-whole p (regathered b s) (g .0) (possible-whole (regathered b s) record { core = core; sending = w .sending; setup = w .setup }))
@@ -91,7 +92,8 @@ module _ (p : List ℕ) (x : RawState) (fine : rawGood p x ≡ true) where
       let o = runRule p (unpacked x) l room in
       rw fine (packed-good x (o .page) (o .state) (run-good p (unpacked x) l room is-good))
 
-pub convert-kept : (p : List ℕ) (x : RawState) (t : List ℕ) → rawConvert p x t .answer ≡ 0 → rawGood (rawConvert p x t .target) (rawConvert p x t .state) ≡ true
+pub convert-kept : (p : List ℕ) (x : RawState) (t : List ℕ) → rawConvert p x t .answer ≡ 0
+    → rawGood (rawConvert p x t .target) (rawConvert p x t .state) ≡ true
 unfolding rawConvert
 convert-kept p x t h = by (named x) h
   where

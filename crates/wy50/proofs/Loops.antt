@@ -41,7 +41,8 @@ module _ {A B : Type 0} (f : A → B) (l : List A) (t : List B) where
       sym (take-all i t (omega (arith, x .size))) ∙ x .front ∙ take-all i (map f l) (omega (arith, length-map l f))
 
 -- eight bytes one by one are the eight bytes
-pub eight : (l : List ℕ) → length l ≡ 8 → getD l 0 0 ∷ getD l 1 0 ∷ getD l 2 0 ∷ getD l 3 0 ∷ getD l 4 0 ∷ getD l 5 0 ∷ getD l 6 0 ∷ getD l 7 0 ∷ [] ≡ l
+pub eight : (l : List ℕ) → length l ≡ 8
+    → getD l 0 0 ∷ getD l 1 0 ∷ getD l 2 0 ∷ getD l 3 0 ∷ getD l 4 0 ∷ getD l 5 0 ∷ getD l 6 0 ∷ getD l 7 0 ∷ [] ≡ l
 eight [] n = absurd (omega arith)
 eight (a ∷ []) n = absurd (omega arith)
 eight (a ∷ b ∷ []) n = absurd (omega arith)

@@ -51,7 +51,8 @@ event-seven (b ∷ bs) p s room g u =
     by (tells o) refl (event-seven bs (o .page) (o .state) (room - length (o .reply)) (step-good p s b room g))
   where
     by : (t : Bool) → tells (stepRule p s b room) ≡ t
-        → (let o = stepRule p s b room in sends (o .state .sending) ≡ false → toEvent bs (o .page) (o .state) (room - length (o .reply)) .answer ≡ 7 → ⊥)
+        → (let o = stepRule p s b room in sends (o .state .sending) ≡ false → toEvent bs (o .page) (o .state) (room - length (o .reply)) .answer ≡ 7
+        → ⊥)
         → toEvent (b ∷ bs) p s room .answer ≡ 7 → ⊥
     by true e ih z = good-step p s b room g (sym (ap (λ (r : Ran). r .answer) (to-event b bs p s room e) ∙ event-answer p s b bs room) ∙ z)
     by false e ih z =
@@ -71,7 +72,8 @@ good-next p s l room g = by (sends (s .sending)) refl room
     by : (t : Bool) → sends (s .sending) ≡ t → (room : ℕ) → nextRule p s l room .answer ≡ 7 → ⊥
     by true u zero = rw (next-unheard p s l g u) (unheard-seven (eqb (length l) 0))
     by true u (suc n) =
-        rw (next-inside p s l (suc n) g u (omega arith), behind-answer (goesOn p s (suc n) .reply) (ended p (goesOn p s (suc n) .state) 0 l)) (λ e. omega (arith, e))
+        rw (next-inside p s l (suc n) g u (omega arith), behind-answer (goesOn p s (suc n) .reply) (ended p (goesOn p s (suc n) .state) 0 l))
+        (λ e. omega (arith, e))
     by false u room = rw (next-outside p s l room g u) (event-seven l p s room g u)
 
 -- ---- refused
@@ -123,7 +125,8 @@ heard-unnamed p l x i w off = refused p l x i w (suited-false p l x (λ g f. fal
 
 -- ---- named
 
-module _ (p l : List ℕ) (x : RawState) (i w : List ℕ) {n : ℕ} {s : State} {t : RunResult} {p′ w′ l′ : List ℕ} (on : named x ≡ true) (e : s ≡ unpacked x)
+module _ (p l : List ℕ) (x : RawState) (i w : List ℕ) {n : ℕ} {s : State} {t : RunResult} {p′ w′ l′ : List ℕ} (on : named x ≡ true)
+    (e : s ≡ unpacked x)
     (h : terminal.RunDone (nextRowsRule p l s i (length w)) t i p′ w w′) (k : l′ ≡ rowsAfter p l s p′ (t .state)) (a : n ≡ number (t .answer)) where
   unsuited : suits l p s ≡ false → nextRowsRule p l s i (length w) ≡ ended p s 7 i
   unfolding nextRowsRule
@@ -138,7 +141,8 @@ module _ (p l : List ℕ) (x : RawState) (i w : List ℕ) {n : ℕ} {s : State} 
   unfolding rawNext rawSuited
   suited-run g f c = rw (g, ap (suits l p) (sym e) ∙ f, ← e) c
 
-  listed-rows : (y : RawState) → rawGood p x ≡ true → rowsOf p′ (t .state) ≡ rowsOf p′ (unpacked y) → rowsAfter p l s p′ (t .state) ≡ rawRowsAfter p l x p′ y
+  listed-rows : (y : RawState) → rawGood p x ≡ true → rowsOf p′ (t .state) ≡ rowsOf p′ (unpacked y)
+      → rowsAfter p l s p′ (t .state) ≡ rawRowsAfter p l x p′ y
   unfolding rowsAfter rawRowsAfter rawListed
   listed-rows y g q = rw (g, ← e, q)
 
@@ -150,8 +154,10 @@ module _ (p l : List ℕ) (x : RawState) (i w : List ℕ) {n : ℕ} {s : State} 
       seven = sym (a ∙ h .answer) ∙ z
 
       ended-so : nextRowsRule p l s i (length w) ≡ ended p s 7 i → (p′ ≡ p) × ((t .state ≡ s) × (w′ ≡ w))
-      ended-so o =
-          (h .page ∙ ap (λ (r : Ran). r .page) o, (h .state ∙ ap (λ (r : Ran). r .state) o, h .room ∙ ap (λ (r : Ran). over (r .reply) w) o ∙ none-replied w))
+      ended-so o = (
+        h .page ∙ ap (λ (r : Ran). r .page) o,
+        (h .state ∙ ap (λ (r : Ran). r .state) o, h .room ∙ ap (λ (r : Ran). over (r .reply) w) o ∙ none-replied w),
+      )
 
       by : (v : Bool) → suits l p s ≡ v → (p′ ≡ p) × ((t .state ≡ s) × (w′ ≡ w))
       by true f =

@@ -33,7 +33,8 @@ use Rattle.wy50.specs.declared.raw.RawState.{RawState}
 use Rattle.wy50.specs.Raw.{flag, find, textSending, rawSending, sendingOf, numbers, packed, unpacked, named}
 use Rattle.wy50.specs.Promise.{rawGood, rawStep, rawRun, rawPress}
 use Rattle.wy50.proofs.Kept.{bad-step, bad-run, bad-press}
-use Rattle.wy50.specs.Noninterference.{RawGiven, RawCalled, rawCall, RawCompleted, first, later, Made, stepped, ran, sent, Performed, none, next, Concealing, RawIndistinguishable, RawNoninterference, RawCharacterised}
+use Rattle.wy50.specs.Noninterference.{RawGiven, RawCalled, rawCall, RawCompleted, first, later, Made, stepped, ran, sent, Performed, none}
+use Rattle.wy50.specs.Noninterference.{next, Concealing, RawIndistinguishable, RawNoninterference, RawCharacterised}
 
 -- ---- one call in both terminals
 
@@ -54,11 +55,13 @@ numbered x r = record {
   page = r .page;
 }
 
-good-step : (p : List ℕ) (x : RawState) (b room : ℕ) → rawGood p x ≡ true → rawCall p x (Step b room) ≡ numbered x (callRule p (unpacked x) (Step b room))
+good-step : (p : List ℕ) (x : RawState) (b room : ℕ) → rawGood p x ≡ true
+    → rawCall p x (Step b room) ≡ numbered x (callRule p (unpacked x) (Step b room))
 unfolding rawCall rawStep callRule ofStep
 good-step p x b room e = rw e
 
-good-run : (p : List ℕ) (x : RawState) (l : List ℕ) (room : ℕ) → rawGood p x ≡ true → rawCall p x (Run l room) ≡ numbered x (callRule p (unpacked x) (Run l room))
+good-run : (p : List ℕ) (x : RawState) (l : List ℕ) (room : ℕ) → rawGood p x ≡ true
+    → rawCall p x (Run l room) ≡ numbered x (callRule p (unpacked x) (Run l room))
 unfolding rawCall rawRun callRule ofRun
 good-run p x l room e = rw e
 
@@ -147,18 +150,32 @@ module _ {p q a b : List ℕ} (h : Related p q a b) (x : RawState) (closed : Raw
       by : (c : Call) → AgreeCall p q (callRule a (unpacked x) c) (callRule b (unpacked x) c) → AgreeRaw p q (rawCall a x c) (rawCall b x c)
       by (Step v room) k =
           rw (good-step a x v room e, good-step b x v room f)
-          (record { given = rw (k .given); related = k .related; closed = numbered-closed _ (callRule a (unpacked x) (Step v room) .given .state) (k .closed) })
+          (record {
+            given = rw (k .given);
+            related = k .related;
+            closed = numbered-closed _ (callRule a (unpacked x) (Step v room) .given .state)
+                (k .closed);
+          })
       by (Run l room) k =
           rw (good-run a x l room e, good-run b x l room f)
-          (record { given = rw (k .given); related = k .related; closed = numbered-closed _ (callRule a (unpacked x) (Run l room) .given .state) (k .closed) })
-      by (Press v room) k = rw (good-press a x v room e, good-press b x v room f) (record { given = ap (held x) (k .given); related = h; closed = closed })
+          (record {
+            given = rw (k .given);
+            related = k .related;
+            closed = numbered-closed _ (callRule a (unpacked x) (Run l room) .given .state)
+                (k .closed);
+          })
+      by (Press v room) k = rw (good-press a x v room e, good-press b x v room f)
+          (record { given = ap (held x) (k .given); related = h; closed = closed })
 
   -- a bad call is refused in both
   bad-agrees : (c : Call) → rawGood a x ≡ false → AgreeRaw p q (rawCall a x c) (rawCall b x c)
   unfolding rawCall
-  bad-agrees (Step v room) e = rw (bad-step a x e v room, bad-step b x (sym both-good ∙ e) v room) (record { given = refl; related = h; closed = closed })
-  bad-agrees (Run l room) e = rw (bad-run a x e l room, bad-run b x (sym both-good ∙ e) l room) (record { given = refl; related = h; closed = closed })
-  bad-agrees (Press v room) e = rw (bad-press a x e v room, bad-press b x (sym both-good ∙ e) v room) (record { given = refl; related = h; closed = closed })
+  bad-agrees (Step v room) e = rw (bad-step a x e v room, bad-step b x (sym both-good ∙ e) v room)
+      (record { given = refl; related = h; closed = closed })
+  bad-agrees (Run l room) e = rw (bad-run a x e l room, bad-run b x (sym both-good ∙ e) l room)
+      (record { given = refl; related = h; closed = closed })
+  bad-agrees (Press v room) e = rw (bad-press a x e v room, bad-press b x (sym both-good ∙ e) v room)
+      (record { given = refl; related = h; closed = closed })
 
   pub raw-agrees : (c : Call) → (named x ≡ true → CompletedIn a (unpacked x) c → ⊥) → AgreeRaw p q (rawCall a x c) (rawCall b x c)
   raw-agrees c free = by (rawGood a x) refl where
@@ -181,7 +198,8 @@ performed-agrees : {calls : List Call} {p q a b : List ℕ} {x y z : RawState} {
     → RawClosed x → (RawCompleted calls a x → ⊥) → Performed a x calls gs y a′ → Performed b x calls hs z b′
     → RawIndistinguishable p q gs hs y z a′ b′
 performed-agrees h closed free none none = record { given = refl; state = refl; pages = related-kept h }
-performed-agrees {p = p} {q = q} h closed free (next {p = a} {p′ = a₁} {x = x} {c = c} {cs = cs} {g = g} m f) (next {p′ = b₁} {p″ = b″} {x″ = z} {g = k} {gs = ks} n l) =
+performed-agrees {p = p} {q = q} h closed free (next {p = a} {p′ = a₁} {x = x} {c = c} {cs = cs} {g = g} m f)
+    (next {p′ = b₁} {p″ = b″} {x″ = z} {g = k} {gs = ks} n l) =
     let r = subst₂ (AgreeRaw p q) (made-is m) (made-is n) (raw-agrees h x closed c (λ e k. free (first e k))) in
     let free₁ : RawCompleted cs a₁ (g .state) → ⊥ =
     subst (λ (r : RawCalled). RawCompleted cs (r .page) (r .given .state) → ⊥) (made-is m) (λ k. free (later k)) in

@@ -24,12 +24,14 @@ use Rattle.repaint.specs.declared.ProposeResult.{ProposeResult}
 use Rattle.repaint.specs.declared.Span.{Span}
 use Rattle.repaint.specs.Spans.{spansOf}
 use Rattle.repaint.specs.Bytes.{BytesVerdict}
-use Rattle.repaint.specs.Proposal.{Stretch, spanOf, stretches, rowsOf, columnsOf, lengthsOf, paintBytes, served, refusedWith, fitting, Proposed, proposeRule, Proposes}
+use Rattle.repaint.specs.Proposal.{Stretch, spanOf, stretches, rowsOf, columnsOf, lengthsOf, paintBytes, served, refusedWith, fitting, Proposed}
+use Rattle.repaint.specs.Proposal.{proposeRule, Proposes}
 use Rattle.repaint.specs.Theorems.{spansFor}
 use Rattle.repaint.proofs.Leading.{copy-step, copy-done}
 use Rattle.repaint.proofs.Proposing.{proposing}
 use Rattle.wy50.specs.Raw.{isPersonality, personalityAt}
-use Rattle.wy50.specs.Repainting.{RawBytesVerdict, spanNumbers, RawProposed, unproposed, proposed, numbersRule, rawPropose, RawProposes, spanRoom}
+use Rattle.wy50.specs.Repainting.{RawBytesVerdict, spanNumbers, RawProposed, unproposed, proposed, numbersRule, rawPropose, RawProposes}
+use Rattle.wy50.specs.Repainting.{spanRoom}
 
 -- ---- the numbers of spans
 
@@ -118,7 +120,8 @@ module _ (v : ℕ) (a b bytes : List ℕ) where
   pub bytes-named : {m : Personality} {k r : ℕ} → isPersonality v ≡ true → m ≡ personalityAt v → BytesVerdict m a b bytes k → r ≡ k
       → RawBytesVerdict v a b bytes r
   bytes-named {k = k} on e h f =
-      subst (λ (n : ℕ). RawBytesVerdict v a b bytes n) (sym f) (RawBytesVerdict.named on (subst (λ (n : Personality). BytesVerdict n a b bytes k) e h))
+      subst (λ (n : ℕ). RawBytesVerdict v a b bytes n) (sym f)
+      (RawBytesVerdict.named on (subst (λ (n : Personality). BytesVerdict n a b bytes k) e h))
 
 -- ---- the proposer
 
@@ -243,7 +246,8 @@ module _ (m : Personality) (a b w o x y z : List ℕ) where
         let n : length (spanNumbers (spansFor a b)) ≡ 3 * length l = numbers-long (spansFor a b) ∙ ap (λ (i : ℕ). 3 * i) (spans-count l) in
         rw (ey, ez, n)
         (both-same (leb (length l) (length x)) (leb (length (paintBytes a b)) (length o))
-        ∙ ap (λ (t : Bool). both t (leb (length (paintBytes a b)) (length o))) (room-leb (length w) (length x) (length l) ex (proposing .spans m a b s)))
+        ∙ ap (λ (t : Bool). both t (leb (length (paintBytes a b)) (length o)))
+        (room-leb (length w) (length x) (length l) ex (proposing .spans m a b s)))
 
     abbrev room : Bool
     room = both (leb (length (spanNumbers (spansFor a b))) (length w)) (leb (length (paintBytes a b)) (length o))

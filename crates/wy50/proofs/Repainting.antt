@@ -22,7 +22,8 @@ use Rattle.repaint.specs.Theorems.{spansFor}
 use Rattle.repaint.proofs.Proposing.{served-lengths, proposing}
 use Rattle.repaint.proofs.Judges.{judging}
 use Rattle.wy50.specs.Raw.{isPersonality, personalityAt}
-use Rattle.wy50.specs.Repainting.{RawBytesVerdict, spanNumbers, spansIn, RawProposed, unproposed, proposed, numbersRule, rawPropose, withRest, Repainting}
+use Rattle.wy50.specs.Repainting.{RawBytesVerdict, spanNumbers, spansIn, RawProposed, unproposed, proposed, numbersRule, rawPropose, withRest}
+use Rattle.wy50.specs.Repainting.{Repainting}
 use Rattle.wy50.proofs.RepaintCalls.{numbers-long, spans-count}
 
 -- ---- one answer
@@ -93,10 +94,12 @@ module _ (v : ℕ) (a b w o : List ℕ) where
       (λ p.
       pick-if Zero page
       (λ f.
-      pick-if Zero is-served (λ g. pick-if Zero room (λ t e. record { on = p; text = g; gives = rule ∙ rw (p, f, g, t) }) (λ t e. absurd (omega (arith, e))))
+      pick-if Zero is-served
+      (λ g. pick-if Zero room (λ t e. record { on = p; text = g; gives = rule ∙ rw (p, f, g, t) }) (λ t e. absurd (omega (arith, e))))
       (λ g e. absurd (omega (arith, e)))) (λ f e. absurd (omega (arith, e)))) (λ p e. absurd (omega (arith, e))))
 
-  spans-accepted : rawPropose v a b w o .answer ≡ 0 → SpansVerdict a b (take (rawPropose v a b w o .spans) (spansIn (rawPropose v a b w o .numbers))) 0
+  spans-accepted : rawPropose v a b w o .answer ≡ 0
+      → SpansVerdict a b (take (rawPropose v a b w o .spans) (spansIn (rawPropose v a b w o .numbers))) 0
   unfolding over
   spans-accepted e =
       let d = is-done e in
@@ -110,7 +113,8 @@ module _ (v : ℕ) (a b w o : List ℕ) where
   bytes-accepted e =
       let d = is-done e in
       subst (λ (r : RawProposed). RawBytesVerdict v a b (take (r .bytes) (r .out)) 0) (sym (d .gives))
-      (subst (λ (l : List ℕ). RawBytesVerdict v a b l 0) (sym (over-back (paintBytes a b) o)) (RawBytesVerdict.named (d .on) (judging .bytes-accepted (personalityAt v) a b (d .text))))
+      (subst (λ (l : List ℕ). RawBytesVerdict v a b l 0) (sym (over-back (paintBytes a b) o))
+      (RawBytesVerdict.named (d .on) (judging .bytes-accepted (personalityAt v) a b (d .text))))
 
   page-served : is-served ≡ true → page ≡ true
   unfolding pageWidth
@@ -134,13 +138,21 @@ module _ (v : ℕ) (a b w t o : List ℕ) (h : 2880 ≤ length w) where
   same-room : is-served v a b w o ≡ true → room v a b (w ++ t) o ≡ room v a b w o
   same-room s =
       let n = few v a b w o s in
-      let x : leb (length (spanNumbers (spansFor a b))) (length (w ++ t)) ≡ true = le-leb _ (length (w ++ t)) (omega (arith, n, h, length-append w t)) in
+      let x : leb (length (spanNumbers (spansFor a b))) (length (w ++ t))
+      ≡ true = le-leb _ (length (w ++ t)) (omega (arith, n, h, length-append w t)) in
       let y : leb (length (spanNumbers (spansFor a b))) (length w) ≡ true = le-leb _ (length w) (omega (arith, n, h)) in
       rw (x, y)
 
   same-all : is-served v a b w o ≡ true → all v a b (w ++ t) o ≡ withRest t (all v a b w o)
   same-all s =
-      ap (λ (l : List ℕ). record { answer = 0; spans = length (spansFor a b); bytes = length (paintBytes a b); numbers = l; out = over (paintBytes a b) o })
+      ap (λ (l : List ℕ). record {
+        answer = 0;
+        spans = length (spansFor a b);
+        bytes = length (paintBytes a b);
+        numbers = l;
+        out = over
+            (paintBytes a b) o;
+      })
       (over-beyond (spanNumbers (spansFor a b)) w t (omega (arith, few v a b w o s, h)))
 
   same-filled : is-served v a b w o ≡ true → by-room v a b (w ++ t) o ≡ withRest t (by-room v a b w o)
@@ -150,7 +162,8 @@ module _ (v : ℕ) (a b w t o : List ℕ) (h : 2880 ≤ length w) where
   beyond =
       rule v a b (w ++ t) o
       ∙ (pick-with t (known v a b w o) (by-page v a b w o) (unproposed 7 w o)
-      (λ p. pick-with t (page v a b w o) (by-served v a b w o) (unproposed 7 w o) (λ f. pick-with t (is-served v a b w o) (by-room v a b w o) (unproposed 3 w o) same-filled refl) refl) refl
+      (λ p. pick-with t (page v a b w o) (by-served v a b w o) (unproposed 7 w o)
+      (λ f. pick-with t (is-served v a b w o) (by-room v a b w o) (unproposed 3 w o) same-filled refl) refl) refl
       ∙ ap (withRest t) (sym (rule v a b w o)))
 
 pub repainting : Repainting

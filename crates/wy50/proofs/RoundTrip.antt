@@ -37,7 +37,8 @@ use Rattle.wy50.specs.declared.raw.RawModes.{RawModes}
 use Rattle.wy50.specs.declared.raw.RawSequence.{RawSequence}
 use Rattle.wy50.specs.declared.raw.RawSending.{RawSending}
 use Rattle.wy50.specs.declared.raw.RawState.{RawState}
-use Rattle.wy50.specs.Raw.{allBelow, flag, isOn, personalityNumber, isPersonality, personalityAt, sequenceOf, find, pendingOf, sameSequence, isSequence, rawModes, modesOf, areFlags}
+use Rattle.wy50.specs.Raw.{allBelow, flag, isOn, personalityNumber, isPersonality, personalityAt, sequenceOf, find, pendingOf, sameSequence}
+use Rattle.wy50.specs.Raw.{isSequence, rawModes, modesOf, areFlags}
 use Rattle.wy50.specs.Raw.{small, rawSending, sendingOf, sameSending, isSending}
 use Rattle.wy50.proofs.Gathered.{laid-back}
 use Rattle.wy50.specs.Raw.{rawKey, keyOf, gatheredIn, blanked, laidOver, numbers, packed, unpacked, named}
@@ -252,7 +253,19 @@ raw-modes-back m h =
 pub numbers-named : (g : List ℕ) (s : State) → s .core .bells < 256 → sendingFits (s .sending) ≡ true → named (numbers g s) ≡ true
 unfolding numbers named
 numbers-named g s h f =
-    rw (modes-named (s .core .modes), lt-ltb (s .core .bells) 256 h, sequence-named (s .core .pending), sending-named (s .sending) f, tabs-below (s .setup .tabs), flag-below (s .setup .shifted), flag-below (s .setup .wish), flag-below (s .core .screen .wide), personality-named (s .core .personality))
+    rw (
+      modes-named (s .core .modes),
+      lt-ltb (s .core .bells) 256 h,
+      sequence-named (s .core .pending),
+      sending-named (s .sending) f,
+      tabs-below
+          (s .setup .tabs),
+      flag-below (s .setup .shifted),
+      flag-below (s .setup .wish),
+      flag-below (s .core .screen .wide),
+      personality-named
+          (s .core .personality),
+    )
 
 -- and it is that state, with these bytes gathered
 abbrev pub regathered : List ℕ → State → State
@@ -321,7 +334,8 @@ packed-unpacked x h =
     let personality = number-back (x .personality) (both-right f m (both-right t y bits)) in
     let keys = map-back keyOf rawKey (λ k. refl) (x .keys) in
     let labels = map-back keyOf rawKey (λ k. refl) (x .labels) in
-    let gathered : laidOver (gatheredIn (sequenceOf (pendingOf (x .sequence)))) (x .gathered) (blanked (gatheredIn (x .sequence)) (x .gathered)) ≡ x .gathered =
+    let gathered : laidOver (gatheredIn (sequenceOf (pendingOf (x .sequence)))) (x .gathered) (blanked (gatheredIn (x .sequence)) (x .gathered))
+    ≡ x .gathered =
     ap (λ (p : RawSequence). laidOver (gatheredIn p) (x .gathered) (blanked (gatheredIn (x .sequence)) (x .gathered))) sequence
     ∙ laid-back (gatheredIn (x .sequence)) (x .gathered) in
     λ i. record {

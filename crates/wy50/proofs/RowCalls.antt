@@ -31,7 +31,8 @@ use Rattle.wy50.specs.Raw.{flag, numbers, gatheredBack, packed, unpacked
 use Rattle.wy50.specs.Promise.{rawGood, Stepped, RunDone}
 use Rattle.wy50.specs.Rows.{rawListed, rawStepRows, rawRunRows, rawRowsAfter, rawCanRebuild, rawRebuildAnswer, rawRebuilt}
 use Rattle.wy50.proofs.RoundTrip.{possible-fits, unpacked-numbers}
-use Rattle.wy50.proofs.Calls.{good-step, bad-seven, good-run, bad-run-seven, not-bad, not-good, raw-good, numbered, nothing-done, step-left, run-left}
+use Rattle.wy50.proofs.Calls.{good-step, bad-seven, good-run, bad-run-seven, not-bad, not-good, raw-good, numbered, nothing-done, step-left}
+use Rattle.wy50.proofs.Calls.{run-left}
 
 -- the row list of a good state, by its numbers
 pub numbers-rows : (b p : List ℕ) (s : State) → good p s ≡ true → rowsOf p (unpacked (numbers b s)) ≡ rowsOf p s
@@ -63,22 +64,26 @@ module _ (p l : List ℕ) (x : RawState) (w : List ℕ) (bad : rawListed p l x �
   unfolding rawRowsAfter
   rows-left p′ y = rw bad
 
-  step-refused : (b : ℕ) → Stepped (rawStepRows p l x b (length w)) (record { answer = 7; taken = 0; replied = 0; state = x }) p w w × (l ≡ rawRowsAfter p l x p x)
+  step-refused : (b : ℕ)
+      → Stepped (rawStepRows p l x b (length w)) (record { answer = 7; taken = 0; replied = 0; state = x }) p w w × (l ≡ rawRowsAfter p l x p x)
   unfolding rawStepRows over
   step-refused b =
       (rw bad (record { answer = refl; taken = refl; state = refl; replied = refl; page = refl; room = refl; fits = omega arith }), rows-left p x)
 
   run-refused : (i : List ℕ)
-      → RunDone (rawRunRows p l x i (length w)) (record { answer = 7; taken = 0; replied = 0; refused = 0; state = x }) i p w w × (l ≡ rawRowsAfter p l x p x)
+      → RunDone (rawRunRows p l x i (length w)) (record { answer = 7; taken = 0; replied = 0; refused = 0; state = x }) i p w w
+      × (l ≡ rawRowsAfter p l x p x)
   unfolding rawRunRows
   run-refused i = (rw bad (nothing-done p x i w), rows-left p x)
 
 module _ (p l : List ℕ) (x : RawState) (w : List ℕ) (off : named x ≡ false) where
-  pub step-unnamed : (b : ℕ) → Stepped (rawStepRows p l x b (length w)) (record { answer = 7; taken = 0; replied = 0; state = x }) p w w × (l ≡ rawRowsAfter p l x p x)
+  pub step-unnamed : (b : ℕ)
+      → Stepped (rawStepRows p l x b (length w)) (record { answer = 7; taken = 0; replied = 0; state = x }) p w w × (l ≡ rawRowsAfter p l x p x)
   step-unnamed b = step-refused p l x w (unnamed p l x off) b
 
   pub run-unnamed : (i : List ℕ)
-      → RunDone (rawRunRows p l x i (length w)) (record { answer = 7; taken = 0; replied = 0; refused = 0; state = x }) i p w w × (l ≡ rawRowsAfter p l x p x)
+      → RunDone (rawRunRows p l x i (length w)) (record { answer = 7; taken = 0; replied = 0; refused = 0; state = x }) i p w w
+      × (l ≡ rawRowsAfter p l x p x)
   run-unnamed i = run-refused p l x w (unnamed p l x off) i
 
 -- ---- named
@@ -132,7 +137,8 @@ module _ (p l : List ℕ) (x : RawState) (w : List ℕ) {n : ℕ} {s : State} {p
   module _ (b : ℕ) {t : StepResult} (h : terminal.Stepped (stepRowsRule p l s b (length w)) t p′ w w′) (k : l′ ≡ rowsAfter p l s p′ (t .state))
       (a : n ≡ number (t .answer)) where
     pub rows-stepped : {m : ℕ} {y : RawState} → (n ≡ 7 → ⊥) → m ≡ flag (t .taken) → y ≡ packed x (t .state)
-        → Stepped (rawStepRows p l x b (length w)) (record { answer = n; taken = m; replied = t .replied; state = y }) p′ w w′ × (l′ ≡ rawRowsAfter p l x p′ y)
+        → Stepped (rawStepRows p l x b (length w)) (record { answer = n; taken = m; replied = t .replied; state = y }) p′ w w′
+        × (l′ ≡ rawRowsAfter p l x p′ y)
     unfolding rawStepRows rawRowsAfter rowsAfter
     rows-stepped {y = y} z f v =
         let agreed : agrees l p s ≡ true = not-bad (agrees l p s)
@@ -164,7 +170,8 @@ module _ (p l : List ℕ) (x : RawState) (w : List ℕ) {n : ℕ} {s : State} {p
         let left = step-nothing p l s b w seven in
         let bad : rawListed p l x ≡ false = listed-false p l x (λ g f.
         good-step p (unpacked x) b (length w) (named-good p x g)
-        (sym (ap (λ o. o .answer) (equal-results .step p l (unpacked x) b (length w) f)) ∙ ap (λ (y : State). stepRowsRule p l y b (length w) .answer) (sym e) ∙ seven)) in
+        (sym (ap (λ o. o .answer) (equal-results .step p l (unpacked x) b (length w) f))
+        ∙ ap (λ (y : State). stepRowsRule p l y b (length w) .answer) (sym e) ∙ seven)) in
         let r = step-refused p l x w bad b in
         let page : p′ ≡ p = h .page ∙ left .0 in
         let state : t .state ≡ s = h .state ∙ left .1 .0 in (
@@ -175,7 +182,8 @@ module _ (p l : List ℕ) (x : RawState) (w : List ℕ) {n : ℕ} {s : State} {p
   module _ (i : List ℕ) {t : RunResult} (h : terminal.RunDone (runRowsRule p l s i (length w)) t i p′ w w′) (k : l′ ≡ rowsAfter p l s p′ (t .state))
       (a : n ≡ number (t .answer)) where
     pub rows-completed : {y : RawState} → (n ≡ 7 → ⊥) → y ≡ packed x (t .state)
-        → RunDone (rawRunRows p l x i (length w)) (record { answer = n; taken = t .taken; replied = t .replied; refused = t .refused; state = y }) i p′ w w′
+        → RunDone (rawRunRows p l x i (length w))
+        (record { answer = n; taken = t .taken; replied = t .replied; refused = t .refused; state = y }) i p′ w w′
         × (l′ ≡ rawRowsAfter p l x p′ y)
     unfolding rawRunRows rawRowsAfter rowsAfter
     rows-completed {y} z v =
@@ -201,7 +209,8 @@ module _ (p l : List ℕ) (x : RawState) (w : List ℕ) {n : ℕ} {s : State} {p
         let left = run-nothing p l s i w seven in
         let bad : rawListed p l x ≡ false = listed-false p l x (λ g f.
         good-run p (unpacked x) i (length w) (named-good p x g)
-        (sym (ap (λ o. o .answer) (equal-results .run p l (unpacked x) i (length w) f)) ∙ ap (λ (y : State). runRowsRule p l y i (length w) .answer) (sym e) ∙ seven)) in
+        (sym (ap (λ o. o .answer) (equal-results .run p l (unpacked x) i (length w) f))
+        ∙ ap (λ (y : State). runRowsRule p l y i (length w) .answer) (sym e) ∙ seven)) in
         let r = run-refused p l x w bad i in
         let page : p′ ≡ p = h .page ∙ left .0 in
         let state : t .state ≡ s = h .state ∙ left .1 .0 in (
@@ -216,6 +225,7 @@ module _ (p l : List ℕ) (x : RawState) where
   unfolding rawCanRebuild
   rebuilt-unnamed off = rw off (refl, refl)
 
-  pub rebuilt-named : named x ≡ true → {s : State} → s ≡ unpacked x → {n m : ℕ} {l′ : List ℕ} → n ≡ m → m ≡ rebuildAnswer p l s → l′ ≡ rebuilt p l s → (n ≡ rawRebuildAnswer p l x) × (l′ ≡ rawRebuilt p l x)
+  pub rebuilt-named : named x ≡ true → {s : State} → s ≡ unpacked x → {n m : ℕ} {l′ : List ℕ} → n ≡ m → m ≡ rebuildAnswer p l s → l′ ≡ rebuilt p l s
+      → (n ≡ rawRebuildAnswer p l x) × (l′ ≡ rawRebuilt p l x)
   unfolding rawCanRebuild
   rebuilt-named on e n h k = rw (on, ← e) (n ∙ h, k)

@@ -23,9 +23,12 @@ use Rattle.wy50.specs.Raw.{packed, unpacked, named}
 use Rattle.wy50.specs.Promise.{rawGood, rawStep, rawRan, rawRun, badStep, badRun}
 use Rattle.wy50.specs.Rows.{rawListed, rawStepRows, rawRunRows, rawSuited, rawNext, rawRowsAfter, rawCanRebuild}
 use Rattle.wy50.specs.Noninterference.{RawGiven, RawCalled, ofRawStep, ofRawRun, rawCall, RawCompleted, first, later}
-use Rattle.wy50.specs.RowNoninterference.{RawSession, RawRowCalled, left, listed, ofRawNext, handed, heard, runOf, rawRowCall, bareCall, bareCalls, RowMade, bare, listStepped, listRan, nextHeard, rebuiltRows, RowPerformed, none, next, RawRowIndistinguishable, RawRowNoninterference}
+use Rattle.wy50.specs.RowNoninterference.{RawSession, RawRowCalled, left, listed, ofRawNext, handed, heard, runOf, rawRowCall, bareCall}
+use Rattle.wy50.specs.RowNoninterference.{bareCalls, RowMade, bare, listStepped, listRan, nextHeard, rebuiltRows, RowPerformed, none, next}
+use Rattle.wy50.specs.RowNoninterference.{RawRowIndistinguishable, RawRowNoninterference}
 use Rattle.state.proofs.Tests.{both-left}
-use Rattle.wy50.proofs.Noninterference.{RawClosed, AgreeRaw, good-named, numbered-closed, unpacked-on, unpacked-closed, both-good, raw-agrees, made-is}
+use Rattle.wy50.proofs.Noninterference.{RawClosed, AgreeRaw, good-named, numbered-closed, unpacked-on, unpacked-closed, both-good, raw-agrees}
+use Rattle.wy50.proofs.Noninterference.{made-is}
 
 abbrev session : List ℕ → List ℕ → RawState → RawSession
 session p l x = record { page = p; rows = l; state = x }
@@ -43,7 +46,8 @@ step-listed : (p l : List ℕ) (x : RawState) (b room : ℕ) → rawListed p l x
 unfolding rawStepRows rawCall rawStep
 step-listed p l x b room e = rw (e, listed-good p l x e)
 
-run-listed : (p l : List ℕ) (x : RawState) (i : List ℕ) (room : ℕ) → rawListed p l x ≡ true → ofRawRun (rawRunRows p l x i room) ≡ rawCall p x (Run i room)
+run-listed : (p l : List ℕ) (x : RawState) (i : List ℕ) (room : ℕ) → rawListed p l x ≡ true
+    → ofRawRun (rawRunRows p l x i room) ≡ rawCall p x (Run i room)
 unfolding rawRunRows rawCall rawRun
 run-listed p l x i room e = rw (e, listed-good p l x e)
 
@@ -114,11 +118,20 @@ module _ {p q a b : List ℕ} (h : Related p q a b) (l : List ℕ) (x : RawState
       let o = next-suited a k x i room e in
       let v = next-suited b k x i room (sym (both-suited k) ∙ e) in
       let c = Run (take (nextRule a s i room .taken) i) room in
-      let r = next-call-agrees h s (unpacked-closed x closed) i room (not-true _ (λ t. free (first (good-named a x (o .1)) (call-completed a s c t)))) in
+      let r = next-call-agrees h s (unpacked-closed x closed) i room
+      (not-true _ (λ t. free (first (good-named a x (o .1)) (call-completed a s c t)))) in
       let g : ofRun (nextRule b s i room) .given ≡ ofRun (nextRule a s i room) .given = r .given in
       rw (o .0, v .0)
       (record {
-        given = cc (ap (λ (z : Given). z .answer) g, ap (λ (z : Given). getD (z .counts) 0 0) g, ap (λ (z : Given). getD (z .counts) 2 0) g, ap (λ (z : Given). z .reply) g, ap (λ (z : Given). z .rest) g, ap (λ (z : Given). z .state) g);
+        given = cc (
+          ap (λ (z : Given). z .answer) g,
+          ap (λ (z : Given). getD (z .counts) 0 0) g,
+          ap (λ (z : Given). getD (z .counts) 2 0) g,
+          ap
+              (λ (z : Given). z .reply) g,
+          ap (λ (z : Given). z .rest) g,
+          ap (λ (z : Given). z .state) g,
+        );
         related = r .related;
         closed = numbered-closed _ (nextRule a s i room .state) (r .closed);
       })
@@ -138,15 +151,18 @@ module _ {p q a b : List ℕ} (h : Related p q a b) (l : List ℕ) (x : RawState
       by : (t : Bool) → rawListed a l x ≡ t → (RawCompleted (pick t (Step v room ∷ []) []) a x → ⊥)
           → AgreeRaw p q (ofRawStep (rawStepRows a l x v room)) (ofRawStep (rawStepRows b l x v room))
       by true e free =
-          rw (step-listed a l x v room e, step-listed b l x v room (sym both-listed ∙ e)) (raw-agrees h x closed (Step v room) (λ n k. free (first n k)))
-      by false e free = rw (step-unlisted a l x v room e, step-unlisted b l x v room (sym both-listed ∙ e)) (record { given = refl; related = h; closed = closed })
+          rw (step-listed a l x v room e, step-listed b l x v room (sym both-listed ∙ e))
+          (raw-agrees h x closed (Step v room) (λ n k. free (first n k)))
+      by false e free = rw (step-unlisted a l x v room e, step-unlisted b l x v room (sym both-listed ∙ e))
+          (record { given = refl; related = h; closed = closed })
   row-call-agrees (ListRun i room) free = taken-agrees _ _ (by (rawListed a l x) refl free)
     where
       by : (t : Bool) → rawListed a l x ≡ t → (RawCompleted (pick t (Run i room ∷ []) []) a x → ⊥)
           → AgreeRaw p q (ofRawRun (rawRunRows a l x i room)) (ofRawRun (rawRunRows b l x i room))
       by true e free =
           rw (run-listed a l x i room e, run-listed b l x i room (sym both-listed ∙ e)) (raw-agrees h x closed (Run i room) (λ n k. free (first n k)))
-      by false e free = rw (run-unlisted a l x i room e, run-unlisted b l x i room (sym both-listed ∙ e)) (record { given = refl; related = h; closed = closed })
+      by false e free = rw (run-unlisted a l x i room e, run-unlisted b l x i room (sym both-listed ∙ e))
+          (record { given = refl; related = h; closed = closed })
   row-call-agrees (Next with i room) free =
       heard-agrees with _ _ (next-agrees (handed with (session a l x)) i room (rawSuited a (handed with (session a l x)) x) refl free)
   row-call-agrees Rebuild free =
@@ -162,20 +178,23 @@ rest-free x (Bare c) free k = free (later k)
 rest-free x (ListStep b room) {cs} free k = by (rawListed (x .page) (x .rows) (x .state)) refl free k
   where
     by : (t : Bool) → rawListed (x .page) (x .rows) (x .state) ≡ t → (RawCompleted (pick t (Step b room ∷ []) [] ++ cs) (x .page) (x .state) → ⊥)
-        → RawCompleted cs (ofRawStep (rawStepRows (x .page) (x .rows) (x .state) b room) .page) (ofRawStep (rawStepRows (x .page) (x .rows) (x .state) b room) .given .state) → ⊥
+        → RawCompleted cs (ofRawStep (rawStepRows (x .page) (x .rows) (x .state) b room) .page)
+        (ofRawStep (rawStepRows (x .page) (x .rows) (x .state) b room) .given .state) → ⊥
     by true e free k =
         free (later (subst (λ (r : RawCalled). RawCompleted cs (r .page) (r .given .state)) (step-listed (x .page) (x .rows) (x .state) b room e) k))
     by false e free k = free (rw (step-unlisted (x .page) (x .rows) (x .state) b room e) at k)
 rest-free x (ListRun i room) {cs} free k = by (rawListed (x .page) (x .rows) (x .state)) refl free k
   where
     by : (t : Bool) → rawListed (x .page) (x .rows) (x .state) ≡ t → (RawCompleted (pick t (Run i room ∷ []) [] ++ cs) (x .page) (x .state) → ⊥)
-        → RawCompleted cs (ofRawRun (rawRunRows (x .page) (x .rows) (x .state) i room) .page) (ofRawRun (rawRunRows (x .page) (x .rows) (x .state) i room) .given .state) → ⊥
+        → RawCompleted cs (ofRawRun (rawRunRows (x .page) (x .rows) (x .state) i room) .page)
+        (ofRawRun (rawRunRows (x .page) (x .rows) (x .state) i room) .given .state) → ⊥
     by true e free k =
         free (later (subst (λ (r : RawCalled). RawCompleted cs (r .page) (r .given .state)) (run-listed (x .page) (x .rows) (x .state) i room e) k))
     by false e free k = free (rw (run-unlisted (x .page) (x .rows) (x .state) i room e) at k)
 rest-free x (Next with i room) {cs} free k = by (rawSuited (x .page) (handed with x) (x .state)) refl free
   where
-    by : (t : Bool) → rawSuited (x .page) (handed with x) (x .state) ≡ t → (RawCompleted (pick t (runOf x i room ∷ []) [] ++ cs) (x .page) (x .state) → ⊥) → ⊥
+    by : (t : Bool) → rawSuited (x .page) (handed with x) (x .state) ≡ t
+        → (RawCompleted (pick t (runOf x i room ∷ []) [] ++ cs) (x .page) (x .state) → ⊥) → ⊥
     by true e free =
         let r = next-left (x .page) (handed with x) (x .state) i room e in
         free (later (subst₂ (RawCompleted cs) (r .0) (r .1) k))
@@ -199,7 +218,8 @@ row-made-is (nextHeard {w = w} {w′ = w′} {r = r} h c e) =
     cc (h .answer, h .taken, h .replied, h .refused, h .rest, h .state, h .page, front _ w w′ (r .replied) (h .replied) (h .room), c, e)
 row-made-is (rebuiltRows h e) = cc (h, e)
 
-performed-agrees : {calls : List RowCall} {p q a b : List ℕ} {l : List ℕ} {x : RawState} {y z : RawSession} {gs hs : List RawGiven} {ls ms : List (List ℕ)}
+performed-agrees : {calls : List RowCall} {p q a b : List ℕ} {l : List ℕ} {x : RawState} {y z : RawSession} {gs hs : List RawGiven} {ls ms : List
+    (List ℕ)}
     → Related p q a b → RawClosed x → (RawCompleted (bareCalls calls (session a l x)) a x → ⊥)
     → RowPerformed (session a l x) calls gs ls y → RowPerformed (session b l x) calls hs ms z → RawRowIndistinguishable p q gs hs ls ms y z
 unfolding bareCalls
@@ -212,7 +232,8 @@ performed-agrees {p = p} {q = q} {a = a} {l = l} {x = x} h closed free
     subst (λ (r : RawRowCalled). RawCompleted (bareCalls cs (left r)) (r .called .page) (r .called .given .state) → ⊥) (row-made-is m)
     (rest-free (session a l x) c free) in
     let t₁ : RowPerformed (session b₁ l₁ (g .state)) cs ks ns z =
-    subst₂ (λ (w : List ℕ) (v : RawState). RowPerformed (session b₁ w v) cs ks ns z) (sym (r .rows)) (ap (λ (v : RawGiven). v .state) (r .called .given)) t in
+    subst₂ (λ (w : List ℕ) (v : RawState). RowPerformed (session b₁ w v) cs ks ns z) (sym (r .rows))
+    (ap (λ (v : RawGiven). v .state) (r .called .given)) t in
     let e = performed-agrees (r .called .related) (r .called .closed) free₁ f t₁ in
     record {
       given = ap₂ _∷_ (sym (r .called .given)) (e .given);

@@ -1,4 +1,5 @@
--- Whole sessions of the exported calls. A call of the terminal agrees in both terminals (RowNoninterference); a save and a restore look at the numbers
+-- Whole sessions of the exported calls. A call of the terminal agrees in both terminals (RowNoninterference); a save and a restore look at the
+-- numbers
 -- and the store, equal in both, and a restore leaves protect mode and the send under way.
 --     raw-session-noninterference     over lists of calls
 --     raw-stream-noninterference     over one host stream
@@ -33,7 +34,10 @@ use Rattle.wy50.specs.Promise.{rawGood, rawRan, rawRun, badRun}
 use Rattle.wy50.specs.Rows.{rawListed, rawRunRows, rawSuited, rawNext}
 use Rattle.wy50.specs.Noninterference.{rawCall, RawCompleted}
 use Rattle.wy50.specs.RowNoninterference.{RawSession, RawRowCalled, left, handed, rawRowCall, bareCall}
-use Rattle.wy50.specs.Sessions.{RawKept, rawStart, Heard, RawSessionCalled, rawSessionRule, RawSessionCompleted, first, later, RawSessionMade, terminal, saved, restored, RawSessionGiven, rawGivenBy, RawSessionPerformed, none, next, RawSessionIndistinguishable, RawSessionNoninterference, rawHandedBack, rawCallsOf, RawStreamPerformed, RawStreamNoninterference, RawSessionCharacterised, RawGivenBack, RawHandedBack}
+use Rattle.wy50.specs.Sessions.{RawKept, rawStart, Heard, RawSessionCalled, rawSessionRule, RawSessionCompleted, first, later, RawSessionMade}
+use Rattle.wy50.specs.Sessions.{terminal, saved, restored, RawSessionGiven, rawGivenBy, RawSessionPerformed, none, next}
+use Rattle.wy50.specs.Sessions.{RawSessionIndistinguishable, RawSessionNoninterference, rawHandedBack, rawCallsOf, RawStreamPerformed}
+use Rattle.wy50.specs.Sessions.{RawStreamNoninterference, RawSessionCharacterised, RawGivenBack, RawHandedBack}
 use Rattle.wy50.proofs.Noninterference.{RawClosed, numbered-closed, unpacked-closed}
 use Rattle.wy50.proofs.RowNoninterference.{row-call-agrees, row-made-is}
 
@@ -107,7 +111,8 @@ by-terminal (later k) = inr k
 by-save : {cs : List SessionCall} {x : RawKept} → RawSessionCompleted (Save ∷ cs) x → RawSessionCompleted cs (rawSessionRule x Save .kept)
 by-save (later k) = k
 
-by-restore : {n : ℕ} {cs : List SessionCall} {x : RawKept} → RawSessionCompleted (Restore n ∷ cs) x → RawSessionCompleted cs (rawSessionRule x (Restore n) .kept)
+by-restore : {n : ℕ} {cs : List SessionCall} {x : RawKept} → RawSessionCompleted (Restore n ∷ cs) x
+    → RawSessionCompleted cs (rawSessionRule x (Restore n) .kept)
 by-restore (later k) = k
 
 pub raw-session-characterised : RawSessionCharacterised
@@ -132,12 +137,15 @@ pub raw-handed-back : (x : RawSession) (store : List ℕ) → RawHandedBack x st
 unfolding rawSessionRule rawRowCall rawCall rawRun rawRunRows rawNext hostBytes
 raw-handed-back x store = record {
   step = λ b room. refl;
-  run = λ bytes room. pick-rests (rawGood (x .page) (x .state)) (x .page) (x .state) bytes (runRule (x .page) (unpacked (x .state)) bytes room) (run-rests (x .page) (unpacked (x .state)) bytes room);
+  run = λ bytes room. pick-rests (rawGood (x .page) (x .state)) (x .page) (x .state) bytes (runRule (x .page) (unpacked (x .state)) bytes room)
+      (run-rests (x .page) (unpacked (x .state)) bytes room);
   list-step = λ b room. refl;
   list-run = λ bytes room.
-      pick-rests (rawListed (x .page) (x .rows) (x .state)) (x .page) (x .state) bytes (runRule (x .page) (unpacked (x .state)) bytes room) (run-rests (x .page) (unpacked (x .state)) bytes room);
+      pick-rests (rawListed (x .page) (x .rows) (x .state)) (x .page) (x .state) bytes (runRule (x .page) (unpacked (x .state)) bytes room)
+      (run-rests (x .page) (unpacked (x .state)) bytes room);
   next = λ with bytes room.
-      pick-rests (rawSuited (x .page) (handed with x) (x .state)) (x .page) (x .state) bytes (nextRule (x .page) (unpacked (x .state)) bytes room) (next-rests (x .page) (unpacked (x .state)) bytes room);
+      pick-rests (rawSuited (x .page) (handed with x) (x .state)) (x .page) (x .state) bytes (nextRule (x .page) (unpacked (x .state)) bytes room)
+      (next-rests (x .page) (unpacked (x .state)) bytes room);
 }
 
 -- a call alone completes nothing, if it does not before others
@@ -173,13 +181,15 @@ more-agrees {r = r} k e = record {
   pages = e .pages;
 }
 
-performed-agrees : {calls : List SessionCall} {p q a b l store : List ℕ} {x : RawState} {gs hs : List RawSessionGiven} {y z : RawKept} → Related p q a b
+performed-agrees : {calls : List SessionCall} {p q a b l store : List ℕ} {x : RawState} {gs hs : List RawSessionGiven} {y z : RawKept}
+    → Related p q a b
     → RawClosed x → (RawSessionCompleted calls (rawStart a l x store) → ⊥) → RawSessionPerformed (rawStart a l x store) calls gs y
     → RawSessionPerformed (rawStart b l x store) calls hs z → RawSessionIndistinguishable p q gs hs y z
 performed-agrees {l = l} {store = store} {x = x} h closed free none none = none-agrees h l store x closed
 performed-agrees {l = l} {store = store} {x = x} h closed free (next {cs = cs} {r = r} m f) (next {y = z} {r = t} {gs = ks} n g) =
     let k = made-agrees h l store x closed free m n in
-    let g₁ : RawSessionPerformed (withPage r (k .page) .kept) cs ks z = subst (λ (w : RawSessionCalled). RawSessionPerformed (w .kept) cs ks z) (k .but-page) g in
+    let g₁ : RawSessionPerformed (withPage r (k .page) .kept) cs ks z = subst (λ (w : RawSessionCalled). RawSessionPerformed (w .kept) cs ks z)
+    (k .but-page) g in
     more-agrees k (performed-agrees (k .related) (k .closed) (rest-free h l store x closed free m) f g₁)
 
 pub raw-session-noninterference : RawSessionNoninterference
@@ -197,7 +207,8 @@ stream-agrees {stream = stream} {a = a} {l = l} {store = store} {x = x} h closed
     let c = callOf act stream in
     let k = made-agrees h l store x closed free m n in
     let free₁ : RawSessionCompleted (rawCallsOf acts (leftOf stream c (rawHandedBack c (r .told))) (r .kept)) (r .kept) → ⊥ =
-    subst (λ (w : RawSessionCalled). RawSessionCompleted (rawCallsOf acts (leftOf stream c (rawHandedBack c (w .told))) (w .kept)) (w .kept) → ⊥) (made-is m)
+    subst (λ (w : RawSessionCalled). RawSessionCompleted (rawCallsOf acts (leftOf stream c (rawHandedBack c (w .told))) (w .kept)) (w .kept) → ⊥)
+    (made-is m)
     (λ e. free (later e)) in
     let g₁ : RawStreamPerformed (withPage r (k .page) .kept) (leftOf stream c (rawHandedBack c (r .told))) acts ks z v =
     subst (λ (w : RawSessionCalled). RawStreamPerformed (w .kept) (leftOf stream c (rawHandedBack c (w .told))) acts ks z v) (k .but-page) g in

@@ -61,8 +61,11 @@ fn room_for(numbers: usize) -> usize
 
 // The first n spans of three lists, at the front of a list of numbers.
 fn put_spans(rows: &[u16], columns: &[u16], lengths: &[u16], n: usize, numbers: &mut [u16])
-    requires { ⌜ ((n ≤ length (now rows)) × ((n ≤ length (now columns)) × (n ≤ length (now lengths)))) × ((n ≤ 960) × (3 * n ≤ length (now numbers))) ⌝ }
-    ensures { λ r. ⌜ now (numbers .exit) ≡ over (spanNumbers (spansOf (take n (now (rows .entry))) (take n (now (columns .entry))) (take n (now (lengths .entry))))) (now (numbers .entry)) ⌝ }
+    requires { ⌜ ((n ≤ length (now rows)) × ((n ≤ length (now columns)) × (n ≤ length (now lengths))))
+        × ((n ≤ 960) × (3 * n ≤ length (now numbers))) ⌝ }
+    ensures { λ r. ⌜ now (numbers .exit)
+        ≡ over (spanNumbers (spansOf (take n (now (rows .entry))) (take n (now (columns .entry))) (take n (now (lengths .entry)))))
+        (now (numbers .entry)) ⌝ }
 {
     let mut i = 0;
     while i < n {
@@ -85,8 +88,10 @@ fn propose_beside(
     numbers: &mut [u16],
     bytes: &mut [u8],
 ) -> ProposeResult
-    requires { ⌜ (length (now rows) ≡ spanRoom (length (now numbers))) × ((length (now columns) ≡ length (now rows)) × (length (now lengths) ≡ length (now rows))) ⌝ }
-    ensures { λ r. ⌜ RawProposes (numbersRule personality (now (before .entry)) (now (after .entry)) (now (numbers .entry)) (now (bytes .entry))) r (now (numbers .exit)) (now (bytes .exit)) ⌝ }
+    requires { ⌜ (length (now rows) ≡ spanRoom (length (now numbers)))
+        × ((length (now columns) ≡ length (now rows)) × (length (now lengths) ≡ length (now rows))) ⌝ }
+    ensures { λ r. ⌜ RawProposes (numbersRule personality (now (before .entry)) (now (after .entry)) (now (numbers .entry)) (now (bytes .entry))) r
+        (now (numbers .exit)) (now (bytes .exit)) ⌝ }
 {
     let t = propose(before, after, personality, rows, columns, lengths, bytes);
     put_spans(rows, columns, lengths, t.spans as usize, numbers);
@@ -103,7 +108,8 @@ pub extern "C" fn wy50_propose_numbers(
     numbers: &mut [u16],
     bytes: &mut [u8],
 ) -> ProposeResult
-    ensures { λ r. ⌜ RawProposes (rawPropose personality (now (before .entry)) (now (after .entry)) (now (numbers .entry)) (now (bytes .entry))) r (now (numbers .exit)) (now (bytes .exit)) ⌝ }
+    ensures { λ r. ⌜ RawProposes (rawPropose personality (now (before .entry)) (now (after .entry)) (now (numbers .entry)) (now (bytes .entry))) r
+        (now (numbers .exit)) (now (bytes .exit)) ⌝ }
 {
     if !is_personality(personality) {
         return ProposeResult {

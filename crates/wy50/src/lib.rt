@@ -100,7 +100,8 @@ pub extern "C" fn wy50_step(
     byte: u8,
     reply: &mut [u8],
 ) -> RawStep
-    ensures { λ r. ⌜ Stepped (rawStep (now (page .entry)) state byte (length (now (reply .entry)))) r (now (page .exit)) (now (reply .entry)) (now (reply .exit)) ⌝ }
+    ensures { λ r. ⌜ Stepped (rawStep (now (page .entry)) state byte (length (now (reply .entry)))) r (now (page .exit)) (now (reply .entry))
+        (now (reply .exit)) ⌝ }
 {
     if !is_named(state) {
         return RawStep {
@@ -139,7 +140,8 @@ pub extern "C" fn wy50_run(
     input: &[u8],
     reply: &mut [u8],
 ) -> RawRun
-    ensures { λ r. ⌜ RunDone (rawRun (now (page .entry)) state (now (input .entry)) (length (now (reply .entry)))) r (now (input .entry)) (now (page .exit)) (now (reply .entry)) (now (reply .exit)) ⌝ }
+    ensures { λ r. ⌜ RunDone (rawRun (now (page .entry)) state (now (input .entry)) (length (now (reply .entry)))) r (now (input .entry))
+        (now (page .exit)) (now (reply .entry)) (now (reply .exit)) ⌝ }
 {
     if !is_named(state) {
         return RawRun {
@@ -200,7 +202,9 @@ pub extern "C" fn wy50_step_rows(
     byte: u8,
     reply: &mut [u8],
 ) -> RawStep
-    ensures { λ r. ⌜ Stepped (rawStepRows (now (page .entry)) (now (rows .entry)) state byte (length (now (reply .entry)))) r (now (page .exit)) (now (reply .entry)) (now (reply .exit)) × (now (rows .exit) ≡ rawRowsAfter (now (page .entry)) (now (rows .entry)) state (now (page .exit)) (r .state)) ⌝ }
+    ensures { λ r. ⌜ Stepped (rawStepRows (now (page .entry)) (now (rows .entry)) state byte (length (now (reply .entry)))) r (now (page .exit))
+        (now (reply .entry)) (now (reply .exit))
+        × (now (rows .exit) ≡ rawRowsAfter (now (page .entry)) (now (rows .entry)) state (now (page .exit)) (r .state)) ⌝ }
 {
     if !is_named(state) {
         return RawStep {
@@ -239,7 +243,9 @@ pub extern "C" fn wy50_run_rows(
     input: &[u8],
     reply: &mut [u8],
 ) -> RawRun
-    ensures { λ r. ⌜ RunDone (rawRunRows (now (page .entry)) (now (rows .entry)) state (now (input .entry)) (length (now (reply .entry)))) r (now (input .entry)) (now (page .exit)) (now (reply .entry)) (now (reply .exit)) × (now (rows .exit) ≡ rawRowsAfter (now (page .entry)) (now (rows .entry)) state (now (page .exit)) (r .state)) ⌝ }
+    ensures { λ r. ⌜ RunDone (rawRunRows (now (page .entry)) (now (rows .entry)) state (now (input .entry)) (length (now (reply .entry)))) r
+        (now (input .entry)) (now (page .exit)) (now (reply .entry)) (now (reply .exit))
+        × (now (rows .exit) ≡ rawRowsAfter (now (page .entry)) (now (rows .entry)) state (now (page .exit)) (r .state)) ⌝ }
 {
     if !is_named(state) {
         return RawRun {
@@ -281,7 +287,8 @@ pub extern "C" fn wy50_next(
     input: &[u8],
     reply: &mut [u8],
 ) -> RawNext
-    ensures { λ r. ⌜ Heard (now (page .entry)) (now (rows .entry)) state (now (input .entry)) r (now (page .exit)) (now (rows .exit)) (now (reply .entry)) (now (reply .exit)) ⌝ }
+    ensures { λ r. ⌜ Heard (now (page .entry)) (now (rows .entry)) state (now (input .entry)) r (now (page .exit)) (now (rows .exit))
+        (now (reply .entry)) (now (reply .exit)) ⌝ }
 {
     if !is_named(state) {
         return RawNext {
@@ -322,7 +329,8 @@ pub extern "C" fn wy50_next(
 // The row list made anew: its answer. Ruled out: one that rebuilds for numbers that name no state.
 #[no_mangle]
 pub extern "C" fn wy50_rebuild_rows(page: &[u16], rows: &mut [u16], state: RawState) -> u8
-    ensures { λ r. ⌜ (r ≡ rawRebuildAnswer (now (page .entry)) (now (rows .entry)) state) × (now (rows .exit) ≡ rawRebuilt (now (page .entry)) (now (rows .entry)) state) ⌝ }
+    ensures { λ r. ⌜ (r ≡ rawRebuildAnswer (now (page .entry)) (now (rows .entry)) state)
+        × (now (rows .exit) ≡ rawRebuilt (now (page .entry)) (now (rows .entry)) state) ⌝ }
 {
     if !is_named(state) {
         return 7;
@@ -350,7 +358,8 @@ pub extern "C" fn wy50_save(state: RawState, store: &mut [u8]) -> RawSave
 // Restores the settings saved under a number. Ruled out: one that gives other numbers back than it was handed where it refuses.
 #[no_mangle]
 pub extern "C" fn wy50_restore(state: RawState, store: &[u8], number: u16) -> RawRestore
-    ensures { λ r. ⌜ (r .answer ≡ rawRestore state (now (store .entry)) number .answer) × (r .state ≡ stateAfter state (rawRestore state (now (store .entry)) number)) ⌝ }
+    ensures { λ r. ⌜ (r .answer ≡ rawRestore state (now (store .entry)) number .answer)
+        × (r .state ≡ stateAfter state (rawRestore state (now (store .entry)) number)) ⌝ }
 {
     if !is_named(state) {
         return RawRestore {

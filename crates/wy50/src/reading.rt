@@ -35,7 +35,8 @@ pub extern "C" fn wy50_field_text(
     trim: u8,
     text: &mut [u8],
 ) -> TextResult
-    ensures { λ r. ⌜ Read (fieldTextRule (now (page .entry)) start (not (eqb trim 0)) (length (now (text .entry)))) r (now (text .entry)) (now (text .exit)) ⌝ }
+    ensures { λ r. ⌜ Read (fieldTextRule (now (page .entry)) start (not (eqb trim 0)) (length (now (text .entry)))) r (now (text .entry))
+        (now (text .exit)) ⌝ }
 {
     field_text(text, page, start, is_set(trim))
 }
@@ -43,7 +44,8 @@ pub extern "C" fn wy50_field_text(
 // The text of a row, labels too.
 #[no_mangle]
 pub extern "C" fn wy50_row_text(page: &[u16], row: usize, trim: u8, text: &mut [u8]) -> TextResult
-    ensures { λ r. ⌜ Read (rowTextRule (now (page .entry)) row (not (eqb trim 0)) (length (now (text .entry)))) r (now (text .entry)) (now (text .exit)) ⌝ }
+    ensures { λ r. ⌜ Read (rowTextRule (now (page .entry)) row (not (eqb trim 0)) (length (now (text .entry)))) r (now (text .entry))
+        (now (text .exit)) ⌝ }
 {
     row_text(text, page, row, is_set(trim))
 }

@@ -22,8 +22,10 @@ pub unmistaken : Unmistaken
 unfolding textCount sized
 unmistaken l h = by-test (ltb (firstOutside (trimmed l)) (length (trimmed l)))
   where
-    by-test : (t : Bool) → billed (numbers (pick t (Counted.BadByte (firstOutside (trimmed l))) (Counted.Text (capped (units (trimmed l))) (parts (trimmed l))))) ≡ largest
-        → (n : ℕ) × (pick t (Counted.BadByte (firstOutside (trimmed l))) (Counted.Text (capped (units (trimmed l))) (parts (trimmed l))) ≡ Counted.BadByte n)
+    by-test : (t : Bool) → billed
+        (numbers (pick t (Counted.BadByte (firstOutside (trimmed l))) (Counted.Text (capped (units (trimmed l))) (parts (trimmed l))))) ≡ largest
+        → (n : ℕ) × (pick t (Counted.BadByte (firstOutside (trimmed l))) (Counted.Text (capped (units (trimmed l))) (parts (trimmed l)))
+        ≡ Counted.BadByte n)
     by-test true e = (firstOutside (trimmed l), refl)
     by-test false e = absurd (omega (arith, few-parts l h, e))
 

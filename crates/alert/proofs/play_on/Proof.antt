@@ -32,7 +32,17 @@ play-on-spec =
     -- slice-aggregate-show
     (λ c. search needs)
     -- show-requires
-    (λ c κs. (came-length (c .before .before .before .before .before .before .before .before .before .before .before .before .play .ensures), (omega (arith, c .before .before .before .before .before .before .before .before .before .before .before .before .play .kept, c .before .before .before .before .before .before .before .before .before .before .before .before .before .before .before .before .before .before .before .before .before .before .before .before .pre .1), c .before .before .before .before .before .before .before .before .before .before .before .before .play .ensures)))
+    (λ c κs. (
+      came-length (c .before .before .before .before .before .before .before .before .before .before .before .before .play .ensures),
+      (
+        omega (
+          arith,
+          c .before .before .before .before .before .before .before .before .before .before .before .before .play .kept,
+          c .before .before .before .before .before .before .before .before .before .before .before .before .before .before .before .before .before .before .before .before .before .before .before .before .pre .1,
+        ),
+        c .before .before .before .before .before .before .before .before .before .before .before .before .play .ensures,
+      ),
+    ))
     -- same-length-4
     (λ c. omega (arith, c .before .before .before .before .before .before .before .before .before .before .before .before .before .before .before .play .kept, c .before .before .show .kept))
     -- same-length-5

@@ -19,7 +19,8 @@ show-guarded-spec =
     -- slice-aggregate-line
     (λ c. search needs)
     -- line-requires
-    (λ c κs. let k = width-fits (c .before .before .before .before .args .state .core .screen .wide) (c .before .columns .ensures) (c .before .before .before .before .pre .0) in (k .0, (k .1, c .before .before .before .before .pre .1 .0)))
+    (λ c κs. let k = width-fits (c .before .before .before .before .args .state .core .screen .wide) (c .before .columns .ensures)
+    (c .before .before .before .before .pre .0) in (k .0, (k .1, c .before .before .before .before .pre .1 .0)))
     -- array-share-prefix-room
     (λ c. let w = within (c .before .line .ensures) (omega arith) in search needs)
     -- slice-aggregate-text

@@ -14,8 +14,11 @@ begin-spec =
     -- returns
     (λ c.
     let s = c .before .before .before .before .before in
-    let x = s .args in
-    (no-room (now (x .page)) (x .core) (x .plan) (now (x .room)) (s .pre .1 .1 .1) (c .if1 .taken), no-room-beside (now (x .page)) (x .core) (x .plan) (now (x .room)) (s .pre .1 .1 .1) (c .if1 .taken) (s .pre .1 .1 .0)))
+    let x = s .args in (
+      no-room (now (x .page)) (x .core) (x .plan) (now (x .room)) (s .pre .1 .1 .1) (c .if1 .taken),
+      no-room-beside (now (x .page)) (x .core) (x .plan)
+          (now (x .room)) (s .pre .1 .1 .1) (c .if1 .taken) (s .pre .1 .1 .0),
+    ))
     -- width-of-requires
     (λ c κs. search needs)
     -- cast-width
@@ -39,5 +42,8 @@ begin-spec =
     let width = kept .before .before in
     let first = width .before .before in
     let s = first .before .before .before .before .before in
-    let x = s .args in
-    (begun-out (now (x .page)) (x .core) (x .plan) (now (x .room)) (s .pre .1 .1 .1) (first .if1 .left) (c .before .before .send .ensures), begun-beside (now (x .page)) (x .core) (x .plan) (now (x .room)) (s .pre .1 .1 .1) (first .if1 .left) (width .width-of .ensures) (kept .keep-list .ensures))))
+    let x = s .args in (
+      begun-out (now (x .page)) (x .core) (x .plan) (now (x .room)) (s .pre .1 .1 .1) (first .if1 .left) (c .before .before .send .ensures),
+      begun-beside (now (x .page)) (x .core) (x .plan) (now (x .room)) (s .pre .1 .1 .1) (first .if1 .left) (width .width-of .ensures)
+          (kept .keep-list .ensures),
+    )))

@@ -40,8 +40,11 @@ carry-out-spec =
     (λ c κs.
     let written = c .before .before .before .before .before .before in
     let width = written .before .before .before .before in
-    let s = width .before .before .before .before .before .before .before in
-    (written .write-both .kept .0 ∙ s .pre .0, (s .pre .1 .0 .screen, (s .pre .1 .0 .place, rw (← (width .width-of .ensures)) (written .write-both .ensures .1)))))
+    let s = width .before .before .before .before .before .before .before in (
+      written .write-both .kept .0
+          ∙ s .pre .0,
+      (s .pre .1 .0 .screen, (s .pre .1 .0 .place, rw (← (width .width-of .ensures)) (written .write-both .ensures .1))),
+    ))
     -- same-length-4
     (λ c.
     let written = c .before .before .before .before .before .before .before in
@@ -57,5 +60,10 @@ carry-out-spec =
     let first = width .before .before in
     let judged = first .before in
     let s = judged .before .before .before .before in
-    let x = s .args in
-    (carried-out (now (x .page)) (x .core) (x .plan) (now (x .room)) (sym (judged .is-sending .ensures) ∙ first .if1 .left) (width .width-of .ensures) refl (written .write-both .ensures .0) (c .land .ensures), carried-beside (now (x .page)) (x .core) (x .plan) (now (x .room)) (sym (judged .is-sending .ensures) ∙ first .if1 .left) (width .width-of .ensures) (written .write-both .ensures .0) (written .write-both .ensures .1))))
+    let x = s .args in (
+      carried-out (now (x .page)) (x .core) (x .plan) (now (x .room)) (sym (judged .is-sending .ensures) ∙ first .if1 .left)
+          (width .width-of .ensures) refl (written .write-both .ensures .0) (c .land .ensures),
+      carried-beside (now (x .page)) (x .core) (x .plan)
+          (now (x .room)) (sym (judged .is-sending .ensures) ∙ first .if1 .left) (width .width-of .ensures) (written .write-both .ensures .0)
+          (written .write-both .ensures .1),
+    )))

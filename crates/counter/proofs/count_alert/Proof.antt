@@ -36,5 +36,10 @@ count-alert-spec =
     -- returns
     (λ c.
     let x = c .before .before .before .before .before .before .before .before .before .before .before .before .before .before .before .before .before .before .args in
-    asks (now (x .page)) (x .state) (x .first) (x .last) (c .before .before .before .before .before .before .before .before .before .before .ask .last .0) (now (x .room)) (c .before .before .before .before .before .before .before .before .before .before .ask .last .1 .1 .1 .0) _ (c .before .before .before .before .before .before .before .before .before .before .before .before .before .before .has-length .ensures)
-    (c .before .before .before .before .before .before .before .before .before .before .before .before .before .is-ready .ensures) (c .before .before .before .before .before .before .before .before .before .before .ask .ensures) (c .before .before .before .count .ensures) (c .before .before .answer-number .ensures) (c .before .is-cut .ensures) (c .tell .ensures)))
+    asks (now (x .page)) (x .state) (x .first) (x .last)
+    (c .before .before .before .before .before .before .before .before .before .before .ask .last .0) (now (x .room))
+    (c .before .before .before .before .before .before .before .before .before .before .ask .last .1 .1 .1 .0) _
+    (c .before .before .before .before .before .before .before .before .before .before .before .before .before .before .has-length .ensures)
+    (c .before .before .before .before .before .before .before .before .before .before .before .before .before .is-ready .ensures)
+    (c .before .before .before .before .before .before .before .before .before .before .ask .ensures) (c .before .before .before .count .ensures)
+    (c .before .before .answer-number .ensures) (c .before .is-cut .ensures) (c .tell .ensures)))

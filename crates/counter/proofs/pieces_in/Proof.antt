@@ -26,6 +26,15 @@ pieces-in-spec =
     -- marks-in-requires
     (λ c κs. search needs)
     -- add-result
-    (λ c. omega (arith, c .marks-in .ensures .1, length-take-le (length (now (c .before .before .before .before .before .args .reply)) - 1) (now (c .before .before .before .before .before .args .reply)) (omega arith), some-byte (now (c .before .before .before .before .before .args .reply)) (sym (c .before .before .before .has-return .ensures) ∙ not-false _ (c .before .before .if1 .left))))
+    (λ c. omega (
+      arith,
+      c .marks-in .ensures .1,
+      length-take-le (length (now (c .before .before .before .before .before .args .reply)) - 1)
+          (now (c .before .before .before .before .before .args .reply)) (omega arith),
+      some-byte
+          (now (c .before .before .before .before .before .args .reply))
+          (sym (c .before .before .before .has-return .ensures) ∙ not-false _ (c .before .before .if1 .left)),
+    ))
     -- returns-2
-    (λ c. pieces-some (now (c .before .before .before .before .before .args .reply)) (sym (c .before .before .before .has-return .ensures) ∙ not-false _ (c .before .before .if1 .left)) (c .marks-in .ensures .0)))
+    (λ c. pieces-some (now (c .before .before .before .before .before .args .reply))
+    (sym (c .before .before .before .has-return .ensures) ∙ not-false _ (c .before .before .if1 .left)) (c .marks-in .ensures .0)))

@@ -22,7 +22,9 @@ next-field-spec =
     -- no-field-requires
     (λ c κs. search needs)
     -- returns
-    (λ c. c .no-field .ensures ∙ no-page-field (now (c .before .before .before .before .args .page)) (c .before .before .page-width .ensures) (c .before .if1 .taken) (c .before .before .before .before .args .from))
+    (λ c. c .no-field .ensures
+    ∙ no-page-field (now (c .before .before .before .before .args .page)) (c .before .before .page-width .ensures) (c .before .if1 .taken)
+    (c .before .before .before .before .args .from))
     -- next-start-requires
     (λ c κs.
     let k = page-of (length (now (c .before .before .before .args .page))) (c .before .page-width .ensures) (c .if1 .left) in
@@ -30,10 +32,14 @@ next-field-spec =
     -- no-field-requires-2
     (λ c κs. search needs)
     -- returns-2
-    (λ c. c .no-field2 .ensures ∙ no-field (now (c .before .before .before .before .before .before .args .page)) (c .before .before .before .before .page-width .ensures) (c .before .before .before .if1 .left) (c .before .before .before .before .before .before .args .from) (c .before .before .next-start .ensures) (c .before .if2 .taken))
+    (λ c. c .no-field2 .ensures
+    ∙ no-field (now (c .before .before .before .before .before .before .args .page)) (c .before .before .before .before .page-width .ensures)
+    (c .before .before .before .if1 .left) (c .before .before .before .before .before .before .args .from)
+    (c .before .before .next-start .ensures) (c .before .if2 .taken))
     -- edit-end-requires
     (λ c κs.
-    let k = page-of (length (now (c .before .before .before .before .before .args .page))) (c .before .before .before .page-width .ensures) (c .before .before .if1 .left) in
+    let k = page-of (length (now (c .before .before .before .before .before .args .page))) (c .before .before .before .page-width .ensures)
+    (c .before .before .if1 .left) in
     (k .0, (k .1, omega (arith, k .1, c .if2 .left))))
     -- sub-t6
     (λ c.
@@ -41,14 +47,20 @@ next-field-spec =
     let k = page-of (length p) (c .before .before .before .before .page-width .ensures) (c .before .before .before .if1 .left) in
     let g = guardedAt true p in
     let n = length-guards true p in
-    let r = edit-range (c .before .before .before .before .page-width .result) g (c .before .before .next-start .result) (k .0) (n ∙ k .1) (omega (arith, k .1, c .before .if2 .left)) in
+    let r = edit-range (c .before .before .before .before .page-width .result) g (c .before .before .next-start .result) (k .0) (n ∙ k .1)
+    (omega (arith, k .1, c .before .if2 .left)) in
     rw (c .edit-end .ensures) (r .0))
     -- row-of-requires
-    (λ c κs. page-of (length (now (c .before .before .before .before .before .before .args .page))) (c .before .before .before .before .page-width .ensures) (c .before .before .before .if1 .left) .0)
+    (λ c κs. page-of (length (now (c .before .before .before .before .before .before .args .page)))
+    (c .before .before .before .before .page-width .ensures) (c .before .before .before .if1 .left) .0)
     -- column-of-requires
-    (λ c κs. page-of (length (now (c .before .before .before .before .before .before .before .args .page))) (c .before .before .before .before .before .page-width .ensures) (c .before .before .before .before .if1 .left) .0)
+    (λ c κs. page-of (length (now (c .before .before .before .before .before .before .before .args .page)))
+    (c .before .before .before .before .before .page-width .ensures) (c .before .before .before .before .if1 .left) .0)
     -- returns-3
     (λ c.
     let p = now (c .before .before .before .before .before .before .before .before .args .page) in
-    made (c .before .before .before .before .before .before .page-width .result) p (c .before .before .before .before .next-start .result) (c .before .before .edit-end .ensures) (c .before .row-of .ensures) (c .column-of .ensures)
-    ∙ a-field p (c .before .before .before .before .before .before .page-width .ensures) (c .before .before .before .before .before .if1 .left) (c .before .before .before .before .before .before .before .before .args .from) (c .before .before .before .before .next-start .ensures) (omega (arith, c .before .before .before .if2 .left))))
+    made (c .before .before .before .before .before .before .page-width .result) p (c .before .before .before .before .next-start .result)
+    (c .before .before .edit-end .ensures) (c .before .row-of .ensures) (c .column-of .ensures)
+    ∙ a-field p (c .before .before .before .before .before .before .page-width .ensures) (c .before .before .before .before .before .if1 .left)
+    (c .before .before .before .before .before .before .before .before .args .from) (c .before .before .before .before .next-start .ensures)
+    (omega (arith, c .before .before .before .if2 .left))))

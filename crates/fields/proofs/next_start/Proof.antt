@@ -34,7 +34,8 @@ next-start-spec =
     let l = c .before .before .before .loop in
     let m = fieldStarts (x .width) (now (x .page)) in
     let n = length-starts (x .width) (now (x .page)) in
-    sym (l .inv ∙ hit m (l .at) (length (now (x .page))) (c .before .before .loop-test .taken) (omega arith) (c .before .starts-field .ensures) (c .if1 .taken)))
+    sym (l .inv ∙ hit m (l .at) (length (now (x .page))) (c .before .before .loop-test .taken) (omega arith) (c .before .starts-field .ensures)
+    (c .if1 .taken)))
     -- add-at
     (λ c. search needs)
     -- loop-less
@@ -45,10 +46,12 @@ next-start-spec =
     let l = c .before .before .before .loop in
     let m = fieldStarts (x .width) (now (x .page)) in
     let n = length-starts (x .width) (now (x .page)) in
-    l .inv ∙ miss m (l .at) (length (now (x .page))) (c .before .before .loop-test .taken) (omega arith) (c .before .starts-field .ensures) (c .if1 .left))
+    l .inv ∙ miss m (l .at) (length (now (x .page))) (c .before .before .loop-test .taken) (omega arith) (c .before .starts-field .ensures)
+    (c .if1 .left))
     -- returns-2
     (λ c.
     let x = c .before .before .before .args in
     let l = c .before .loop in
     let n = length-starts (x .width) (now (x .page)) in
-    sym (l .inv ∙ first-past (fieldStarts (x .width) (now (x .page))) (l .at) (length (now (x .page))) (omega arith) (omega (arith, c .loop-test .left)))))
+    sym (l .inv ∙ first-past (fieldStarts (x .width) (now (x .page))) (l .at) (length (now (x .page))) (omega arith)
+    (omega (arith, c .loop-test .left)))))

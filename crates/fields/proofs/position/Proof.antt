@@ -16,10 +16,15 @@ position-spec =
     -- returns
     (λ c. no-page-position (c .before .before .args .cells) (c .before .page-width .ensures) (c .if1 .taken) (c .before .before .args .at))
     -- returns-2
-    (λ c. outside (c .before .before .before .args .cells) (c .before .before .page-width .ensures) (c .before .if1 .left) (c .before .before .before .args .at) (c .if2 .taken))
+    (λ c. outside (c .before .before .before .args .cells) (c .before .before .page-width .ensures) (c .before .if1 .left)
+    (c .before .before .before .args .at) (c .if2 .taken))
     -- row-of-requires
     (λ c κs. page-of (c .before .before .before .args .cells) (c .before .before .page-width .ensures) (c .before .if1 .left) .0)
     -- column-of-requires
-    (λ c κs. page-of (c .before .before .before .before .args .cells) (c .before .before .before .page-width .ensures) (c .before .before .if1 .left) .0)
+    (λ c κs. page-of (c .before .before .before .before .args .cells) (c .before .before .before .page-width .ensures)
+    (c .before .before .if1 .left) .0)
     -- returns-3
-    (λ c. placed (c .before .before .before .before .page-width .result) (c .before .before .before .before .before .args .at) (c .before .row-of .ensures) (c .column-of .ensures) ∙ inside (c .before .before .before .before .before .args .cells) (c .before .before .before .before .page-width .ensures) (c .before .before .before .if1 .left) (c .before .before .before .before .before .args .at) (omega (arith, c .before .before .if2 .left))))
+    (λ c. placed (c .before .before .before .before .page-width .result) (c .before .before .before .before .before .args .at)
+    (c .before .row-of .ensures) (c .column-of .ensures)
+    ∙ inside (c .before .before .before .before .before .args .cells) (c .before .before .before .before .page-width .ensures)
+    (c .before .before .before .if1 .left) (c .before .before .before .before .before .args .at) (omega (arith, c .before .before .if2 .left))))

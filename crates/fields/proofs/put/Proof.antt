@@ -25,7 +25,14 @@ put-spec =
     Inv-loop
     μ-loop
     -- loop-holds
-    (λ c. (omega arith, (omega arith, over-none (c .before .before .args .from) (now (c .before .before .args .page)) (now (c .before .before .args .room)))))
+    (λ c. (
+      omega arith,
+      (
+        omega arith,
+        over-none (c .before .before .args .from) (now (c .before .before .args .page))
+            (now (c .before .before .args .room)),
+      ),
+    ))
     -- mul-sent-code
     (λ c. search needs)
     -- shared-slice-read-sent-code
@@ -40,7 +47,8 @@ put-spec =
     let l = c .before .before .before .loop in
     let k = c .before .before .before .before .before .before .pre in
     let n = text-size (x .from) (l .i) (now (x .page)) (omega (arith, k .1 .0, l .inv .1 .0)) in
-    rw (l .inv .1 .1, length-over (map sent (slice (x .from) (l .i) (now (x .page)))) (now (x .room)) (omega (arith, n, k, l .inv .1 .0))) (omega (arith, k, l .inv .0, c .before .before .loop-test .taken)))
+    rw (l .inv .1 .1, length-over (map sent (slice (x .from) (l .i) (now (x .page)))) (now (x .room)) (omega (arith, n, k, l .inv .1 .0)))
+    (omega (arith, k, l .inv .0, c .before .before .loop-test .taken)))
     -- add-i
     (λ c. search needs)
     -- loop-less
@@ -53,7 +61,9 @@ put-spec =
       omega (arith, l .inv .0),
       (
         omega (arith, c .before .before .loop-test .taken),
-        rw (l .inv .1 .1) (over-next (x .from) (l .i) (now (x .page)) (now (x .room)) (l .inv .0) (omega (arith, k .1 .0, c .before .before .loop-test .taken)) (omega (arith, k, l .inv .0, c .before .before .loop-test .taken)) (c .sent-code .ensures)),
+        rw (l .inv .1 .1) (over-next (x .from) (l .i) (now (x .page)) (now (x .room)) (l .inv .0)
+            (omega (arith, k .1 .0, c .before .before .loop-test .taken)) (omega (arith, k, l .inv .0, c .before .before .loop-test .taken))
+            (c .sent-code .ensures)),
       ),
     ))
     -- same-length

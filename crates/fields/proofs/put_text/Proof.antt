@@ -28,7 +28,8 @@ put-text-spec =
     let t = c .before .before .text-end .ensures in
     let k = c .before .before .before .before .before .pre in
     let n = text-size (x .from) (c .before .before .text-end .result) (now (x .page)) (omega (arith, k, t .1 .0)) in
-    read-as (no-room (textOf (x .trim) (x .from) (x .end) (now (x .page))) (length (now (x .room))) (rw (← t .1 .1) (omega (arith, n, c .before .if1 .taken)))) (c .refused .ensures (now (x .room))))
+    read-as (no-room (textOf (x .trim) (x .from) (x .end) (now (x .page))) (length (now (x .room)))
+    (rw (← t .1 .1) (omega (arith, n, c .before .if1 .taken)))) (c .refused .ensures (now (x .room))))
     -- put-requires
     (λ c κs.
     let t = c .before .before .text-end .ensures in
@@ -42,7 +43,9 @@ put-text-spec =
     let t = c .before .before .before .before .before .text-end .ensures in
     let k = c .before .before .before .before .before .before .before .before .pre in
     let n = text-size (x .from) (c .before .before .before .before .before .text-end .result) (now (x .page)) (omega (arith, k, t .1 .0)) in
-    rw (c .before .before .put .ensures) (length-over (map sent (slice (x .from) (c .before .before .before .before .before .text-end .result) (now (x .page)))) (now (x .room)) (omega (arith, n, c .before .before .before .before .if1 .left))))
+    rw (c .before .before .put .ensures)
+    (length-over (map sent (slice (x .from) (c .before .before .before .before .before .text-end .result) (now (x .page)))) (now (x .room))
+    (omega (arith, n, c .before .before .before .before .if1 .left))))
     -- returns-2
     (λ c.
     let x = c .before .before .before .before .before .before .before .before .args in

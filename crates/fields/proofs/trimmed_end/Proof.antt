@@ -42,7 +42,8 @@ trimmed-end-spec =
       l .inv .0,
       (
         l .inv .1 .0,
-        text-keep (x .from) (l .to) (now (x .page)) (c .before .before .before .loop-test .taken) (omega (arith, k .1 .0, l .inv .1 .0)) (c .before .sent-code .ensures) (c .if1 .taken) ∙ l .inv .1 .1,
+        text-keep (x .from) (l .to) (now (x .page)) (c .before .before .before .loop-test .taken) (omega (arith, k .1 .0, l .inv .1 .0))
+            (c .before .sent-code .ensures) (c .if1 .taken) ∙ l .inv .1 .1,
       ),
     ))
     -- sub-to
@@ -57,7 +58,8 @@ trimmed-end-spec =
       omega (arith, c .before .before .before .loop-test .taken),
       (
         omega (arith, l .inv .1 .0),
-        text-drop (x .from) (l .to) (now (x .page)) (c .before .before .before .loop-test .taken) (omega (arith, k .1 .0, l .inv .1 .0)) (c .before .sent-code .ensures) (c .if1 .left) ∙ l .inv .1 .1,
+        text-drop (x .from) (l .to) (now (x .page)) (c .before .before .before .loop-test .taken) (omega (arith, k .1 .0, l .inv .1 .0))
+            (c .before .sent-code .ensures) (c .if1 .left) ∙ l .inv .1 .1,
       ),
     ))
     -- returns-2

@@ -31,12 +31,25 @@ damaged-count-spec =
     -- is-writable-requires
     (λ c κs. search needs)
     -- counted-requires
-    (λ c κs. omega (arith, count-below (c .before .before .before .before .before .args .personality) (now (c .before .before .before .before .before .args .page)) (c .before .before .before .loop .i) (c .before .before .before .loop .inv .1) (c .before .before .before .loop .inv .0), c .before .before .loop-test .taken, c .before .before .before .before .before .pre))
+    (λ c κs. omega (
+      arith,
+      count-below (c .before .before .before .before .before .args .personality)
+          (now (c .before .before .before .before .before .args .page)) (c .before .before .before .loop .i) (c .before .before .before .loop .inv .1)
+          (c .before .before .before .loop .inv .0),
+      c .before .before .loop-test .taken,
+      c .before .before .before .before .before .pre,
+    ))
     -- add-i
     (λ c. search needs)
     -- loop-less
     (λ c. omega (arith, c .before .before .before .loop-test .taken))
     -- loop-again
-    (λ c. let x = c .before .before .before .before .before .before .args in (omega (arith, c .before .before .before .loop-test .taken), count-next (x .personality) (now (x .page)) (c .before .before .before .before .loop .i) (c .before .before .before .before .loop .inv .1) (c .before .before .before .loop-test .taken) (c .before .is-writable .ensures) (c .counted .ensures)))
+    (λ c. let x = c .before .before .before .before .before .before .args in (
+      omega (arith, c .before .before .before .loop-test .taken),
+      count-next
+          (x .personality) (now (x .page)) (c .before .before .before .before .loop .i) (c .before .before .before .before .loop .inv .1)
+          (c .before .before .before .loop-test .taken) (c .before .is-writable .ensures) (c .counted .ensures),
+    ))
     -- returns
-    (λ c. count-all (c .before .before .before .args .personality) (now (c .before .before .before .args .page)) (c .before .loop .i) (c .before .loop .inv .1) (omega (arith, c .loop-test .left))))
+    (λ c. count-all (c .before .before .before .args .personality) (now (c .before .before .before .args .page)) (c .before .loop .i)
+    (c .before .loop .inv .1) (omega (arith, c .loop-test .left))))

@@ -15,12 +15,17 @@ is-attribute-cell-spec =
     -- is-flags-requires
     (λ c κs. search needs)
     -- returns
-    (λ c. no-flags (c .before .before .args .personality) (c .before .before .args .v) (sym (c .before .is-flags .ensures) ∙ not-true _ (c .if1 .taken)))
+    (λ c. no-flags (c .before .before .args .personality) (c .before .before .args .v)
+    (sym (c .before .is-flags .ensures) ∙ not-true _ (c .if1 .taken)))
     -- enum-told
     (λ c. search needs)
     -- enum-told-2
     (λ c. search needs)
     -- returns-2
-    (λ c. flags-50 (c .before .before .before .before .args .v) (sym (c .before .before .before .is-flags .ensures) ∙ not-false _ (c .before .before .if1 .left)) ∙ sym (ap (λ (m : Personality). isAttributeCell m (c .before .before .before .before .args .v)) (c .enum-told .given .1)))
+    (λ c. flags-50 (c .before .before .before .before .args .v)
+    (sym (c .before .before .before .is-flags .ensures) ∙ not-false _ (c .before .before .if1 .left))
+    ∙ sym (ap (λ (m : Personality). isAttributeCell m (c .before .before .before .before .args .v)) (c .enum-told .given .1)))
     -- returns-3
-    (λ c. flags-60 (c .before .before .before .before .args .v) (sym (c .before .before .before .is-flags .ensures) ∙ not-false _ (c .before .before .if1 .left)) ∙ sym (ap (λ (m : Personality). isAttributeCell m (c .before .before .before .before .args .v)) (c .enum-told2 .given .1))))
+    (λ c. flags-60 (c .before .before .before .before .args .v)
+    (sym (c .before .before .before .is-flags .ensures) ∙ not-false _ (c .before .before .if1 .left))
+    ∙ sym (ap (λ (m : Personality). isAttributeCell m (c .before .before .before .before .args .v)) (c .enum-told2 .given .1))))

@@ -16,14 +16,23 @@ is-stored-spec =
     -- is-remembered-requires
     (λ c κs. search needs)
     -- returns-2
-    (λ c. let x = c .before .before .before .args in not-remembered (x .personality) (x .v) (omega (arith, c .before .before .if1 .left)) (sym (c .before .is-remembered .ensures) ∙ not-true _ (c .if2 .taken)))
+    (λ c. let x = c .before .before .before .args in not-remembered (x .personality) (x .v) (omega (arith, c .before .before .if1 .left))
+    (sym (c .before .is-remembered .ensures) ∙ not-true _ (c .if2 .taken)))
     -- is-between-requires
     (λ c κs. search needs)
     -- returns-3
-    (λ c. let x = c .before .before .before .before .before .args in is-text (x .personality) (x .v) (omega (arith, c .before .before .before .before .if1 .left)) (sym (c .before .before .before .is-remembered .ensures) ∙ not-false _ (c .before .before .if2 .left)) (c .before .if3 .taken) (c .is-between .ensures))
+    (λ c. let x = c .before .before .before .before .before .args in is-text (x .personality) (x .v)
+    (omega (arith, c .before .before .before .before .if1 .left))
+    (sym (c .before .before .before .is-remembered .ensures) ∙ not-false _ (c .before .before .if2 .left)) (c .before .if3 .taken)
+    (c .is-between .ensures))
     -- is-between-requires-2
     (λ c κs. search needs)
     -- returns-4
-    (λ c. let x = c .before .before .before .before .before .before .args in is-graphic (x .personality) (x .v) (omega (arith, c .before .before .before .before .before .if1 .left)) (sym (c .before .before .before .before .is-remembered .ensures) ∙ not-false _ (c .before .before .before .if2 .left)) (c .before .if4 .taken) (c .is-between2 .ensures))
+    (λ c. let x = c .before .before .before .before .before .before .args in is-graphic (x .personality) (x .v)
+    (omega (arith, c .before .before .before .before .before .if1 .left))
+    (sym (c .before .before .before .before .is-remembered .ensures) ∙ not-false _ (c .before .before .before .if2 .left)) (c .before .if4 .taken)
+    (c .is-between2 .ensures))
     -- returns-5
-    (λ c. let x = c .before .before .before .before .before .args in is-neither (x .personality) (x .v) (omega (arith, c .before .before .before .before .if1 .left)) (sym (c .before .before .before .is-remembered .ensures) ∙ not-false _ (c .before .before .if2 .left)) (c .before .if3 .left) (c .if4 .left)))
+    (λ c. let x = c .before .before .before .before .before .args in is-neither (x .personality) (x .v)
+    (omega (arith, c .before .before .before .before .if1 .left))
+    (sym (c .before .before .before .is-remembered .ensures) ∙ not-false _ (c .before .before .if2 .left)) (c .before .if3 .left) (c .if4 .left)))

@@ -20,4 +20,8 @@ is-writable-spec =
     -- is-attribute-cell-requires
     (λ c κs. search needs)
     -- returns-3
-    (λ c. rw (ne-eqb (c .before .before .before .before .args .v) 0 (c .before .before .before .if1 .left), sym (c .before .before .is-stored .ensures) ∙ c .before .if2 .left) (c .is-attribute-cell .ensures)))
+    (λ c. rw (
+      ne-eqb (c .before .before .before .before .args .v) 0 (c .before .before .before .if1 .left),
+      sym
+          (c .before .before .is-stored .ensures) ∙ c .before .if2 .left,
+    ) (c .is-attribute-cell .ensures)))

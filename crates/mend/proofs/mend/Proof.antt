@@ -16,18 +16,23 @@ mend-spec =
     -- page-width-requires
     (λ c κs. search needs)
     -- returns
-    (λ c. let x = c .before .before .before .before .args in gives-no-page (x .personality) (now (x .page)) (now (x .list)) (c .before .page-width .ensures) (c .if1 .taken))
+    (λ c. let x = c .before .before .before .before .args in gives-no-page (x .personality) (now (x .page)) (now (x .list))
+    (c .before .page-width .ensures) (c .if1 .taken))
     -- damaged-count-requires
-    (λ c κs. let k = page-of (length (now (c .before .before .before .before .before .args .page))) (c .before .before .page-width .ensures) (c .before .if1 .left) in omega (arith, k .1, page-small (k .0)))
+    (λ c κs. let k = page-of (length (now (c .before .before .before .before .before .args .page))) (c .before .before .page-width .ensures)
+    (c .before .if1 .left) in omega (arith, k .1, page-small (k .0)))
     -- cast-if2
     (λ c. search needs)
     -- same-length
     (λ c. search needs)
     -- returns-2
-    (λ c. let x = c .before .before .before .before .before .before .before .args in gives-short (x .personality) (now (x .page)) (now (x .list)) (c .before .before .before .before .page-width .ensures) (c .before .before .before .if1 .left) (c .before .damaged-count .ensures) (c .if2 .taken))
+    (λ c. let x = c .before .before .before .before .before .before .before .args in gives-short (x .personality) (now (x .page)) (now (x .list))
+    (c .before .before .before .before .page-width .ensures) (c .before .before .before .if1 .left) (c .before .damaged-count .ensures)
+    (c .if2 .taken))
     -- mend-cells-requires
     (λ c κs.
-    let k = page-of (length (now (c .before .before .before .before .before .before .before .before .before .args .page))) (c .before .before .before .before .before .before .page-width .ensures) (c .before .before .before .before .before .if1 .left) in
+    let k = page-of (length (now (c .before .before .before .before .before .before .before .before .before .args .page)))
+    (c .before .before .before .before .before .before .page-width .ensures) (c .before .before .before .before .before .if1 .left) in
     (k .0, (omega (arith, k .1, page-small (k .0)), omega (arith, c .before .before .before .damaged-count .ensures, c .before .before .if2 .left))))
     -- same-length-2
     (λ c. search needs)

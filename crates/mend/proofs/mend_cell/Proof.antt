@@ -18,7 +18,8 @@ mend-cell-spec =
     -- is-writable-requires
     (λ c κs. search needs)
     -- returns
-    (λ c. let x = c .before .before .before .before .before .args in cell-stays (x .personality) (x .width) (x .at) (x .n) (now (x .page)) (now (x .list)) (sym (c .before .is-writable .ensures) ∙ c .if1 .taken))
+    (λ c. let x = c .before .before .before .before .before .args in cell-stays (x .personality) (x .width) (x .at) (x .n) (now (x .page))
+    (now (x .list)) (sym (c .before .is-writable .ensures) ∙ c .if1 .taken))
     -- mul-page
     (λ c. search needs)
     -- slice-write-page
@@ -32,8 +33,11 @@ mend-cell-spec =
     -- put-entry-requires
     (λ c κs.
     let x = c .before .before .before .before .before .before .before .before .args in
-    let k = c .before .before .before .before .before .before .before .before .pre .1 .1 .1 in
-    (omega (arith, k .0), room-for-one (x .personality) (x .width) (x .at) (x .n) (now (x .page)) (now (x .list)) (sym (c .before .before .before .before .is-writable .ensures) ∙ c .before .before .before .if1 .left) (k .1)))
+    let k = c .before .before .before .before .before .before .before .before .pre .1 .1 .1 in (
+      omega (arith, k .0),
+      room-for-one (x .personality) (x .width) (x .at) (x .n) (now (x .page)) (now (x .list))
+          (sym (c .before .before .before .before .is-writable .ensures) ∙ c .before .before .before .if1 .left) (k .1),
+    ))
     -- add-result
     (λ c. search needs)
     -- same-length
@@ -43,4 +47,7 @@ mend-cell-spec =
     -- returns-2
     (λ c.
     let x = c .before .before .before .before .before .before .before .before .before .before .before .args in
-    cell-changes (x .personality) (x .width) (x .at) (x .n) (now (x .page)) (now (x .list)) (sym (c .before .before .before .before .before .before .before .is-writable .ensures) ∙ c .before .before .before .before .before .before .if1 .left) (c .before .before .before .before .row-number .ensures) (c .before .before .before .column-number .ensures) (c .before .before .put-entry .ensures)))
+    cell-changes (x .personality) (x .width) (x .at) (x .n) (now (x .page)) (now (x .list))
+    (sym (c .before .before .before .before .before .before .before .is-writable .ensures)
+    ∙ c .before .before .before .before .before .before .if1 .left) (c .before .before .before .before .row-number .ensures)
+    (c .before .before .before .column-number .ensures) (c .before .before .put-entry .ensures)))

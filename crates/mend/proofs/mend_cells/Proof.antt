@@ -31,9 +31,11 @@ mend-cells-spec =
     -- add-at
     (λ c. search needs)
     -- loop-less
-    (λ c. let g = c .before .before .before .before .before .before .before .before .loop .inv in omega (arith, c .before .before .before .before .before .before .before .loop-test .taken, going-page g))
+    (λ c. let g = c .before .before .before .before .before .before .before .before .loop .inv in omega
+    (arith, c .before .before .before .before .before .before .before .loop-test .taken, going-page g))
     -- loop-again
-    (λ c. going-next (c .before .before .before .before .before .before .before .before .loop .inv) (c .before .before .before .before .before .before .before .loop-test .taken) (c .before .before .before .before .mend-cell .ensures))
+    (λ c. going-next (c .before .before .before .before .before .before .before .before .loop .inv)
+    (c .before .before .before .before .before .before .before .loop-test .taken) (c .before .before .before .before .mend-cell .ensures))
     -- same-length
     (λ c. going-page (c .before .loop .inv))
     -- same-length-2

@@ -32,7 +32,8 @@ add-result-2 : tie.Need-add-result-2
 add-result-2 c = search needs
 
 returns-5 : tie.Need-returns-5
-returns-5 c = rw (c .before .before .before .before .before .wide2 .ensures, c .before .before .before .before .wide3 .ensures) (fits-is _ _ (omega arith) (omega arith) (omega arith) (omega arith))
+returns-5 c = rw (c .before .before .before .before .before .wide2 .ensures, c .before .before .before .before .wide3 .ensures)
+    (fits-is _ _ (omega arith) (omega arith) (omega arith) (omega arith))
 
 pub fits-row-spec : {M : Type 1} → statement M
 fits-row-spec =

@@ -54,13 +54,24 @@ loop-less : tie.Need-loop-less Inv-loop μ-loop
 loop-less c = omega arith
 
 loop-again : tie.Need-loop-again Inv-loop μ-loop
-loop-again c = (omega arith, lists-step _ _ (c .before .before .before .before .before .before .before .before .before .before .before .before .before .args .rows .now) (c .before .before .before .before .before .before .before .before .before .before .before .before .before .args .columns .now) (c .before .before .before .before .before .before .before .before .before .before .before .before .before .args .lengths .now) _ (c .before .before .before .before .before .loop .i) (omega arith) (omega arith) (c .before .before .before .before .before .loop .inv .1) (omega arith) _ (c .turn .ensures))
+loop-again c = (
+  omega arith,
+  lists-step _ _
+      (c .before .before .before .before .before .before .before .before .before .before .before .before .before .args .rows .now)
+      (c .before .before .before .before .before .before .before .before .before .before .before .before .before .args .columns .now)
+      (c .before .before .before .before .before .before .before .before .before .before .before .before .before .args .lengths .now) _
+      (c .before .before .before .before .before .loop .i) (omega arith) (omega arith) (c .before .before .before .before .before .loop .inv .1)
+      (omega arith) _ (c .turn .ensures),
+)
 
 finish-requires : tie.Need-finish-requires Inv-loop μ-loop
 finish-requires c κs = search needs
 
 returns-3 : tie.Need-returns-3 Inv-loop μ-loop
-returns-3 c = lists-verdict _ _ (c .before .before .before .before .before .before .before .before .before .before .args .rows .now) (c .before .before .before .before .before .before .before .before .before .before .args .columns .now) (c .before .before .before .before .before .before .before .before .before .before .args .lengths .now) _ (c .before .before .loop .i) (omega arith) (omega arith) (c .before .before .loop .inv .1) (omega arith) _ (c .finish .ensures)
+returns-3 c = lists-verdict _ _ (c .before .before .before .before .before .before .before .before .before .before .args .rows .now)
+    (c .before .before .before .before .before .before .before .before .before .before .args .columns .now)
+    (c .before .before .before .before .before .before .before .before .before .before .args .lengths .now) _ (c .before .before .loop .i)
+    (omega arith) (omega arith) (c .before .before .loop .inv .1) (omega arith) _ (c .finish .ensures)
 
 pub judge-lists-spec : {M : Type 1} → statement M
 judge-lists-spec =

@@ -163,7 +163,8 @@ noneHold r (c ∷ cs) = both (not (holds r c)) (noneHold r cs)
 
 unfoldable pub wrongClaims : List Claim
 wrongClaims =
-    Cell 0 0x42 ∷ Cursor 0 ∷ Replies [] ∷ Answers (0 ∷ 1 ∷ []) ∷ Counts [] ∷ Rests (0x41 ∷ []) ∷ Segments 0 0 0 0 ∷ InModes (0 ∷ 0 ∷ 0 ∷ 0 ∷ 0 ∷ 0 ∷ [])
+    Cell 0 0x42 ∷ Cursor 0 ∷ Replies [] ∷ Answers (0 ∷ 1 ∷ []) ∷ Counts [] ∷ Rests (0x41 ∷ []) ∷ Segments 0 0 0 0
+    ∷ InModes (0 ∷ 0 ∷ 0 ∷ 0 ∷ 0 ∷ 0 ∷ [])
     ∷ TabStops (0 ∷ []) ∷ FieldAttributes (0x30 ∷ 0x30 ∷ 0x30 ∷ 0x31 ∷ []) ∷ Features (0x31 ∷ 0x35 ∷ 0x37 ∷ 0x39 ∷ []) ∷ Bells 1 ∷ Remembered 1
     ∷ Message (0x41 ∷ []) ∷ Label 0x30 (0x41 ∷ []) ∷ Shifted true ∷ Held (Slot.Key 0x40) (replicate 8 0x20) ∷ Stands (Sending.Short Short.Cell 0)
     ∷ Columns 132 ∷ Wishes true ∷ []
@@ -204,7 +205,8 @@ table =
     -- 7: ESC , ESC & A
     ∷ from-power-on (host (0x1b ∷ 0x2c ∷ 0x1b ∷ 0x26 ∷ 0x41 ∷ [])) (Cell 0 160 ∷ Cursor 0 ∷ Answers (0 ∷ 0 ∷ 0 ∷ 0 ∷ 4 ∷ []) ∷ [])
     -- 8: ESC z 40h hi DEL; key 40h; key 41h
-    ∷ from-power-on (host (0x1b ∷ 0x7a ∷ 0x40 ∷ 0x68 ∷ 0x69 ∷ 0x7f ∷ []) ++ Press 0x40 8 ∷ []) (Replies (0x68 ∷ 0x69 ∷ []) ∷ Answers (replicate 7 0) ∷ [])
+    ∷ from-power-on (host (0x1b ∷ 0x7a ∷ 0x40 ∷ 0x68 ∷ 0x69 ∷ 0x7f ∷ []) ++ Press 0x40 8 ∷ [])
+    (Replies (0x68 ∷ 0x69 ∷ []) ∷ Answers (replicate 7 0) ∷ [])
     ∷ from-power-on (host (0x1b ∷ 0x7a ∷ 0x40 ∷ 0x68 ∷ 0x69 ∷ 0x7f ∷ []) ++ Press 0x41 8 ∷ [])
     (Replies (0x01 ∷ 0x41 ∷ 0x0d ∷ []) ∷ Answers (replicate 7 0) ∷ [])
     -- 9: ESC E9h = 20h 20h
@@ -215,7 +217,8 @@ table =
     -- 12, amended by request A9: ESC 7 at the last cell of a blank page. 1,944 bytes; in a room of 1,943 all but the CR, and then that
     ∷ from-power-on (host (0x1b ∷ 0x3d ∷ 0x37 ∷ 0x6f ∷ 0x1b ∷ 0x37 ∷ [])) (Replies (wholePage ++ 0x0d ∷ []) ∷ Answers (replicate 6 0) ∷ [])
     ∷ from-power-on (Run (0x1b ∷ 0x3d ∷ 0x37 ∷ 0x6f ∷ 0x1b ∷ 0x37 ∷ []) 1943 ∷ []) (Replies wholePage ∷ Answers (0 ∷ []) ∷ [])
-    ∷ from-power-on (Run (0x1b ∷ 0x3d ∷ 0x37 ∷ 0x6f ∷ 0x1b ∷ 0x37 ∷ []) 1943 ∷ Run [] 1 ∷ []) (Replies (wholePage ++ 0x0d ∷ []) ∷ Answers (0 ∷ 0 ∷ []) ∷ [])
+    ∷ from-power-on (Run (0x1b ∷ 0x3d ∷ 0x37 ∷ 0x6f ∷ 0x1b ∷ 0x37 ∷ []) 1943 ∷ Run [] 1 ∷ [])
+    (Replies (wholePage ++ 0x0d ∷ []) ∷ Answers (0 ∷ 0 ∷ []) ∷ [])
     ∷ []
 
 -- the statement

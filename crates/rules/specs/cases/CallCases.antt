@@ -3,7 +3,8 @@ use mathlib.Core.List.{List, [], _∷_, _++_}
 use lib.ListN.{replicate}
 use Rattle.rules.specs.Possible.{blank}
 use Rattle.rules.specs.Calls.{Step, Run, Press}
-use Rattle.rules.specs.cases.Bench.{wy50, Cell, Cursor, Replies, Answers, Counts, Rests, TabStops, FieldAttributes, Bells, Case, from-power-on, from-page, host}
+use Rattle.rules.specs.cases.Bench.{wy50, Cell, Cursor, Replies, Answers, Counts, Rests, TabStops, FieldAttributes, Bells, Case, from-power-on}
+use Rattle.rules.specs.cases.Bench.{from-page, host}
 use Rattle.rules.specs.cases.Inputs.{esc, pageOf, protectAt, belled, fullKeys, refuses}
 
 unfoldable pub callCases : List Case
@@ -28,11 +29,13 @@ callCases =
     -- a run: one room for all, taken, replied, refused; what is not taken is handed back
     ∷ from-power-on (Run (0x41 ∷ 0x42 ∷ [] ++ esc 0x3f ++ esc 0x3f ++ 0x43 ∷ []) 5 ∷ [])
     (Answers (0 ∷ []) ∷ Counts (6 ∷ 5 ∷ 0 ∷ []) ∷ Rests (0x43 ∷ []) ∷ Replies (0x20 ∷ 0x22 ∷ 0x0d ∷ 0x20 ∷ 0x22 ∷ []) ∷ Cell 2 0 ∷ Cursor 2 ∷ [])
-    ∷ from-power-on (Run (0x05 ∷ 0x05 ∷ 0x05 ∷ []) 2 ∷ []) (Answers (6 ∷ []) ∷ Counts (2 ∷ 2 ∷ 0 ∷ []) ∷ Rests (0x05 ∷ []) ∷ Replies (0x06 ∷ 0x06 ∷ []) ∷ [])
+    ∷ from-power-on (Run (0x05 ∷ 0x05 ∷ 0x05 ∷ []) 2 ∷ [])
+    (Answers (6 ∷ []) ∷ Counts (2 ∷ 2 ∷ 0 ∷ []) ∷ Rests (0x05 ∷ []) ∷ Replies (0x06 ∷ 0x06 ∷ []) ∷ [])
     ∷ from-power-on (Run (0x05 ∷ [] ++ esc 0x20) 4 ∷ []) (Answers (0 ∷ []) ∷ Counts (3 ∷ 4 ∷ 0 ∷ []) ∷ Replies (0x06 ∷ 0x35 ∷ 0x30 ∷ 0x0d ∷ []) ∷ [])
     ∷ from-power-on (Run (0x05 ∷ 0x41 ∷ []) 0 ∷ []) (Answers (6 ∷ []) ∷ Counts (0 ∷ 0 ∷ 0 ∷ []) ∷ Rests (0x05 ∷ 0x41 ∷ []) ∷ Cell 0 0 ∷ [])
     ∷ from-power-on (Run (0x41 ∷ 0x42 ∷ [] ++ esc 0x3f ++ 0x1b ∷ []) 5 ∷ Run (0x3f ∷ 0xe9 ∷ 0x43 ∷ []) 5 ∷ [])
-    (Answers (0 ∷ 0 ∷ []) ∷ Counts (5 ∷ 3 ∷ 0 ∷ 3 ∷ 3 ∷ 1 ∷ []) ∷ Rests [] ∷ Replies (0x20 ∷ 0x22 ∷ 0x0d ∷ 0x20 ∷ 0x22 ∷ 0x0d ∷ []) ∷ Cell 2 0x43 ∷ Cursor 3 ∷ [])
+    (Answers (0 ∷ 0 ∷ []) ∷ Counts (5 ∷ 3 ∷ 0 ∷ 3 ∷ 3 ∷ 1 ∷ []) ∷ Rests [] ∷ Replies (0x20 ∷ 0x22 ∷ 0x0d ∷ 0x20 ∷ 0x22 ∷ 0x0d ∷ []) ∷ Cell 2 0x43
+    ∷ Cursor 3 ∷ [])
     ∷ from-power-on (Run [] 5 ∷ []) (Answers (0 ∷ []) ∷ Counts (0 ∷ 0 ∷ 0 ∷ []) ∷ Rests [] ∷ [])
     -- answers 1, 2, 3 and 4 are counted and do not stop it
     ∷ from-page (pageOf (206 ∷ [])) (protectAt 0) (Run (0xe9 ∷ 0x1b ∷ 0x7e ∷ 0x1b ∷ 0x47 ∷ 0x40 ∷ 0x41 ∷ 0x0c ∷ 0x42 ∷ []) 0 ∷ [])
@@ -42,7 +45,8 @@ callCases =
     (Answers (7 ∷ 7 ∷ 7 ∷ 7 ∷ 7 ∷ []) ∷ Counts (replicate 11 0) ∷ Rests (0x41 ∷ 0x42 ∷ []) ∷ Replies [] ∷ Cell 0 0 ∷ Cursor 0 ∷ [])
     ∷ from-page (replicate 1921 0) wy50 (Step 0x41 9 ∷ Run (0x41 ∷ 0x42 ∷ []) 9 ∷ Press 0x40 9 ∷ [])
     (Answers (7 ∷ 7 ∷ 7 ∷ []) ∷ Counts (replicate 6 0) ∷ Rests (0x41 ∷ 0x42 ∷ []) ∷ Replies [] ∷ [])
-    ∷ from-page blank (belled 256) (Step 0x07 9 ∷ Run (0x05 ∷ []) 9 ∷ Press 0x40 9 ∷ []) (Answers (7 ∷ 7 ∷ 7 ∷ []) ∷ Rests (0x05 ∷ []) ∷ Replies [] ∷ Bells 256 ∷ [])
+    ∷ from-page blank (belled 256) (Step 0x07 9 ∷ Run (0x05 ∷ []) 9 ∷ Press 0x40 9 ∷ [])
+    (Answers (7 ∷ 7 ∷ 7 ∷ []) ∷ Rests (0x05 ∷ []) ∷ Replies [] ∷ Bells 256 ∷ [])
     -- ESC z: bytes are stored literally, ESC and controls too; up to 8; 80h and above 1, not gathered
     ∷ from-power-on (host (0x1b ∷ 0x7a ∷ 0x4f ∷ 0x1b ∷ 0x0d ∷ 0xe9 ∷ 0x61 ∷ 0x7f ∷ []) ++ Press 0x4f 8 ∷ Press 0x60 8 ∷ [])
     (Answers (0 ∷ 0 ∷ 0 ∷ 0 ∷ 0 ∷ 1 ∷ 0 ∷ 0 ∷ 0 ∷ 0 ∷ []) ∷ Replies (0x1b ∷ 0x0d ∷ 0x61 ∷ 0x01 ∷ 0x60 ∷ 0x0d ∷ []) ∷ Cursor 0 ∷ [])
@@ -57,13 +61,15 @@ callCases =
     ∷ from-power-on (host ((0x1b ∷ 0x7a ∷ 0x40 ∷ 0x62 ∷ 0x7f ∷ 0x1b ∷ 0x7a ∷ 0x40 ∷ replicate 9 0x61) ++ 0x7f ∷ 0x41 ∷ []) ++ Press 0x40 8 ∷ [])
     (Cell 0 0x41 ∷ Answers (replicate 17 0 ++ 3 ∷ 0 ∷ 0 ∷ []) ∷ Replies (0x62 ∷ []) ∷ [])
     -- a new text replaces the old; an empty one unprograms; a bad value 3 at once
-    ∷ from-power-on (host (0x1b ∷ 0x7a ∷ 0x6f ∷ 0x61 ∷ 0x62 ∷ 0x7f ∷ 0x1b ∷ 0x7a ∷ 0x6f ∷ 0x63 ∷ 0x7f ∷ []) ++ Press 0x6f 8 ∷ []) (Replies (0x63 ∷ []) ∷ [])
+    ∷ from-power-on (host (0x1b ∷ 0x7a ∷ 0x6f ∷ 0x61 ∷ 0x62 ∷ 0x7f ∷ 0x1b ∷ 0x7a ∷ 0x6f ∷ 0x63 ∷ 0x7f ∷ []) ++ Press 0x6f 8 ∷ [])
+    (Replies (0x63 ∷ []) ∷ [])
     ∷ from-power-on (host (0x1b ∷ 0x7a ∷ 0x6f ∷ 0x61 ∷ 0x7f ∷ 0x1b ∷ 0x7a ∷ 0x6f ∷ 0x7f ∷ []) ++ Press 0x6f 8 ∷ [])
     (Answers (replicate 10 0) ∷ Replies (0x01 ∷ 0x6f ∷ 0x0d ∷ []) ∷ [])
     ∷ refuses 3 (0x1b ∷ 0x7a ∷ 0x58 ∷ []) (Cursor 0 ∷ [])
     -- a key press: 8 before 3, 3 before 6; it works during a sequence, and its 3 clears nothing
     ∷ from-power-on (host (0x0f ∷ []) ++ Press 0x40 8 ∷ Press 0x50 8 ∷ []) (Answers (0 ∷ 8 ∷ 8 ∷ []) ∷ Replies [] ∷ [])
-    ∷ from-power-on (Press 0x50 0 ∷ Press 0x40 2 ∷ Press 0x40 3 ∷ []) (Answers (3 ∷ 6 ∷ 0 ∷ []) ∷ Replies (0x01 ∷ 0x40 ∷ 0x0d ∷ []) ∷ Counts (0 ∷ 0 ∷ 3 ∷ []) ∷ [])
+    ∷ from-power-on (Press 0x50 0 ∷ Press 0x40 2 ∷ Press 0x40 3 ∷ [])
+    (Answers (3 ∷ 6 ∷ 0 ∷ []) ∷ Replies (0x01 ∷ 0x40 ∷ 0x0d ∷ []) ∷ Counts (0 ∷ 0 ∷ 3 ∷ []) ∷ [])
     ∷ from-power-on (Step 0x1b 9 ∷ Press 0x50 9 ∷ Press 0x41 9 ∷ Step 0x20 9 ∷ [])
     (Answers (0 ∷ 3 ∷ 0 ∷ 0 ∷ []) ∷ Replies (0x01 ∷ 0x41 ∷ 0x0d ∷ 0x35 ∷ 0x30 ∷ 0x0d ∷ []) ∷ Rests [] ∷ [])
     ∷ []

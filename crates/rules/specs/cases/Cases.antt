@@ -48,11 +48,16 @@ pub record CaseList : Type 0 where
   pub possible : allPossible possibleStates ≡ true
   pub impossible : nonePossible impossibleStates ≡ true
   -- power-on: all cells 0; a wrong page length answers 7 and leaves the page. The state is that of the personality
-  pub power-on : powerOnRule Personality.Wy50 (replicate 1920 5) ≡ record { answer = 0; taken = false; state = wy50; page = replicate 1920 0; reply = [] }
-  pub short-page : powerOnRule Personality.Wy50 (replicate 1919 5) ≡ record { answer = 7; taken = false; state = wy50; page = replicate 1919 5; reply = [] }
-  pub long-page : powerOnRule Personality.Wy50 (replicate 1921 5) ≡ record { answer = 7; taken = false; state = wy50; page = replicate 1921 5; reply = [] }
-  pub power-on-60 : powerOnRule Personality.Wy60 (replicate 1920 5) ≡ record { answer = 0; taken = false; state = wy60; page = replicate 1920 0; reply = [] }
-  pub short-page-60 : powerOnRule Personality.Wy60 (replicate 1919 5) ≡ record { answer = 7; taken = false; state = wy60; page = replicate 1919 5; reply = [] }
+  pub power-on : powerOnRule Personality.Wy50 (replicate 1920 5)
+      ≡ record { answer = 0; taken = false; state = wy50; page = replicate 1920 0; reply = [] }
+  pub short-page : powerOnRule Personality.Wy50 (replicate 1919 5)
+      ≡ record { answer = 7; taken = false; state = wy50; page = replicate 1919 5; reply = [] }
+  pub long-page : powerOnRule Personality.Wy50 (replicate 1921 5)
+      ≡ record { answer = 7; taken = false; state = wy50; page = replicate 1921 5; reply = [] }
+  pub power-on-60 : powerOnRule Personality.Wy60 (replicate 1920 5)
+      ≡ record { answer = 0; taken = false; state = wy60; page = replicate 1920 0; reply = [] }
+  pub short-page-60 : powerOnRule Personality.Wy60 (replicate 1919 5)
+      ≡ record { answer = 7; taken = false; state = wy60; page = replicate 1919 5; reply = [] }
   -- what lies beyond a reply is untouched
   pub room : over (1 ∷ 2 ∷ []) (7 ∷ 8 ∷ 9 ∷ []) ≡ 1 ∷ 2 ∷ 9 ∷ []
   -- demand 3: what completes one of the six, and what does not

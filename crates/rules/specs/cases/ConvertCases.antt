@@ -54,7 +54,8 @@ unfoldable pub convertCases : List ConvertCase
 convertCases =
     -- widening: rows stay rows, with nulls at the end of each; the cells of this page are 1 to 1,920
     converts (span 1 1920) wy50 3168 []
-    (Answers (0 ∷ []) ∷ Columns 132 ∷ Cell 0 1 ∷ Cell 79 80 ∷ Cell 80 0 ∷ Cell 131 0 ∷ Cell 132 81 ∷ Cell 211 160 ∷ Cell 212 0 ∷ Cell 3036 1841 ∷ Cell 3115 1920 ∷ Cell 3116 0
+    (Answers (0 ∷ []) ∷ Columns 132 ∷ Cell 0 1 ∷ Cell 79 80 ∷ Cell 80 0 ∷ Cell 131 0 ∷ Cell 132 81 ∷ Cell 211 160 ∷ Cell 212 0 ∷ Cell 3036 1841
+    ∷ Cell 3115 1920 ∷ Cell 3116 0
     ∷ Cell 3167 0 ∷ [])
     -- narrowing: the cells beyond column 80 go
     ∷ converts (widePage (span 1 80 ++ replicate 52 0 ++ span 81 80)) (wideAt 0) 1920 []
@@ -168,7 +169,8 @@ pub record ConvertList : Type 0 where
   -- widening keeps all stops, narrowing clears those beyond column 80; the rest of the state is as it was
   pub widened : (wish : Bool) → convertRule (pageOf (206 ∷ [])) (busy narrowSplit (stopsAt (0 ∷ 79 ∷ [])) wish text) (replicate 3168 7) .state
       ≡ busy (wideHome 1) (stopsAt (0 ∷ 79 ∷ [])) wish text
-  pub narrowed : (wish : Bool) → convertRule (widePage (206 ∷ [])) (busy wideSplit (stopsAt (0 ∷ 79 ∷ 80 ∷ 131 ∷ [])) wish text) (replicate 1920 7) .state
+  pub narrowed : (wish : Bool)
+      → convertRule (widePage (206 ∷ [])) (busy wideSplit (stopsAt (0 ∷ 79 ∷ 80 ∷ 131 ∷ [])) wish text) (replicate 1920 7) .state
       ≡ busy (narrowHome 1) (stopsAt (0 ∷ 79 ∷ [])) wish text
   -- refused: target and state are as they were
   pub kept : (wish : Bool) → convertRule (oneAt 80 32) (busy wideSplit (stopsAt (131 ∷ [])) wish text) (replicate 1920 7)

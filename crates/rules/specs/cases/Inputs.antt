@@ -42,7 +42,12 @@ pageOf l = take 1920 (l ++ blank)
 
 -- the power-on state, but with the cursor at a cell
 unfoldable pub cursorAt : ℕ → State
-cursorAt n = record { core = withScreen (wy50 .core) (withCursor (wy50 .core .screen) n); sending = wy50 .sending; gathered = wy50 .gathered; setup = wy50 .setup }
+cursorAt n = record {
+  core = withScreen (wy50 .core) (withCursor (wy50 .core .screen) n);
+  sending = wy50 .sending;
+  gathered = wy50 .gathered;
+  setup = wy50 .setup;
+}
 
 -- and with protect mode on
 unfoldable pub protectAt : ℕ → State

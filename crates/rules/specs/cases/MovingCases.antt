@@ -4,7 +4,8 @@ use mathlib.Core.List.{List, [], _∷_, _++_}
 use lib.ListN.{replicate}
 use Rattle.rules.specs.cases.Bench.{wy50, Cell, Cursor, Segments, Case}
 use Rattle.rules.specs.cases.Trials.{Trial, trial, one}
-use Rattle.rules.specs.cases.Inputs.{esc, goTo, labelled, halves, lower, threeLetters, lettersBelow, cursorAt, protectAt, placedOn, upperAt, lowerAt, obeys, refuses, obeysFrom, refusesFrom}
+use Rattle.rules.specs.cases.Inputs.{esc, goTo, labelled, halves, lower, threeLetters, lettersBelow, cursorAt, protectAt, placedOn, upperAt}
+use Rattle.rules.specs.cases.Inputs.{lowerAt, obeys, refuses, obeysFrom, refusesFrom}
 
 unfoldable pub movingCases : List Case
 movingCases =

@@ -40,7 +40,8 @@ unfoldable pub narrowCases : List Case
 narrowCases =
     -- a send whose reply does not fit begins, and goes on before any byte is taken: A waits
     from-power-on (Step 0x1b 0 ∷ Step 0x3f 2 ∷ Step 0x41 1 ∷ Step 0x41 0 ∷ [])
-    (Answers (0 ∷ 0 ∷ 0 ∷ 0 ∷ []) ∷ Counts (1 ∷ 0 ∷ 1 ∷ 2 ∷ 0 ∷ 1 ∷ 1 ∷ 0 ∷ []) ∷ Replies (0x20 ∷ 0x20 ∷ 0x0d ∷ []) ∷ Cell 0 0x41 ∷ Stands Sending.Nothing ∷ [])
+    (Answers (0 ∷ 0 ∷ 0 ∷ 0 ∷ []) ∷ Counts (1 ∷ 0 ∷ 1 ∷ 2 ∷ 0 ∷ 1 ∷ 1 ∷ 0 ∷ []) ∷ Replies (0x20 ∷ 0x20 ∷ 0x0d ∷ []) ∷ Cell 0 0x41
+    ∷ Stands Sending.Nothing ∷ [])
     -- with room left the byte waits all the same, 80h and above too
     ∷ from-power-on (Step 0x1b 0 ∷ Step 0x3f 1 ∷ Step 0xe9 9 ∷ Step 0xe9 9 ∷ [])
     (Answers (0 ∷ 0 ∷ 0 ∷ 1 ∷ []) ∷ Counts (1 ∷ 0 ∷ 1 ∷ 1 ∷ 0 ∷ 2 ∷ 1 ∷ 0 ∷ []) ∷ Replies (0x20 ∷ 0x20 ∷ 0x0d ∷ []) ∷ [])
@@ -56,9 +57,11 @@ narrowCases =
     ∷ from-power-on (Step 0x1b 0 ∷ Step 0x20 1 ∷ Run [] 1 ∷ Run [] 1 ∷ Run [] 1 ∷ [])
     (Answers (0 ∷ 0 ∷ 0 ∷ 0 ∷ 0 ∷ []) ∷ Counts (1 ∷ 0 ∷ 1 ∷ 1 ∷ 0 ∷ 1 ∷ 0 ∷ 0 ∷ 1 ∷ 0 ∷ 0 ∷ 0 ∷ 0 ∷ []) ∷ Replies (0x35 ∷ 0x30 ∷ 0x0d ∷ []) ∷ [])
     ∷ from-page blank (lowerAt 1041) (Step 0x1b 0 ∷ Step 0x2f 2 ∷ []) (Replies (0x31 ∷ 0x21 ∷ []) ∷ Stands (Sending.Short Short.SegmentCursor 2) ∷ [])
-    ∷ from-page blank (lowerAt 1041) (Step 0x1b 0 ∷ Step 0x2f 3 ∷ Step 0x2f 3 ∷ []) (Replies (0x31 ∷ 0x21 ∷ 0x21 ∷ 0x0d ∷ []) ∷ Stands Sending.Nothing ∷ [])
+    ∷ from-page blank (lowerAt 1041) (Step 0x1b 0 ∷ Step 0x2f 3 ∷ Step 0x2f 3 ∷ [])
+    (Replies (0x31 ∷ 0x21 ∷ 0x21 ∷ 0x0d ∷ []) ∷ Stands Sending.Nothing ∷ [])
     ∷ from-power-on (Step 0x1b 0 ∷ Step 0x62 3 ∷ []) (Replies (0x30 ∷ 0x31 ∷ 0x52 ∷ []) ∷ Stands (Sending.Short Short.DecimalCursor 3) ∷ [])
-    ∷ from-power-on (Step 0x1b 0 ∷ Step 0x62 6 ∷ Step 0x00 1 ∷ []) (Replies (0x30 ∷ 0x31 ∷ 0x52 ∷ 0x30 ∷ 0x30 ∷ 0x31 ∷ 0x43 ∷ []) ∷ Stands Sending.Nothing ∷ [])
+    ∷ from-power-on (Step 0x1b 0 ∷ Step 0x62 6 ∷ Step 0x00 1 ∷ [])
+    (Replies (0x30 ∷ 0x31 ∷ 0x52 ∷ 0x30 ∷ 0x30 ∷ 0x31 ∷ 0x43 ∷ []) ∷ Stands Sending.Nothing ∷ [])
     -- ESC M is one byte and leaves no place; a guarded cell 4 before 6
     ∷ from-power-on (Step 0x1b 0 ∷ Step 0x4d 0 ∷ Step 0x4d 1 ∷ []) (Answers (0 ∷ 6 ∷ 0 ∷ []) ∷ Replies (0x20 ∷ []) ∷ Stands Sending.Nothing ∷ [])
     ∷ from-page (pageOf (206 ∷ [])) (protectAt 0) (Step 0x1b 0 ∷ Step 0x4d 0 ∷ []) (Answers (0 ∷ 4 ∷ []) ∷ [])
@@ -66,25 +69,33 @@ narrowCases =
     ∷ from-page (pageOf form) (cursorAt 7) (Step 0x1b 0 ∷ Step 0x34 1 ∷ []) (Replies (0x1c ∷ []) ∷ Stands (row (Place.Cell 1)) ∷ [])
     ∷ from-page (pageOf form) (cursorAt 7) (Step 0x1b 0 ∷ Step 0x34 2 ∷ []) (Replies (0x1c ∷ 0x41 ∷ []) ∷ Stands (row (Place.Cell 4)) ∷ [])
     ∷ from-page (pageOf form) (cursorAt 7) (Step 0x1b 0 ∷ Step 0x35 3 ∷ []) (Replies (0x1c ∷ 0x41 ∷ 0x42 ∷ []) ∷ Stands (segment (Place.Cell 5)) ∷ [])
-    ∷ from-page (pageOf form) (cursorAt 7) (Step 0x1b 0 ∷ Step 0x35 4 ∷ []) (Replies (0x1c ∷ 0x41 ∷ 0x42 ∷ 0x1c ∷ []) ∷ Stands (segment (Place.Cell 6)) ∷ [])
-    ∷ from-page (pageOf form) (cursorAt 7) (Step 0x1b 0 ∷ Step 0x35 5 ∷ []) (Replies (0x1c ∷ 0x41 ∷ 0x42 ∷ 0x1c ∷ 0x43 ∷ []) ∷ Stands (segment Place.Return) ∷ [])
-    ∷ from-page (pageOf form) (cursorAt 7) (Step 0x1b 0 ∷ Step 0x35 6 ∷ []) (Replies (0x1c ∷ 0x41 ∷ 0x42 ∷ 0x1c ∷ 0x43 ∷ 0x0d ∷ []) ∷ Stands Sending.Nothing ∷ [])
+    ∷ from-page (pageOf form) (cursorAt 7) (Step 0x1b 0 ∷ Step 0x35 4 ∷ [])
+    (Replies (0x1c ∷ 0x41 ∷ 0x42 ∷ 0x1c ∷ []) ∷ Stands (segment (Place.Cell 6)) ∷ [])
+    ∷ from-page (pageOf form) (cursorAt 7) (Step 0x1b 0 ∷ Step 0x35 5 ∷ [])
+    (Replies (0x1c ∷ 0x41 ∷ 0x42 ∷ 0x1c ∷ 0x43 ∷ []) ∷ Stands (segment Place.Return) ∷ [])
+    ∷ from-page (pageOf form) (cursorAt 7) (Step 0x1b 0 ∷ Step 0x35 6 ∷ [])
+    (Replies (0x1c ∷ 0x41 ∷ 0x42 ∷ 0x1c ∷ 0x43 ∷ 0x0d ∷ []) ∷ Stands Sending.Nothing ∷ [])
     ∷ from-page (pageOf form) (cursorAt 7) (Step 0x1b 0 ∷ Step 0x36 1 ∷ []) (Replies (0x4e ∷ []) ∷ Stands (wholeRow (Place.Cell 1)) ∷ [])
     ∷ from-page (pageOf form) (cursorAt 7) (Step 0x1b 0 ∷ Step 0x37 8 ∷ []) (Stands (wholeSegment Place.Return) ∷ [])
     -- a stretch at the end of the row: the place inside it, and then CR
-    ∷ from-page (pageOf (0x41 ∷ 206 ∷ 206 ∷ [])) (cursorAt 2) (Step 0x1b 0 ∷ Step 0x34 2 ∷ []) (Replies (0x41 ∷ 0x1c ∷ []) ∷ Stands (row (Place.Cell 2)) ∷ [])
-    ∷ from-page (pageOf (0x41 ∷ 206 ∷ 206 ∷ [])) (cursorAt 2) (Step 0x1b 0 ∷ Step 0x34 2 ∷ Run [] 1 ∷ []) (Replies (0x41 ∷ 0x1c ∷ 0x0d ∷ []) ∷ Stands Sending.Nothing ∷ [])
+    ∷ from-page (pageOf (0x41 ∷ 206 ∷ 206 ∷ [])) (cursorAt 2) (Step 0x1b 0 ∷ Step 0x34 2 ∷ [])
+    (Replies (0x41 ∷ 0x1c ∷ []) ∷ Stands (row (Place.Cell 2)) ∷ [])
+    ∷ from-page (pageOf (0x41 ∷ 206 ∷ 206 ∷ [])) (cursorAt 2) (Step 0x1b 0 ∷ Step 0x34 2 ∷ Run [] 1 ∷ [])
+    (Replies (0x41 ∷ 0x1c ∷ 0x0d ∷ []) ∷ Stands Sending.Nothing ∷ [])
     -- at a US, and behind it
     ∷ from-page (pageOf twoRows) (cursorAt 80) (Run (esc 0x35) 80 ∷ []) (Counts (2 ∷ 80 ∷ 0 ∷ []) ∷ Stands (segment (Place.Break 80)) ∷ [])
     ∷ from-page (pageOf twoRows) (cursorAt 80) (Run (esc 0x35) 81 ∷ []) (Counts (2 ∷ 81 ∷ 0 ∷ []) ∷ Stands (segment (Place.Cell 80)) ∷ [])
     ∷ from-page (pageOf twoRows) (cursorAt 80) (Run (esc 0x35) 80 ∷ Run [] 9 ∷ []) (Replies (0x41 ∷ replicate 79 32 ++ 0x1f ∷ 0x42 ∷ 0x0d ∷ []) ∷ [])
-    ∷ from-page (pageOf twoRows) (cursorAt 80) (Run (esc 0x37) 81 ∷ Step 0x00 1 ∷ Step 0x00 1 ∷ []) (Replies (0x41 ∷ replicate 79 32 ++ 0x1f ∷ 0x42 ∷ 0x0d ∷ []) ∷ [])
+    ∷ from-page (pageOf twoRows) (cursorAt 80) (Run (esc 0x37) 81 ∷ Step 0x00 1 ∷ Step 0x00 1 ∷ [])
+    (Replies (0x41 ∷ replicate 79 32 ++ 0x1f ∷ 0x42 ∷ 0x0d ∷ []) ∷ [])
     -- of the lower segment
     ∷ from-page blank (lowerAt 1041) (Run (esc 0x35) 81 ∷ []) (Stands (segment (Place.Cell 1040)) ∷ [])
     ∷ from-page blank (lowerAt 1041) (Run (esc 0x34) 1 ∷ []) (Stands (row (Place.Cell 1041)) ∷ [])
     -- the rest is read from the page as it stands: a protected cell gives FS if the cell before it is not protected now
-    ∷ from-page (pageOf (0x41 ∷ 206 ∷ 206 ∷ 0x42 ∷ [])) (withSending (cursorAt 3) (row (Place.Cell 2))) (Run [] 9 ∷ []) (Replies (0x42 ∷ 0x0d ∷ []) ∷ [])
-    ∷ from-page (pageOf (0x41 ∷ 0x43 ∷ 206 ∷ 0x42 ∷ [])) (withSending (cursorAt 3) (row (Place.Cell 2))) (Run [] 9 ∷ []) (Replies (0x1c ∷ 0x42 ∷ 0x0d ∷ []) ∷ [])
+    ∷ from-page (pageOf (0x41 ∷ 206 ∷ 206 ∷ 0x42 ∷ [])) (withSending (cursorAt 3) (row (Place.Cell 2))) (Run [] 9 ∷ [])
+    (Replies (0x42 ∷ 0x0d ∷ []) ∷ [])
+    ∷ from-page (pageOf (0x41 ∷ 0x43 ∷ 206 ∷ 0x42 ∷ [])) (withSending (cursorAt 3) (row (Place.Cell 2))) (Run [] 9 ∷ [])
+    (Replies (0x1c ∷ 0x42 ∷ 0x0d ∷ []) ∷ [])
     ∷ from-page (pageOf (replicate 81 206)) (withSending (cursorAt 80) (segment (Place.Cell 80))) (Run [] 9 ∷ []) (Replies (0x1c ∷ 0x0d ∷ []) ∷ [])
     ∷ from-page (pageOf (206 ∷ 206 ∷ [])) (withSending (cursorAt 1) (wholeRow (Place.Cell 1))) (Run [] 9 ∷ []) (Replies (0x4e ∷ 0x0d ∷ []) ∷ [])
     -- by the cursor's extent as it stands
@@ -94,7 +105,8 @@ narrowCases =
     ∷ from-power-on (Run (esc 0x20 ++ 0x41 ∷ []) 1 ∷ []) (Answers (0 ∷ []) ∷ Counts (2 ∷ 1 ∷ 0 ∷ []) ∷ Rests (0x41 ∷ []) ∷ Cell 0 0 ∷ [])
     -- a send that ends exactly with the room does not stop it; a byte whose reply is due with no room left does, with 6
     ∷ from-power-on (Run (esc 0x20 ++ 0x41 ∷ []) 3 ∷ []) (Answers (0 ∷ []) ∷ Counts (3 ∷ 3 ∷ 0 ∷ []) ∷ Rests [] ∷ Cell 0 0x41 ∷ [])
-    ∷ from-power-on (Run (esc 0x20 ++ 0x41 ∷ 0x05 ∷ 0x42 ∷ []) 3 ∷ []) (Answers (6 ∷ []) ∷ Counts (3 ∷ 3 ∷ 0 ∷ []) ∷ Rests (0x05 ∷ 0x42 ∷ []) ∷ Cell 0 0x41 ∷ Cell 1 0 ∷ [])
+    ∷ from-power-on (Run (esc 0x20 ++ 0x41 ∷ 0x05 ∷ 0x42 ∷ []) 3 ∷ [])
+    (Answers (6 ∷ []) ∷ Counts (3 ∷ 3 ∷ 0 ∷ []) ∷ Rests (0x05 ∷ 0x42 ∷ []) ∷ Cell 0 0x41 ∷ Cell 1 0 ∷ [])
     -- inside a send: it goes on first, and then the bytes; where it is not over, 0 and the whole input back
     ∷ from-power-on (Run (esc 0x20) 1 ∷ Run (0x41 ∷ 0x05 ∷ []) 3 ∷ [])
     (Answers (0 ∷ 0 ∷ []) ∷ Counts (2 ∷ 1 ∷ 0 ∷ 2 ∷ 3 ∷ 0 ∷ []) ∷ Rests [] ∷ Replies (0x35 ∷ 0x30 ∷ 0x0d ∷ 0x06 ∷ []) ∷ Cell 0 0x41 ∷ [])
@@ -103,8 +115,10 @@ narrowCases =
     ∷ from-power-on (Run (esc 0x20) 1 ∷ Run (0x41 ∷ 0x42 ∷ []) 1 ∷ [])
     (Answers (0 ∷ 0 ∷ []) ∷ Counts (2 ∷ 1 ∷ 0 ∷ 0 ∷ 1 ∷ 0 ∷ []) ∷ Rests (0x41 ∷ 0x42 ∷ []) ∷ Replies (0x35 ∷ 0x30 ∷ []) ∷ Cell 0 0 ∷ [])
     -- of the longest reply 1,943 bytes are left: one more is room for 05h and its reply, and with no more that byte answers 6
-    ∷ from-page blank (withSending (cursorAt 1919) (wholeSegment (Place.Cell 1))) (Run (0x05 ∷ []) 1944 ∷ []) (Answers (0 ∷ []) ∷ Counts (1 ∷ 1944 ∷ 0 ∷ []) ∷ [])
-    ∷ from-page blank (withSending (cursorAt 1919) (wholeSegment (Place.Cell 1))) (Run (0x05 ∷ []) 1943 ∷ []) (Answers (6 ∷ []) ∷ Counts (0 ∷ 1943 ∷ 0 ∷ []) ∷ [])
+    ∷ from-page blank (withSending (cursorAt 1919) (wholeSegment (Place.Cell 1))) (Run (0x05 ∷ []) 1944 ∷ [])
+    (Answers (0 ∷ []) ∷ Counts (1 ∷ 1944 ∷ 0 ∷ []) ∷ [])
+    ∷ from-page blank (withSending (cursorAt 1919) (wholeSegment (Place.Cell 1))) (Run (0x05 ∷ []) 1943 ∷ [])
+    (Answers (6 ∷ []) ∷ Counts (0 ∷ 1943 ∷ 0 ∷ []) ∷ [])
     -- no room: 6 over bytes, 0 over none
     ∷ from-power-on (Run (esc 0x20) 1 ∷ Run (0x41 ∷ []) 0 ∷ Run [] 0 ∷ [])
     (Answers (0 ∷ 6 ∷ 0 ∷ []) ∷ Counts (2 ∷ 1 ∷ 0 ∷ 0 ∷ 0 ∷ 0 ∷ 0 ∷ 0 ∷ 0 ∷ []) ∷ Rests (0x41 ∷ []) ∷ Stands (Sending.Short Short.Identity 1) ∷ [])

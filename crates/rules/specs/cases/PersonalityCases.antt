@@ -10,7 +10,14 @@ use Rattle.rules.specs.cases.Inputs.{esc, goTo, lower, cursorAt, protect
 
 -- the same state of a WY-60
 abbrev pub core60 : Core → Core
-core60 c = record { screen = c .screen; modes = c .modes; bells = c .bells; pending = c .pending; personality = Personality.Wy60; attribute = c .attribute }
+core60 c = record {
+  screen = c .screen;
+  modes = c .modes;
+  bells = c .bells;
+  pending = c .pending;
+  personality = Personality.Wy60;
+  attribute = c .attribute;
+}
 
 unfoldable pub as60 : State → State
 as60 s = record { core = core60 (s .core); sending = s .sending; gathered = s .gathered; setup = s .setup }

@@ -13,7 +13,8 @@ use Rattle.rules.specs.declared.Place.the-variants as Place
 use Rattle.rules.specs.declared.Sending.{Sending}
 use Rattle.rules.specs.declared.Sending.the-variants as Sending
 use Rattle.rules.specs.Cell.{both}
-use Rattle.rules.specs.State.{withAttribute, awaiting, withSending, withTabs, withAttributes, withFeatures, withKeys, withLabels, withMessage, withShifted}
+use Rattle.rules.specs.State.{withAttribute, awaiting, withSending, withTabs, withAttributes, withFeatures, withKeys, withLabels, withMessage}
+use Rattle.rules.specs.State.{withShifted}
 use Rattle.rules.specs.Possible.{possible}
 use Rattle.rules.specs.cases.Bench.{wy50, wy60}
 use Rattle.rules.specs.cases.Inputs.{placedOn, lowerAt, belled}

@@ -2,9 +2,11 @@
 use mathlib.Core.List.{List, [], _∷_, _++_}
 use lib.ListN.{replicate}
 use Rattle.rules.specs.Calls.{Step, Press}
-use Rattle.rules.specs.cases.Bench.{wy50, Cell, Cursor, Replies, Answers, Segments, InModes, TabStops, FieldAttributes, Features, Bells, Case, from-power-on, from-page}
+use Rattle.rules.specs.cases.Bench.{wy50, Cell, Cursor, Replies, Answers, Segments, InModes, TabStops, FieldAttributes, Features, Bells, Case}
+use Rattle.rules.specs.cases.Bench.{from-power-on, from-page}
 use Rattle.rules.specs.cases.Trials.{Trial, one}
-use Rattle.rules.specs.cases.Inputs.{esc, goTo, labelled, lettersBelow, pageOf, cursorAt, protectAt, lowerAt, belled, obeys, obeysFrom, refusesFrom}
+use Rattle.rules.specs.cases.Inputs.{esc, goTo, labelled, lettersBelow, pageOf, cursorAt, protectAt, lowerAt, belled, obeys, obeysFrom}
+use Rattle.rules.specs.cases.Inputs.{refusesFrom}
 
 unfoldable pub replyCases : List Case
 replyCases =
@@ -53,14 +55,16 @@ replyCases =
     ∷ obeysFrom [] (cursorAt 8) (esc 0x31 ++ goTo 0 79 ++ esc 0x31 ++ goTo 2 8 ++ esc 0x32) (TabStops (79 ∷ []) ∷ Cursor 168 ∷ [])
     ∷ obeysFrom [] (cursorAt 8) (esc 0x31 ++ goTo 0 79 ++ esc 0x31 ++ esc 0x30) (TabStops [] ∷ Cursor 79 ∷ [])
     -- ESC A n attr
-    ∷ obeys (esc 0x41 ++ 0x30 ∷ 0x34 ∷ [] ++ esc 0x41 ++ 0x33 ∷ 0x7e ∷ []) (FieldAttributes (0x34 ∷ 0x30 ∷ 0x30 ∷ 0x7e ∷ []) ∷ Cell 0 0 ∷ Cursor 0 ∷ [])
+    ∷ obeys (esc 0x41 ++ 0x30 ∷ 0x34 ∷ [] ++ esc 0x41 ++ 0x33 ∷ 0x7e ∷ [])
+    (FieldAttributes (0x34 ∷ 0x30 ∷ 0x30 ∷ 0x7e ∷ []) ∷ Cell 0 0 ∷ Cursor 0 ∷ [])
     ∷ obeys (esc 0x41 ++ 0x31 ∷ 0x20 ∷ [] ++ esc 0x41 ++ 0x32 ∷ 0x70 ∷ []) (FieldAttributes (0x30 ∷ 0x20 ∷ 0x70 ∷ 0x30 ∷ []) ∷ [])
     -- ESC ` f: each code sets its one feature; 3Ah sets none, since A11 a wish
     ∷ obeys (esc 0x60 ++ 0x30 ∷ [] ++ esc 0x60 ++ 0x32 ∷ [] ++ esc 0x60 ++ 0x36 ∷ [] ++ esc 0x60 ++ 0x38 ∷ [] ++ esc 0x60 ++ 0x3c ∷ [])
     (Features (0x30 ∷ 0x32 ∷ 0x36 ∷ 0x38 ∷ 0x3c ∷ []) ∷ [])
     ∷ obeys (esc 0x60 ++ 0x30 ∷ [] ++ esc 0x60 ++ 0x31 ∷ [] ++ esc 0x60 ++ 0x33 ∷ [] ++ esc 0x60 ++ 0x41 ∷ [] ++ esc 0x60 ++ 0x3d ∷ [])
     (Features (0x31 ∷ 0x33 ∷ 0x41 ∷ 0x39 ∷ 0x3d ∷ []) ∷ [])
-    ∷ obeys (esc 0x60 ++ 0x34 ∷ [] ++ esc 0x60 ++ 0x36 ∷ [] ++ esc 0x60 ++ 0x37 ∷ [] ++ esc 0x60 ++ 0x38 ∷ [] ++ esc 0x60 ++ 0x39 ∷ [] ++ esc 0x60 ++ 0x3e ∷ [])
+    ∷ obeys (esc 0x60 ++ 0x34 ∷ [] ++ esc 0x60 ++ 0x36 ∷ [] ++ esc 0x60 ++ 0x37 ∷ [] ++ esc 0x60 ++ 0x38 ∷ [] ++ esc 0x60 ++ 0x39 ∷ [] ++ esc 0x60
+    ++ 0x3e ∷ [])
     (Features (0x31 ∷ 0x34 ∷ 0x37 ∷ 0x39 ∷ 0x3e ∷ []) ∷ [])
     ∷ obeys (esc 0x60 ++ 0x34 ∷ [] ++ esc 0x60 ++ 0x35 ∷ [] ++ esc 0x60 ++ 0x3f ∷ []) (Features (0x31 ∷ 0x35 ∷ 0x37 ∷ 0x39 ∷ 0x3f ∷ []) ∷ [])
     ∷ obeys (esc 0x60 ++ 0x3f ∷ [] ++ esc 0x60 ++ 0x40 ∷ [] ++ esc 0x60 ++ 0x3a ∷ []) (Features (0x31 ∷ 0x35 ∷ 0x37 ∷ 0x39 ∷ 0x40 ∷ []) ∷ [])
@@ -96,7 +100,8 @@ replyCases =
     ∷ obeys (0x41 ∷ 0x1f ∷ 0x42 ∷ [] ++ esc 0x37) (Replies (0x41 ∷ replicate 79 32 ++ 0x1f ∷ 0x42 ∷ 0x20 ∷ 0x0d ∷ []) ∷ [])
     ∷ obeysFrom (206 ∷ [] ++ replicate 79 0 ++ 206 ∷ []) (cursorAt 81) (0x42 ∷ [] ++ esc 0x26 ++ esc 0x37)
     (Replies (0x4e ∷ replicate 79 32 ++ 0x1f ∷ 0x4e ∷ 0x42 ∷ 0x20 ∷ 0x0d ∷ []) ∷ [])
-    ∷ obeysFrom (206 ∷ [] ++ replicate 79 0 ++ 206 ∷ []) (cursorAt 81) (0x42 ∷ [] ++ esc 0x26 ++ esc 0x35) (Replies (0x1c ∷ replicate 79 32 ++ 0x1f ∷ 0x1c ∷ 0x42 ∷ 0x20 ∷ 0x0d ∷ []) ∷ [])
+    ∷ obeysFrom (206 ∷ [] ++ replicate 79 0 ++ 206 ∷ []) (cursorAt 81) (0x42 ∷ [] ++ esc 0x26 ++ esc 0x35)
+    (Replies (0x1c ∷ replicate 79 32 ++ 0x1f ∷ 0x1c ∷ 0x42 ∷ 0x20 ∷ 0x0d ∷ []) ∷ [])
     ∷ obeysFrom (206 ∷ []) (cursorAt 1) (0x42 ∷ [] ++ esc 0x35) (Replies (0x1c ∷ 0x42 ∷ 0x20 ∷ 0x0d ∷ []) ∷ [])
     ∷ obeysFrom lettersBelow (lowerAt 1041) (esc 0x37) (Replies (0x41 ∷ replicate 79 32 ++ 0x1f ∷ 0x42 ∷ 0x20 ∷ 0x0d ∷ []) ∷ [])
     ∷ obeysFrom lettersBelow (lowerAt 1041) (esc 0x35) (Replies (0x41 ∷ replicate 79 32 ++ 0x1f ∷ 0x42 ∷ 0x20 ∷ 0x0d ∷ []) ∷ [])

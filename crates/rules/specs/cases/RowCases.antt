@@ -77,7 +77,8 @@ rowCases =
     ∷ from blank [] wy50 (ListStep 0x41 0 ∷ ListRun [] 0 ∷ []) (7 ∷ 7 ∷ []) []
     ∷ from blank (openRows 25) wy50 (ListRun (0x41 ∷ []) 0 ∷ []) (7 ∷ []) (openRows 25)
     -- a call without the list leaves it behind, and the next one with it answers 7 until the rebuild
-    ∷ fromPowerOn (Bare (Run (labelled 0 0 ++ esc 0x26) 0) ∷ ListStep 0x41 0 ∷ Rebuild ∷ ListStep 0x41 0 ∷ []) (0 ∷ 7 ∷ 0 ∷ 0 ∷ []) (79 ∷ 2 ∷ openRows 23)
+    ∷ fromPowerOn (Bare (Run (labelled 0 0 ++ esc 0x26) 0) ∷ ListStep 0x41 0 ∷ Rebuild ∷ ListStep 0x41 0 ∷ []) (0 ∷ 7 ∷ 0 ∷ 0 ∷ [])
+    (79 ∷ 2 ∷ openRows 23)
     -- a key press takes none
     ∷ fromPowerOn (Bare (Press 0x40 8) ∷ ListStep 0x41 0 ∷ []) (0 ∷ 0 ∷ []) (openRows 24)
     -- a bad page with its own list, a state that is not possible: 7

@@ -15,7 +15,8 @@ use Rattle.rules.specs.Calls.{Step, Run, Press, powerOnRule}
 use Rattle.rules.specs.cases.NextCases.{nextRefuses}
 use Rattle.rules.specs.RowCalls.{ListStep, ListRun, Rebuild}
 use Rattle.rules.specs.cases.RowCases.{RowCase, from, rowsWith, openRows, rowCasesHold}
-use Rattle.rules.specs.cases.Bench.{wy50, Claim, Cell, Cursor, Replies, Answers, Counts, Rests, Segments, TabStops, Features, Message, Stands, Columns, Wishes, Case, from-power-on, from-page, casesHold, host}
+use Rattle.rules.specs.cases.Bench.{wy50, Claim, Cell, Cursor, Replies, Answers, Counts, Rests, Segments, TabStops, Features, Message, Stands}
+use Rattle.rules.specs.cases.Bench.{Columns, Wishes, Case, from-power-on, from-page, casesHold, host}
 use Rattle.rules.specs.cases.Inputs.{esc, goTo, placedOn, obeys}
 
 -- a wide page of which the first cells are given and all others 0
@@ -63,7 +64,8 @@ wideCases =
     ∷ obeys (feature 0x3b ++ feature 0x3a) (Wishes false ∷ Columns 80 ∷ Features (0x31 ∷ 0x35 ∷ 0x37 ∷ 0x39 ∷ 0x40 ∷ []) ∷ [])
     ∷ obeys (feature 0x3b ++ feature 0x39 ++ feature 0x3c ++ 0x41 ∷ []) (Wishes true ∷ Columns 80 ∷ Cell 0 0x41 ∷ [])
     ∷ obeys
-    (feature 0x3b ++ esc 0x31 ++ esc 0x30 ++ esc 0x41 ++ 0x30 ∷ 0x30 ∷ esc 0x7a ++ 0x40 ∷ 0x61 ∷ 0x7f ∷ esc 0x7a ++ 0x50 ∷ 0x61 ∷ 0x0d ∷ esc 0x46 ++ 0x61 ∷ 0x0d ∷ esc 0x7a ++ 0x7f ∷ [])
+    (feature 0x3b ++ esc 0x31 ++ esc 0x30 ++ esc 0x41 ++ 0x30 ∷ 0x30 ∷ esc 0x7a ++ 0x40 ∷ 0x61 ∷ 0x7f ∷ esc 0x7a ++ 0x50 ∷ 0x61 ∷ 0x0d ∷ esc 0x46
+    ++ 0x61 ∷ 0x0d ∷ esc 0x7a ++ 0x7f ∷ [])
     (Wishes true ∷ Message (0x61 ∷ []) ∷ [])
     ∷ wide (feature 0x3b) (Wishes true ∷ Columns 132 ∷ Features (0x31 ∷ 0x35 ∷ 0x37 ∷ 0x39 ∷ 0x40 ∷ []) ∷ [])
     ∷ wide (feature 0x3b ++ feature 0x3a) (Wishes false ∷ Columns 132 ∷ [])
@@ -95,7 +97,8 @@ wideCases =
     ∷ wideRefuses 79 (esc 0x2f) (Replies [] ∷ [])
     ∷ wideRefuses 3167 (esc 0x2f) (Replies [] ∷ [])
     ∷ from-page (widePage []) (placedOn true 1 13 0 1584) (Run (esc 0x2f) 9 ∷ []) (Counts (2 ∷ 0 ∷ 1 ∷ []) ∷ Segments 1 13 0 1584 ∷ [])
-    ∷ from-page (widePage []) (wideAt 0) (Step 0x1b 0 ∷ Step 0x3f 0 ∷ Step 0x1b 0 ∷ Step 0x2f 0 ∷ Step 0x1b 0 ∷ Step 0x62 0 ∷ []) (Answers (0 ∷ 3 ∷ 0 ∷ 3 ∷ 0 ∷ 6 ∷ []) ∷ [])
+    ∷ from-page (widePage []) (wideAt 0) (Step 0x1b 0 ∷ Step 0x3f 0 ∷ Step 0x1b 0 ∷ Step 0x2f 0 ∷ Step 0x1b 0 ∷ Step 0x62 0 ∷ [])
+    (Answers (0 ∷ 3 ∷ 0 ∷ 3 ∷ 0 ∷ 6 ∷ []) ∷ [])
     ∷ from-power-on (Step 0x1b 0 ∷ Step 0x3f 0 ∷ Step 0x3f 3 ∷ Step 0x1b 0 ∷ Step 0x2f 4 ∷ [])
     (Answers (0 ∷ 6 ∷ 0 ∷ 0 ∷ 0 ∷ []) ∷ Replies (0x20 ∷ 0x20 ∷ 0x0d ∷ 0x30 ∷ 0x20 ∷ 0x20 ∷ 0x0d ∷ []) ∷ [])
     ∷ from-page (widePage []) (wideAt 131) (Run (esc 0x62) 6 ∷ Run [] 1 ∷ [])
@@ -134,9 +137,11 @@ wideCases =
     ∷ from-page (widePage []) (wideAt 3167) (Run (esc 0x37) 9999 ∷ []) (Counts (2 ∷ 3192 ∷ 0 ∷ []) ∷ Stands Sending.Nothing ∷ [])
     ∷ from-page (widePage []) (wideAt 3167) (Run (esc 0x37) 1 ∷ Run (0x05 ∷ []) 3192 ∷ []) (Counts (2 ∷ 1 ∷ 0 ∷ 1 ∷ 3192 ∷ 0 ∷ []) ∷ [])
     ∷ from-page (widePage []) (wideAt 3167) (Run (esc 0x37) 1 ∷ Run (0x05 ∷ []) 3191 ∷ []) (Counts (2 ∷ 1 ∷ 0 ∷ 0 ∷ 3191 ∷ 0 ∷ []) ∷ [])
-    ∷ from-page (widePage []) (wideAt 3167) (Run (esc 0x35) 3191 ∷ []) (Counts (2 ∷ 3191 ∷ 0 ∷ []) ∷ Stands (Sending.Text false true Place.Return) ∷ [])
+    ∷ from-page (widePage []) (wideAt 3167) (Run (esc 0x35) 3191 ∷ [])
+    (Counts (2 ∷ 3191 ∷ 0 ∷ []) ∷ Stands (Sending.Text false true Place.Return) ∷ [])
     -- the sizes of texts are those of a narrow page
-    ∷ from-page (widePage []) (wideAt 0) (Run (esc 0x46 ++ replicate 46 0x61 ++ 0x0d ∷ []) 0 ∷ []) (Counts (49 ∷ 0 ∷ 0 ∷ []) ∷ Message (replicate 46 0x61) ∷ [])
+    ∷ from-page (widePage []) (wideAt 0) (Run (esc 0x46 ++ replicate 46 0x61 ++ 0x0d ∷ []) 0 ∷ [])
+    (Counts (49 ∷ 0 ∷ 0 ∷ []) ∷ Message (replicate 46 0x61) ∷ [])
     ∷ from-page (widePage []) (wideAt 0) (Run (esc 0x46 ++ replicate 47 0x61 ++ 0x0d ∷ []) 0 ∷ []) (Counts (50 ∷ 0 ∷ 1 ∷ []) ∷ Message [] ∷ [])
     ∷ []
 
@@ -155,7 +160,8 @@ wideRows =
 pub record WideList : Type 0 where
   pub cases : casesHold wideCases ≡ true
   -- power-on takes no wide page
-  pub power-on : powerOnRule Personality.Wy50 (replicate 3168 5) ≡ record { answer = 7; taken = false; state = wy50; page = replicate 3168 5; reply = [] }
+  pub power-on : powerOnRule Personality.Wy50 (replicate 3168 5)
+      ≡ record { answer = 7; taken = false; state = wy50; page = replicate 3168 5; reply = [] }
   pub rows : rowCasesHold wideRows ≡ true
   pub next-narrow : nextRefuses blank (wideAt 0) ≡ true
   pub next-wide : nextRefuses (widePage []) wy50 ≡ true

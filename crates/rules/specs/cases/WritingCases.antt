@@ -4,7 +4,8 @@ use Prim.Native.Nat.{ℕ}
 use lib.ListN.{replicate}
 use Rattle.rules.specs.cases.Bench.{wy50, wy60, Cell, Cursor, InModes, Case}
 use Rattle.rules.specs.cases.Trials.{Trial, trial, one}
-use Rattle.rules.specs.cases.Inputs.{esc, goTo, labelled, threeLetters, lettersBelow, cursorAt, protectAt, upperAt, lowerAt, obeys, refuses, obeysFrom, refusesFrom}
+use Rattle.rules.specs.cases.Inputs.{esc, goTo, labelled, threeLetters, lettersBelow, cursorAt, protectAt, upperAt, lowerAt, obeys, refuses}
+use Rattle.rules.specs.cases.Inputs.{obeysFrom, refusesFrom}
 
 -- the bytes of these commands after ESC: ! * + , . : ; E G H Q R T V W Y q r t y
 unfoldable pub writingBytes : List ℕ
@@ -31,7 +32,8 @@ writingCases =
     ∷ obeys (0x41 ∷ 0x1f ∷ 0x42 ∷ [] ++ goTo 23 79 ++ 0x58 ∷ []) (Cell 0 0x42 ∷ Cell 1839 0x58 ∷ Cell 1840 32 ∷ Cell 1919 32 ∷ Cursor 1840 ∷ [])
     ∷ obeys (0x41 ∷ [] ++ esc 0x26 ++ goTo 23 79 ++ 0x58 ∷ []) (Cell 0 0x41 ∷ Cell 1919 0x58 ∷ Cursor 0 ∷ [])
     ∷ obeys (0x41 ∷ [] ++ esc 0x4e ++ goTo 23 79 ++ 0x58 ∷ []) (Cell 0 0x41 ∷ Cell 1919 0x58 ∷ Cursor 0 ∷ [])
-    ∷ obeysFrom (replicate 960 0 ++ 0x58 ∷ []) (upperAt 0) (0x41 ∷ [] ++ goTo 11 79 ++ 0x42 ∷ []) (Cell 0 0 ∷ Cell 879 0x42 ∷ Cell 880 32 ∷ Cell 960 0x58 ∷ Cursor 880 ∷ [])
+    ∷ obeysFrom (replicate 960 0 ++ 0x58 ∷ []) (upperAt 0) (0x41 ∷ [] ++ goTo 11 79 ++ 0x42 ∷ [])
+    (Cell 0 0 ∷ Cell 879 0x42 ∷ Cell 880 32 ∷ Cell 960 0x58 ∷ Cursor 880 ∷ [])
     ∷ obeysFrom lettersBelow (lowerAt 1919) (0x43 ∷ []) (Cell 0 0x58 ∷ Cell 960 0x42 ∷ Cell 1839 0x43 ∷ Cell 1840 32 ∷ Cursor 1840 ∷ [])
     ∷ obeysFrom lettersBelow (lowerAt 1041) (esc 0x4e ++ goTo 11 79 ++ 0x43 ∷ []) (Cell 960 0x41 ∷ Cell 1919 0x43 ∷ Cursor 960 ∷ [])
     -- the last open cell, cells behind it being guarded
@@ -45,7 +47,8 @@ writingCases =
     ∷ obeysFrom (0 ∷ 0 ∷ 0 ∷ 206 ∷ []) (cursorAt 4) (0x7a ∷ 0x1e ∷ 0x61 ∷ 0x62 ∷ 0x63 ∷ [] ++ esc 0x26 ++ 0x1e ∷ [] ++ esc 0x57)
     (Cell 0 0x62 ∷ Cell 1 0x63 ∷ Cell 2 32 ∷ Cell 3 206 ∷ Cell 4 0x7a ∷ Cursor 0 ∷ [])
     -- a run of one cell loses its cell
-    ∷ obeysFrom (0 ∷ 206 ∷ []) (cursorAt 2) (0x1e ∷ 0x61 ∷ [] ++ esc 0x26 ++ 0x1e ∷ [] ++ esc 0x71 ++ 0x78 ∷ []) (Cell 0 0x78 ∷ Cell 1 206 ∷ Cell 2 0 ∷ Cursor 2 ∷ [])
+    ∷ obeysFrom (0 ∷ 206 ∷ []) (cursorAt 2) (0x1e ∷ 0x61 ∷ [] ++ esc 0x26 ++ 0x1e ∷ [] ++ esc 0x71 ++ 0x78 ∷ [])
+    (Cell 0 0x78 ∷ Cell 1 206 ∷ Cell 2 0 ∷ Cursor 2 ∷ [])
     -- with protect off a label moves along, and the last cell of the row is lost, not the next row's
     ∷ obeysFrom (0 ∷ 0 ∷ 0 ∷ 206 ∷ []) (cursorAt 0) (esc 0x51) (Cell 0 32 ∷ Cell 3 0 ∷ Cell 4 206 ∷ Cursor 0 ∷ [])
     ∷ obeysFrom [] (cursorAt 79) (0x61 ∷ 0x62 ∷ 0x1e ∷ [] ++ esc 0x51) (Cell 0 32 ∷ Cell 79 0 ∷ Cell 80 0x62 ∷ [])
@@ -66,7 +69,8 @@ writingCases =
     ∷ obeysFrom threeLetters (cursorAt 83) (esc 0x45) (Cell 0 0x41 ∷ Cell 80 32 ∷ Cell 160 0x43 ∷ Cursor 80 ∷ [])
     ∷ obeysFrom threeLetters (cursorAt 83) (esc 0x52) (Cell 0 0x41 ∷ Cell 80 0 ∷ Cell 1840 32 ∷ Cursor 80 ∷ [])
     ∷ obeysFrom (replicate 960 0 ++ 0x58 ∷ []) (upperAt 0) (0x41 ∷ [] ++ esc 0x45) (Cell 0 32 ∷ Cell 80 0x41 ∷ Cell 960 0x58 ∷ Cursor 0 ∷ [])
-    ∷ obeysFrom (replicate 960 0 ++ 0x58 ∷ []) (upperAt 0) (0x41 ∷ [] ++ esc 0x52) (Cell 0 0 ∷ Cell 879 0 ∷ Cell 880 32 ∷ Cell 960 0x58 ∷ Cursor 0 ∷ [])
+    ∷ obeysFrom (replicate 960 0 ++ 0x58 ∷ []) (upperAt 0) (0x41 ∷ [] ++ esc 0x52)
+    (Cell 0 0 ∷ Cell 879 0 ∷ Cell 880 32 ∷ Cell 960 0x58 ∷ Cursor 0 ∷ [])
     ∷ obeysFrom lettersBelow (lowerAt 965) (esc 0x45) (Cell 0 0x58 ∷ Cell 960 32 ∷ Cell 1040 0x41 ∷ Cell 1120 0x42 ∷ Cursor 960 ∷ [])
     ∷ obeysFrom lettersBelow (lowerAt 965) (esc 0x52) (Cell 0 0x58 ∷ Cell 960 0x42 ∷ Cell 1040 0 ∷ Cell 1839 0 ∷ Cell 1840 32 ∷ Cursor 960 ∷ [])
     ∷ obeys (esc 0x29 ++ esc 0x45) (Cell 0 32 ∷ Cell 79 32 ∷ Cell 80 0 ∷ [])
@@ -78,8 +82,10 @@ writingCases =
     ∷ obeysFrom threeLetters (cursorAt 1) (esc 0x59) (Cell 0 0x41 ∷ Cell 1 32 ∷ Cell 80 32 ∷ Cell 1919 32 ∷ Cursor 1 ∷ [])
     ∷ obeysFrom threeLetters (cursorAt 1) (esc 0x74) (Cell 0 0x41 ∷ Cell 1 0 ∷ Cell 80 0x43 ∷ Cursor 1 ∷ [])
     ∷ obeysFrom threeLetters (cursorAt 1) (esc 0x79) (Cell 0 0x41 ∷ Cell 1 0 ∷ Cell 80 0 ∷ Cursor 1 ∷ [])
-    ∷ obeysFrom (replicate 960 0 ++ 0x58 ∷ []) (upperAt 0) (0x41 ∷ [] ++ esc 0x59) (Cell 0 0x41 ∷ Cell 1 32 ∷ Cell 959 32 ∷ Cell 960 0x58 ∷ Cursor 1 ∷ [])
-    ∷ obeysFrom (replicate 960 0 ++ 0x58 ∷ []) (upperAt 0) (0x41 ∷ 0x42 ∷ 0x08 ∷ [] ++ esc 0x79) (Cell 0 0x41 ∷ Cell 1 0 ∷ Cell 960 0x58 ∷ Cursor 1 ∷ [])
+    ∷ obeysFrom (replicate 960 0 ++ 0x58 ∷ []) (upperAt 0) (0x41 ∷ [] ++ esc 0x59)
+    (Cell 0 0x41 ∷ Cell 1 32 ∷ Cell 959 32 ∷ Cell 960 0x58 ∷ Cursor 1 ∷ [])
+    ∷ obeysFrom (replicate 960 0 ++ 0x58 ∷ []) (upperAt 0) (0x41 ∷ 0x42 ∷ 0x08 ∷ [] ++ esc 0x79)
+    (Cell 0 0x41 ∷ Cell 1 0 ∷ Cell 960 0x58 ∷ Cursor 1 ∷ [])
     ∷ obeysFrom lettersBelow (lowerAt 961) (esc 0x59) (Cell 0 0x58 ∷ Cell 959 0 ∷ Cell 960 0x41 ∷ Cell 961 32 ∷ Cell 1919 32 ∷ Cursor 961 ∷ [])
     ∷ obeysFrom lettersBelow (lowerAt 961) (esc 0x79) (Cell 0 0x58 ∷ Cell 960 0x41 ∷ Cell 1040 0 ∷ Cursor 961 ∷ [])
     -- open cells only; unprotected, whatever write-protect is; a guarded cursor settles nothing
@@ -106,8 +112,10 @@ writingCases =
     ∷ refuses 3 (0x41 ∷ [] ++ esc 0x2e ++ 0x7f ∷ []) (Cell 0 0x41 ∷ Cursor 1 ∷ [])
     -- ESC * nulls, ESC + spaces, ESC , protected spaces: all cells of the segment, cursor home; only ESC , turns protect off
     ∷ obeysFrom (0 ∷ 0 ∷ 0 ∷ 206 ∷ []) (protectAt 4) (esc 0x2a) (Cell 3 0 ∷ Cursor 0 ∷ InModes (1 ∷ 0 ∷ 0 ∷ 1 ∷ 0 ∷ 0 ∷ []) ∷ [])
-    ∷ obeysFrom (0 ∷ 0 ∷ 0 ∷ 206 ∷ []) (protectAt 4) (esc 0x2b) (Cell 0 32 ∷ Cell 3 32 ∷ Cell 1919 32 ∷ Cursor 0 ∷ InModes (1 ∷ 0 ∷ 0 ∷ 1 ∷ 0 ∷ 0 ∷ []) ∷ [])
-    ∷ obeysFrom (0 ∷ 0 ∷ 0 ∷ 206 ∷ []) (protectAt 4) (esc 0x2c) (Cell 0 160 ∷ Cell 3 160 ∷ Cell 1919 160 ∷ Cursor 0 ∷ InModes (0 ∷ 0 ∷ 0 ∷ 1 ∷ 0 ∷ 0 ∷ []) ∷ [])
+    ∷ obeysFrom (0 ∷ 0 ∷ 0 ∷ 206 ∷ []) (protectAt 4) (esc 0x2b)
+    (Cell 0 32 ∷ Cell 3 32 ∷ Cell 1919 32 ∷ Cursor 0 ∷ InModes (1 ∷ 0 ∷ 0 ∷ 1 ∷ 0 ∷ 0 ∷ []) ∷ [])
+    ∷ obeysFrom (0 ∷ 0 ∷ 0 ∷ 206 ∷ []) (protectAt 4) (esc 0x2c)
+    (Cell 0 160 ∷ Cell 3 160 ∷ Cell 1919 160 ∷ Cursor 0 ∷ InModes (0 ∷ 0 ∷ 0 ∷ 1 ∷ 0 ∷ 0 ∷ []) ∷ [])
     ∷ obeysFrom lettersBelow (lowerAt 1041) (esc 0x2a) (Cell 0 0x58 ∷ Cell 960 0 ∷ Cell 1040 0 ∷ Cursor 960 ∷ [])
     ∷ obeysFrom lettersBelow (lowerAt 1041) (esc 0x2b) (Cell 0 0x58 ∷ Cell 959 0 ∷ Cell 960 32 ∷ Cell 1919 32 ∷ Cursor 960 ∷ [])
     ∷ obeysFrom lettersBelow (lowerAt 1041) (esc 0x2c) (Cell 0 0x58 ∷ Cell 959 0 ∷ Cell 960 160 ∷ Cell 1919 160 ∷ Cursor 960 ∷ [])

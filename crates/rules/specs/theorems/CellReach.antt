@@ -47,7 +47,8 @@ pub record CellReach : Type 0 where
   -- page and state stay good, so the page has the length of a width
   pub left-good : (m : Personality) (p : List ℕ) (s : State) → Reached m p s → good p s ≡ true
   -- lists of calls are among these
-  pub played : (m : Personality) (p : List ℕ) (s : State) (calls : List Call) → Reached m p s → Reached m (play calls p s .page) (play calls p s .state)
+  pub played : (m : Personality) (p : List ℕ) (s : State) (calls : List Call) → Reached m p s
+      → Reached m (play calls p s .page) (play calls p s .state)
   -- and calls with row lists too leave no other, l being the list at the start
   pub rows-writable : (m : Personality) (l : List ℕ) (calls : List RowCall)
       → AllWritable m (rowPlay calls (record { page = blank; rows = l; state = powerOn m }) .session .page)

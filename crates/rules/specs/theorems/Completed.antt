@@ -75,7 +75,8 @@ pub record NoneCompleted : Type 0 where
   -- a byte that does not answer 0, as ESC 6 and ESC 7 that answer 6
   pub refused : (p : List ℕ) (s : State) (b room : ℕ) → ((stepRule p s b room) .answer ≡ 0 → ⊥) → anyCompleted (Step b room ∷ []) p s ≡ false
   -- a step or a run in which no byte after a bare ESC is one of the six
-  pub step : (p : List ℕ) (s : State) (b room : ℕ) → (s .core .pending ≡ Pending.Escape → OneOfSix b → ⊥) → anyCompleted (Step b room ∷ []) p s ≡ false
+  pub step : (p : List ℕ) (s : State) (b room : ℕ) → (s .core .pending ≡ Pending.Escape → OneOfSix b → ⊥)
+      → anyCompleted (Step b room ∷ []) p s ≡ false
   pub run : (p : List ℕ) (s : State) (bytes : List ℕ) (room : ℕ)
       → ((before : List ℕ) (b : ℕ) (behind : List ℕ) → bytes ≡ before ++ (b ∷ behind)
       → (runRule p s before room) .state .core .pending ≡ Pending.Escape → OneOfSix b → ⊥)

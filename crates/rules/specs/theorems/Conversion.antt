@@ -39,21 +39,28 @@ pub record Lost (v w : ℕ) (p : List ℕ) : Type 0 where
 pub record Conversion : Type 0 where
   -- a good page and state stay good, at the other width
   pub stays-good : (p : List ℕ) (s : State) (t : List ℕ) → convertRule p s t .answer ≡ 0
-      → (good (convertRule p s t .target) (convertRule p s t .state) ≡ true) × (widthOf (convertRule p s t .state .core .screen) ≡ otherWidth (s .core .screen .wide))
+      → (good (convertRule p s t .target) (convertRule p s t .state) ≡ true)
+      × (widthOf (convertRule p s t .state .core .screen) ≡ otherWidth (s .core .screen .wide))
   -- refused: nothing has changed
-  pub refused : (p : List ℕ) (s : State) (t : List ℕ) → (convertRule p s t .answer ≡ 0 → ⊥) → convertRule p s t ≡ unturned (convertRule p s t .answer) t s
+  pub refused : (p : List ℕ) (s : State) (t : List ℕ) → (convertRule p s t .answer ≡ 0 → ⊥)
+      → convertRule p s t ≡ unturned (convertRule p s t .answer) t s
   -- outside a send, 4 exactly if a cell is lost
-  pub lost : (p : List ℕ) (s : State) (t : List ℕ) → convertRule p s t .answer ≡ 4 → Lost (widthOf (s .core .screen)) (otherWidth (s .core .screen .wide)) p
-  pub barred : (p : List ℕ) (s : State) (t : List ℕ) → good p s ≡ true → length t ≡ height * otherWidth (s .core .screen .wide) → sends (s .sending) ≡ false
+  pub lost : (p : List ℕ) (s : State) (t : List ℕ) → convertRule p s t .answer ≡ 4
+      → Lost (widthOf (s .core .screen)) (otherWidth (s .core .screen .wide)) p
+  pub barred : (p : List ℕ) (s : State) (t : List ℕ) → good p s ≡ true → length t ≡ height * otherWidth (s .core .screen .wide)
+      → sends (s .sending) ≡ false
       → Lost (widthOf (s .core .screen)) (otherWidth (s .core .screen .wide)) p → convertRule p s t .answer ≡ 4
   -- each cell of the old page that the other width has is where it was
-  pub cells : (p : List ℕ) (s : State) (t : List ℕ) (row column : ℕ) → convertRule p s t .answer ≡ 0 → row < height → column < widthOf (s .core .screen)
+  pub cells : (p : List ℕ) (s : State) (t : List ℕ) (row column : ℕ) → convertRule p s t .answer ≡ 0 → row < height
+      → column < widthOf (s .core .screen)
       → column < otherWidth (s .core .screen .wide)
       → getD (convertRule p s t .target) (row * otherWidth (s .core .screen .wide) + column) 0 ≡ getD p (row * widthOf (s .core .screen) + column) 0
   -- the others are nulls
-  pub nulls : (p : List ℕ) (s : State) (t : List ℕ) (row column : ℕ) → convertRule p s t .answer ≡ 0 → row < height → widthOf (s .core .screen) ≤ column
+  pub nulls : (p : List ℕ) (s : State) (t : List ℕ) (row column : ℕ) → convertRule p s t .answer ≡ 0 → row < height
+      → widthOf (s .core .screen) ≤ column
       → column < otherWidth (s .core .screen .wide)
       → getD (convertRule p s t .target) (row * otherWidth (s .core .screen .wide) + column) 0 ≡ null
   -- widening, and then narrowing, gives page and state back; a state holds 132 tab stops
-  pub back : (p : List ℕ) (s : State) (t u : List ℕ) → s .core .screen .wide ≡ false → length (s .setup .tabs) ≡ 132 → convertRule p s t .answer ≡ 0 → length u ≡ length p
+  pub back : (p : List ℕ) (s : State) (t u : List ℕ) → s .core .screen .wide ≡ false → length (s .setup .tabs) ≡ 132 → convertRule p s t .answer ≡ 0
+      → length u ≡ length p
       → Back p s (convertRule (convertRule p s t .target) (convertRule p s t .state) u)

@@ -10,7 +10,8 @@ use Rattle.rules.specs.Step.{unheard, stepRule}
 use Rattle.rules.specs.Calls.{ended, runRule, play}
 use Rattle.rules.specs.Next.{nextRule}
 use Rattle.rules.specs.RowList.{agrees}
-use Rattle.rules.specs.RowCalls.{stepRowsRule, runRowsRule, nextRowsRule, rowsAfter, rebuildAnswer, rebuilt, Session, RowCall, rowPlay, bareCalls}
+use Rattle.rules.specs.RowCalls.{stepRowsRule, runRowsRule, nextRowsRule, rowsAfter, rebuildAnswer, rebuilt, Session, RowCall, rowPlay}
+use Rattle.rules.specs.RowCalls.{bareCalls}
 
 -- what the request says: with a list that agrees a step, a run and `next` give what they give without it, and the list agrees after it; so do the
 -- page and the state after a list of calls

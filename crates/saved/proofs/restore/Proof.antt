@@ -19,14 +19,34 @@ restore-spec =
     -- is-store-requires
     (λ c κs. search needs)
     -- returns-2
-    (λ c. restore-unlike _ _ _ (sym (c .before .before .before .possible .ensures) ∙ not-false _ (c .before .before .if1 .left)) (sym (c .before .is-store .ensures) ∙ not-true _ (c .if2 .taken)))
+    (λ c. restore-unlike _ _ _ (sym (c .before .before .before .possible .ensures) ∙ not-false _ (c .before .before .if1 .left))
+    (sym (c .before .is-store .ensures) ∙ not-true _ (c .if2 .taken)))
     -- last-number-requires
     (λ c κs. sym (c .before .is-store .ensures) ∙ not-false _ (c .if2 .left))
     -- is-restorable-requires
     (λ c κs. search needs)
     -- returns-3
-    (λ c. restore-none _ _ _ (sym (c .before .before .before .before .before .before .possible .ensures) ∙ not-false _ (c .before .before .before .before .before .if1 .left)) (sym (c .before .before .before .before .is-store .ensures) ∙ not-false _ (c .before .before .before .if2 .left)) (sym (c .before .is-restorable .ensures ∙ ap (λ (k : ℕ). restorable k (c .before .before .before .before .before .before .before .before .args .number)) (c .before .before .last-number .ensures)) ∙ not-true _ (c .if3 .taken)))
+    (λ c. restore-none _ _ _
+    (sym (c .before .before .before .before .before .before .possible .ensures)
+    ∙ not-false _ (c .before .before .before .before .before .if1 .left))
+    (sym (c .before .before .before .before .is-store .ensures) ∙ not-false _ (c .before .before .before .if2 .left))
+    (sym (c .before .is-restorable .ensures
+    ∙ ap (λ (k : ℕ). restorable k (c .before .before .before .before .before .before .before .before .args .number))
+    (c .before .before .last-number .ensures)) ∙ not-true _ (c .if3 .taken)))
     -- restore-from-requires
-    (λ c κs. (sym (c .before .before .before .before .is-store .ensures) ∙ not-false _ (c .before .before .before .if2 .left), sym (c .before .is-restorable .ensures ∙ ap (λ (k : ℕ). restorable k (c .before .before .before .before .before .before .before .before .args .number)) (c .before .before .last-number .ensures)) ∙ not-false _ (c .if3 .left)))
+    (λ c κs. (
+      sym (c .before .before .before .before .is-store .ensures)
+          ∙ not-false _ (c .before .before .before .if2 .left),
+      sym
+          (c .before .is-restorable .ensures
+          ∙ ap (λ (k : ℕ). restorable k (c .before .before .before .before .before .before .before .before .args .number))
+          (c .before .before .last-number .ensures)) ∙ not-false _ (c .if3 .left),
+    ))
     -- returns-4
-    (λ c. restore-some _ _ _ (sym (c .before .before .before .before .before .before .before .possible .ensures) ∙ not-false _ (c .before .before .before .before .before .before .if1 .left)) (sym (c .before .before .before .before .before .is-store .ensures) ∙ not-false _ (c .before .before .before .before .if2 .left)) (sym (c .before .before .is-restorable .ensures ∙ ap (λ (k : ℕ). restorable k (c .before .before .before .before .before .before .before .before .before .args .number)) (c .before .before .before .last-number .ensures)) ∙ not-false _ (c .before .if3 .left)) (c .restore-from .ensures)))
+    (λ c. restore-some _ _ _
+    (sym (c .before .before .before .before .before .before .before .possible .ensures)
+    ∙ not-false _ (c .before .before .before .before .before .before .if1 .left))
+    (sym (c .before .before .before .before .before .is-store .ensures) ∙ not-false _ (c .before .before .before .before .if2 .left))
+    (sym (c .before .before .is-restorable .ensures
+    ∙ ap (λ (k : ℕ). restorable k (c .before .before .before .before .before .before .before .before .before .args .number))
+    (c .before .before .before .last-number .ensures)) ∙ not-false _ (c .before .if3 .left)) (c .restore-from .ensures)))

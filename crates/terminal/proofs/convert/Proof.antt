@@ -23,7 +23,8 @@ start a = a .before .before .before .before .before
 -- the test: page, state and target are of the right lengths
 tested : (a : tie.After-and) → let x = start a .args in
     a .and .result ≡ both (good (now (x .page)) (x .state)) (eqb (length (now (x .target))) (24 * otherWidth (x .state .core .screen .wide)))
-tested a = a .and .ensures ∙ ap₂ both (a .before .is-good .ensures) (ap (eqb (length (now (start a .args .target)))) (a .before .before .cells .ensures))
+tested a = a .and .ensures
+    ∙ ap₂ both (a .before .is-good .ensures) (ap (eqb (length (now (start a .args .target)))) (a .before .before .cells .ensures))
 
 -- past it
 passed : (e : tie.Else1) → let x = start (e .before) .args in

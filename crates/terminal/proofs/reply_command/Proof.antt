@@ -34,7 +34,8 @@ reply-command-spec =
     let t = c .before in
     let e = t .before .before in
     let s = start e .args in
-    c .command-of .ensures ∙ told-send (s .sending) (now (s .input)) (s .taken) (s .replied) (e .if1 .left) (sym (t .before .is-sending .ensures) ∙ t .if2 .taken))
+    c .command-of .ensures
+    ∙ told-send (s .sending) (now (s .input)) (s .taken) (s .replied) (e .if1 .left) (sym (t .before .is-sending .ensures) ∙ t .if2 .taken))
     -- or-requires
     (λ c κs. search needs)
     -- returns-3
@@ -53,4 +54,5 @@ reply-command-spec =
     let n = unsent (c .before) in
     let e = n .before .before in
     let s = start e .args in
-    told-byte (s .sending) (now (s .input)) (s .taken) (s .replied) (e .if1 .left) (sym (n .before .is-sending .ensures) ∙ n .if2 .left) (place (c .before) .0)))
+    told-byte (s .sending) (now (s .input)) (s .taken) (s .replied) (e .if1 .left) (sym (n .before .is-sending .ensures) ∙ n .if2 .left)
+    (place (c .before) .0)))

@@ -68,7 +68,8 @@ fn edit_row(ground: Ground, at: usize, down: bool) -> Act
 
 // ESC j in the top row.
 fn reverse(ground: Ground, at: usize) -> Act
-    requires { ⌜ (at < ground .end) × ((ground .end ≤ wideCells) × ((ground .home ≤ ground .end) × ((ground .top ≤ height) × (ground .bottom ≤ height)))) ⌝ }
+    requires { ⌜ (at < ground .end)
+        × ((ground .end ≤ wideCells) × ((ground .home ≤ ground .end) × ((ground .top ≤ height) × (ground .bottom ≤ height)))) ⌝ }
     ensures { λ r. ⌜ ((p : List ℕ) → r .at < ground .end → Edits ground p at 0x6a (r .write) (r .at)) ⌝ }
 {
     if ground.protect {
@@ -101,7 +102,8 @@ fn clear(at: usize, to: usize, value: u16) -> Act
 // Those of the segment, whose first cell is open.
 fn clear_segment(page: &[u16], ground: Ground, value: u16) -> Act
     requires { ⌜ Fits ground (now page) ⌝ }
-    ensures { λ r. ⌜ ((at b : ℕ) (spaces : Bool) → value ≡ blank spaces → b ≡ pick spaces 0x3b 0x3a → r .at < ground .end → Edits ground (now (page .entry)) at b (r .write) (r .at)) ⌝ }
+    ensures { λ r. ⌜ ((at b : ℕ) (spaces : Bool) → value ≡ blank spaces → b ≡ pick spaces 0x3b 0x3a → r .at < ground .end
+        → Edits ground (now (page .entry)) at b (r .write) (r .at)) ⌝ }
 {
     if is_guarded_at(page, ground.protect, ground.home) {
         return none(ground);

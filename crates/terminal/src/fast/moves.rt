@@ -27,7 +27,8 @@ fn cell_at(ground: Ground, row: u8, column: u8) -> usize
 // The cell of an ESC = whose ESC is byte i, if it is an open one of the segment; else `end`.
 pub(crate) fn address(page: &[u16], ground: Ground, input: &[u8], i: usize) -> usize
     requires { ⌜ Fits ground (now page) × ((i < length (now input)) × (getD (now input) i 0 ≡ 0x1b)) ⌝ }
-    ensures { λ r. ⌜ (r < ground .end → (i + 4 ≤ length (now (input .entry))) × (Addressed ground (now (input .entry)) i r × openAt ground (now (page .entry)) r)) ⌝ }
+    ensures { λ r. ⌜ (r < ground .end
+        → (i + 4 ≤ length (now (input .entry))) × (Addressed ground (now (input .entry)) i r × openAt ground (now (page .entry)) r)) ⌝ }
 {
     if input.len() <= i + 3 {
         return ground.end;

@@ -31,7 +31,8 @@ wy50-convert-spec =
     let t = n .before .before .before .before in
     let e = t .before .before .before in
     let x = e .before .before .before .before .args in
-    turns-refused (now (x .page)) (x .state) (now (x .target)) (sym (e .before .is-named .ensures) ∙ not-false _ (e .if1 .left)) (t .before .before .unpack .ensures)
+    turns-refused (now (x .page)) (x .state) (now (x .target)) (sym (e .before .is-named .ensures) ∙ not-false _ (e .if1 .left))
+    (t .before .before .unpack .ensures)
     (t .convert .ensures) (n .answer-number .ensures) (c .if2 .taken))
     -- pack-requires
     (λ c κs. search needs)
@@ -43,5 +44,6 @@ wy50-convert-spec =
     let t = n .before .before .before .before in
     let e = t .before .before .before in
     let x = e .before .before .before .before .args in
-    turns-done (now (x .page)) (x .state) (now (x .target)) (sym (e .before .is-named .ensures) ∙ not-false _ (e .if1 .left)) (t .before .before .unpack .ensures)
+    turns-done (now (x .page)) (x .state) (now (x .target)) (sym (e .before .is-named .ensures) ∙ not-false _ (e .if1 .left))
+    (t .before .before .unpack .ensures)
     (t .convert .ensures) (n .answer-number .ensures) (c .before .if2 .left) (c .pack .ensures)))

@@ -48,7 +48,8 @@ wy50-next-spec =
     let t = called n in
     let u = unpacked t in
     let x = start (u .before) .args in
-    heard-seven (now (x .page)) (now (x .rows)) (x .state) (now (x .input)) (now (x .reply)) (known (u .before)) (u .unpack .ensures) (t .next .ensures .0)
+    heard-seven (now (x .page)) (now (x .rows)) (x .state) (now (x .input)) (now (x .reply)) (known (u .before)) (u .unpack .ensures)
+    (t .next .ensures .0)
     (t .next .ensures .1) (n .answer-number .ensures) (c .if2 .taken))
     -- reply-command-requires
     (λ c κs. search needs)

@@ -19,7 +19,8 @@ wy50-power-on-spec =
     -- returns
     (λ c.
     let if = c .before .before in
-    power-on-refused _ _ (sym (if .before .is-personality .ensures) ∙ not-true _ (if .if1 .taken)) (c .before .power-on-state .ensures) (c .fresh .ensures))
+    power-on-refused _ _ (sym (if .before .is-personality .ensures) ∙ not-true _ (if .if1 .taken)) (c .before .power-on-state .ensures)
+    (c .fresh .ensures))
     -- personality-at-requires
     (λ c κs. search needs)
     -- power-on-requires
@@ -34,5 +35,6 @@ wy50-power-on-spec =
     (λ c.
     let on = c .before .before .before .before .before in
     let if = on .before .before .before in
-    powered-on _ _ (sym (if .before .is-personality .ensures) ∙ not-false _ (if .if1 .left)) (on .before .personality-at .ensures) (on .power-on .ensures)
+    powered-on _ _ (sym (if .before .is-personality .ensures) ∙ not-false _ (if .if1 .left)) (on .before .personality-at .ensures)
+    (on .power-on .ensures)
     (c .before .answer-number .ensures) (c .fresh2 .ensures)))

@@ -32,4 +32,5 @@ wy50-rebuild-rows-spec =
     (λ c.
     let r = c .before .before .before in
     let u = r .before in
-    rebuilt-named _ _ _ (known (u .before .before)) (u .unpack .ensures) (c .answer-number .ensures) (r .rebuild-rows .ensures .0) (r .rebuild-rows .ensures .1)))
+    rebuilt-named _ _ _ (known (u .before .before)) (u .unpack .ensures) (c .answer-number .ensures) (r .rebuild-rows .ensures .0)
+    (r .rebuild-rows .ensures .1)))

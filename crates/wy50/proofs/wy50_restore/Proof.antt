@@ -21,8 +21,14 @@ wy50-restore-spec =
     -- restore-number-requires
     (λ c κs. search needs)
     -- returns-2
-    (λ c. restore-refused _ _ _ (sym (c .before .before .before .before .before .before .is-named .ensures) ∙ not-false _ (c .before .before .before .before .before .if1 .left)) (c .before .before .before .before .unpack .ensures) (c .before .before .before .restore .ensures) (c .before .restore-number .ensures) (c .if2 .taken))
+    (λ c. restore-refused _ _ _
+    (sym (c .before .before .before .before .before .before .is-named .ensures)
+    ∙ not-false _ (c .before .before .before .before .before .if1 .left)) (c .before .before .before .before .unpack .ensures)
+    (c .before .before .before .restore .ensures) (c .before .restore-number .ensures) (c .if2 .taken))
     -- pack-requires
     (λ c κs. search needs)
     -- returns-3
-    (λ c. restore-named _ _ _ (sym (c .before .before .before .before .before .before .before .is-named .ensures) ∙ not-false _ (c .before .before .before .before .before .before .if1 .left)) (c .before .before .before .before .before .unpack .ensures) (c .before .before .before .before .restore .ensures) (c .before .before .restore-number .ensures) (c .before .if2 .left) (c .pack .ensures)))
+    (λ c. restore-named _ _ _
+    (sym (c .before .before .before .before .before .before .before .is-named .ensures)
+    ∙ not-false _ (c .before .before .before .before .before .before .if1 .left)) (c .before .before .before .before .before .unpack .ensures)
+    (c .before .before .before .before .restore .ensures) (c .before .before .restore-number .ensures) (c .before .if2 .left) (c .pack .ensures)))

@@ -47,4 +47,5 @@ wy50-run-spec =
     let n = c .before .before in
     let t = n .before .before .before .before .before .before in
     let u = t .before .before in
-    completed _ _ _ _ (known (u .before .before)) (u .unpack .ensures) (t .run .ensures) (n .answer-number .ensures) (c .before .if2 .left) (c .pack .ensures)))
+    completed _ _ _ _ (known (u .before .before)) (u .unpack .ensures) (t .run .ensures) (n .answer-number .ensures) (c .before .if2 .left)
+    (c .pack .ensures)))

@@ -23,4 +23,6 @@ wy50-save-spec =
     -- same-length
     (λ c. search needs)
     -- returns-2
-    (λ c. save-named _ _ (sym (c .before .before .before .before .before .before .before .is-named .ensures) ∙ not-false _ (c .before .before .before .before .before .before .if1 .left)) (c .before .before .before .before .before .unpack .ensures) (c .before .before .before .save .ensures) (c .save-numbers .ensures)))
+    (λ c. save-named _ _ (sym (c .before .before .before .before .before .before .before .is-named .ensures)
+    ∙ not-false _ (c .before .before .before .before .before .before .if1 .left)) (c .before .before .before .before .before .unpack .ensures)
+    (c .before .before .before .save .ensures) (c .save-numbers .ensures)))

@@ -50,5 +50,6 @@ wy50-step-spec =
     let n = f .before .before in
     let t = n .before .before .before .before .before .before in
     let u = t .before .before in
-    stepped _ _ _ _ (known (u .before .before)) (u .unpack .ensures) (t .step .ensures) (n .answer-number .ensures) (f .before .if2 .left) (f .flag .ensures)
+    stepped _ _ _ _ (known (u .before .before)) (u .unpack .ensures) (t .step .ensures) (n .answer-number .ensures) (f .before .if2 .left)
+    (f .flag .ensures)
     (c .pack .ensures)))

@@ -22,7 +22,10 @@ row-spec =
     -- part-result-end
     (λ c. let e = wide-length (c .before .args .wide) (c .before .pre .0) (c .if1 .taken) in search needs)
     -- returns
-    (λ c. (wide-row (c .before .before .args .wide) (now (c .before .before .args .page)) (c .before .before .args .r) (c .before .if1 .taken), search needs))
+    (λ c. (
+      wide-row (c .before .before .args .wide) (now (c .before .before .args .page)) (c .before .before .args .r) (c .before .if1 .taken),
+      search needs,
+    ))
     -- mul-a-2
     (λ c. search needs)
     -- add-e-2
@@ -36,4 +39,7 @@ row-spec =
     -- part-result-end-2
     (λ c. let e = narrow-length (c .before .args .wide) (c .before .pre .0) (c .if1 .left) in search needs)
     -- returns-2
-    (λ c. (narrow-row (c .before .before .args .wide) (now (c .before .before .args .page)) (c .before .before .args .r) (c .before .if1 .left), search needs)))
+    (λ c. (
+      narrow-row (c .before .before .args .wide) (now (c .before .before .args .page)) (c .before .before .args .r) (c .before .if1 .left),
+      search needs,
+    )))

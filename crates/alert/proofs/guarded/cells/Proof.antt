@@ -48,7 +48,15 @@ cells-spec =
     let x = c .before .before .before .before .before .args in
     let l = c .before .before .before .loop in
     let test = c .before .before .loop-test in
-    omega (arith, c .guard .ensures, l .inv, test .taken, one-at-most (guarded (x .protect) (getD (now (x .page)) (l .i) 0)), more-cells (x .protect) (now (x .page)) (l .i) (test .taken)))
+    omega (
+      arith,
+      c .guard .ensures,
+      l .inv,
+      test .taken,
+      one-at-most (guarded (x .protect) (getD (now (x .page)) (l .i) 0)),
+      more-cells (x .protect)
+          (now (x .page)) (l .i) (test .taken),
+    ))
     -- returns
     (λ c.
     let x = c .before .before .before .args in

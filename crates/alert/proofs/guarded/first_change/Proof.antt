@@ -42,8 +42,12 @@ first-change-spec =
     let k = c .before .before .before .before .before .before .before .before .pre in
     let l = c .before .before .before .before .before .loop in
     let test = c .before .before .before .before .loop-test in
-    let is-kept′ = c .before .is-kept in
-    (omega (arith, test .taken), sym (changes (x .protect) (now (x .drawn)) (now (x .page)) (l .i) (k .0) (test .taken) (sym (is-kept′ .ensures) ∙ not-true _ (c .if1 .taken))) ∙ l .inv .1))
+    let is-kept′ = c .before .is-kept in (
+      omega (arith, test .taken),
+      sym
+          (changes (x .protect) (now (x .drawn)) (now (x .page)) (l .i) (k .0) (test .taken) (sym (is-kept′ .ensures) ∙ not-true _ (c .if1 .taken)))
+          ∙ l .inv .1,
+    ))
     -- add-i
     (λ c. search needs)
     -- loop-less
@@ -54,8 +58,12 @@ first-change-spec =
     let k = c .before .before .before .before .before .before .before .before .pre in
     let l = c .before .before .before .before .before .loop in
     let test = c .before .before .before .before .loop-test in
-    let is-kept′ = c .before .is-kept in
-    (omega (arith, test .taken), sym (keeps (x .protect) (now (x .drawn)) (now (x .page)) (l .i) (k .0) (test .taken) (sym (is-kept′ .ensures) ∙ not-false _ (c .if1 .left))) ∙ l .inv .1))
+    let is-kept′ = c .before .is-kept in (
+      omega (arith, test .taken),
+      sym
+          (keeps (x .protect) (now (x .drawn)) (now (x .page)) (l .i) (k .0) (test .taken) (sym (is-kept′ .ensures) ∙ not-false _ (c .if1 .left)))
+          ∙ l .inv .1,
+    ))
     -- returns-2
     (λ c.
     let x = c .before .before .before .before .args in

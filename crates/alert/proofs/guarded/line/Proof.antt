@@ -48,4 +48,5 @@ line-spec =
     let count′ = c .before .before .before .before .before .before .before .count in
     let first-change′ = c .before .before .before .before .first-change in
     let change′ = c .before .before .change in
-    guarded-on (x .width) (now (x .drawn)) (now (x .page)) (x .protect) (not-false _ (t1 .left)) (cells′ .ensures) (first-change′ .ensures .1) (bytes′ .ensures) (count′ .ensures) (change′ .ensures)))
+    guarded-on (x .width) (now (x .drawn)) (now (x .page)) (x .protect) (not-false _ (t1 .left)) (cells′ .ensures) (first-change′ .ensures .1)
+    (bytes′ .ensures) (count′ .ensures) (change′ .ensures)))

@@ -22,6 +22,8 @@ bad-byte-spec =
     -- bytes-requires-2
     (λ c κs. search needs)
     -- same-length
-    (λ c. c .before .before .bytes2 .kept .0 ∙ c .before .before .before .before .before .before .before .decimal .kept .0 ∙ c .before .before .before .before .before .before .before .before .before .before .before .bytes .kept .0)
+    (λ c. c .before .before .bytes2 .kept .0 ∙ c .before .before .before .before .before .before .before .decimal .kept .0
+    ∙ c .before .before .before .before .before .before .before .before .before .before .before .bytes .kept .0)
     -- returns
-    (λ c. and (and (c .before .before .before .before .before .before .before .before .before .before .before .bytes .ensures) (c .before .before .before .before .before .before .before .decimal .ensures)) (c .before .before .bytes2 .ensures)))
+    (λ c. and (and (c .before .before .before .before .before .before .before .before .before .before .before .bytes .ensures)
+    (c .before .before .before .before .before .before .before .decimal .ensures)) (c .before .before .bytes2 .ensures)))

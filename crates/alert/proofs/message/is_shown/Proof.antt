@@ -11,6 +11,8 @@ is-shown-spec =
     -- returns
     (λ c. early (c .before .args .first) (c .before .args .last) (c .before .args .number) (now (c .before .args .text)) (c .if1 .taken))
     -- returns-2
-    (λ c. late (c .before .before .args .first) (c .before .before .args .last) (c .before .before .args .number) (now (c .before .before .args .text)) (c .before .if1 .left) (c .if2 .taken))
+    (λ c. late (c .before .before .args .first) (c .before .before .args .last) (c .before .before .args .number)
+    (now (c .before .before .args .text)) (c .before .if1 .left) (c .if2 .taken))
     -- returns-3
-    (λ c. between (c .before .before .args .first) (c .before .before .args .last) (c .before .before .args .number) (now (c .before .before .args .text)) (c .before .if1 .left) (c .if2 .left)))
+    (λ c. between (c .before .before .args .first) (c .before .before .args .last) (c .before .before .args .number)
+    (now (c .before .before .args .text)) (c .before .if1 .left) (c .if2 .left)))

@@ -14,7 +14,9 @@ line-spec =
     -- is-shown-requires
     (λ c κs. search needs)
     -- returns
-    (λ c. not-shown (c .before .before .before .before .args .first) (c .before .before .before .before .args .last) (c .before .before .before .before .args .number) (now (c .before .before .before .before .args .text)) (c .before .is-shown .ensures) (not-true _ (c .if1 .taken)))
+    (λ c. not-shown (c .before .before .before .before .args .first) (c .before .before .before .before .args .last)
+    (c .before .before .before .before .args .number) (now (c .before .before .before .before .args .text)) (c .before .is-shown .ensures)
+    (not-true _ (c .if1 .taken)))
     -- slice-aggregate-bytes
     (λ c. search needs)
     -- bytes-requires
@@ -32,7 +34,9 @@ line-spec =
     -- bytes-requires-4
     (λ c κs. search needs)
     -- same-length
-    (λ c. c .before .before .bytes4 .kept .0 ∙ c .before .before .before .before .before .before .before .bytes3 .kept .0 ∙ c .before .before .before .before .before .before .before .before .before .before .before .bytes2 .kept .0 ∙ c .before .before .before .before .before .before .before .before .before .before .before .before .before .before .before .before .decimal .kept .0 ∙ c .before .before .before .before .before .before .before .before .before .before .before .before .before .before .before .before .before .before .before .before .bytes .kept .0)
+    (λ c. c .before .before .bytes4 .kept .0 ∙ c .before .before .before .before .before .before .before .bytes3 .kept .0
+    ∙ c .before .before .before .before .before .before .before .before .before .before .before .bytes2 .kept .0
+    ∙ c .before .before .before .before .before .before .before .before .before .before .before .before .before .before .before .before .decimal .kept .0 ∙ c .before .before .before .before .before .before .before .before .before .before .before .before .before .before .before .before .before .before .before .before .bytes .kept .0)
     -- returns-2
     (λ c.
     shown (c .before .before .before .before .before .before .before .before .before .before .before .before .before .before .before .before .before .before .before .before .before .before .before .before .before .before .before .args .first) (c .before .before .before .before .before .before .before .before .before .before .before .before .before .before .before .before .before .before .before .before .before .before .before .before .before .before .before .args .last) (c .before .before .before .before .before .before .before .before .before .before .before .before .before .before .before .before .before .before .before .before .before .before .before .before .before .before .before .args .number) (now (c .before .before .before .before .before .before .before .before .before .before .before .before .before .before .before .before .before .before .before .before .before .before .before .before .before .before .before .args .text)) (c .before .before .before .before .before .before .before .before .before .before .before .before .before .before .before .before .before .before .before .before .before .before .before .before .is-shown .ensures) (not-false _ (c .before .before .before .before .before .before .before .before .before .before .before .before .before .before .before .before .before .before .before .before .before .before .before .if1 .left))

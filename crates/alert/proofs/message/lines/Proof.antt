@@ -28,7 +28,14 @@ lines-spec =
     -- pieces-in-requires
     (λ c κs. search needs)
     -- loop-holds
-    (λ c. (omega arith, (search needs, lines-begin (c .before .before .before .args .first) (c .before .before .before .args .last) (now (c .before .before .before .args .reply)))))
+    (λ c. (
+      omega arith,
+      (
+        search needs,
+        lines-begin (c .before .before .before .args .first) (c .before .before .before .args .last)
+            (now (c .before .before .before .args .reply)),
+      ),
+    ))
     -- add-number
     (λ c. search needs)
     -- piece-requires
@@ -40,8 +47,17 @@ lines-spec =
     -- loop-again
     (λ c.
     let x = c .before .before .before .before .before .before .before .before .before .before .args in
-    let l = c .before .before .before .before .before .before .loop in
-    (omega arith, (c .before .before .line .kept .0 ∙ l .inv .1 .0, lines-on (x .first) (x .last) (now (x .reply)) (l .i) (c .before .before .before .before .before .before .before .pieces-in .ensures) (c .before .before .before .before .before .loop-test .taken) (c .before .before .before .piece .ensures) (c .before .before .line .ensures) (l .inv .1 .1))))
+    let l = c .before .before .before .before .before .before .loop in (
+      omega arith,
+      (
+        c .before .before .line .kept .0
+            ∙ l .inv .1 .0,
+        lines-on (x .first) (x .last) (now (x .reply)) (l .i)
+            (c .before .before .before .before .before .before .before .pieces-in .ensures)
+            (c .before .before .before .before .before .loop-test .taken)
+            (c .before .before .before .piece .ensures) (c .before .before .line .ensures) (l .inv .1 .1),
+      ),
+    ))
     -- same-length
     (λ c. c .before .loop .inv .1 .0)
     -- returns

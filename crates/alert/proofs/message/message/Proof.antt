@@ -27,7 +27,12 @@ message-spec =
     -- count-alert-requires-2
     (λ c κs. search needs)
     -- array-share-prefix-reply-2
-    (λ c. omega (arith, c .before .before .before .before .count-alert2 .ensures .fits, room-kept (c .before .before .before .before .before .before .before .before .before .before .before .before .count-alert .ensures)))
+    (λ c. omega (
+      arith,
+      c .before .before .before .before .count-alert2 .ensures .fits,
+      room-kept
+          (c .before .before .before .before .before .before .before .before .before .before .before .before .count-alert .ensures),
+    ))
     -- slice-aggregate-sent
     (λ c. sym (length-take-le _ _ (replied-within (c .before .before .before .before .before .count-alert2 .ensures))))
     -- sent-requires
@@ -39,5 +44,6 @@ message-spec =
     -- returns
     (λ c.
     let x = c .before .before .before .before .before .before .before .before .before .before .before .before .before .before .before .before .before .before .before .before .before .args in
-    message-is (now (x .page)) (x .state) (x .first) (x .all) (x .last) (c .before .before .before .before .before .before .before .before .before .before .before .before .before .before .before .before .count-alert .ensures) (c .before .before .before .before .before .before .before .before .before .before .before .last-of .ensures) (c .before .before .before .before .before .before .before .before .count-alert2 .ensures)
+    message-is (now (x .page)) (x .state) (x .first) (x .all) (x .last)
+    (c .before .before .before .before .before .before .before .before .before .before .before .before .before .before .before .before .count-alert .ensures) (c .before .before .before .before .before .before .before .before .before .before .before .last-of .ensures) (c .before .before .before .before .before .before .before .before .count-alert2 .ensures)
     (c .before .before .sent .ensures) (search needs)))

@@ -17,4 +17,5 @@ mode-note-spec =
     -- same-length
     (λ c. search needs)
     -- returns-2
-    (λ c. note-off (c .before .before .before .before .before .before .before .args .protect) (c .before .before .before .before .before .if1 .left) (c .before .before .bytes .ensures)))
+    (λ c. note-off (c .before .before .before .before .before .before .before .args .protect) (c .before .before .before .before .before .if1 .left)
+    (c .before .before .bytes .ensures)))

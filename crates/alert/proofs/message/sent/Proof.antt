@@ -22,6 +22,8 @@ sent-spec =
     -- told-requires
     (λ c κs. search needs)
     -- same-length
-    (λ c. c .before .before .told .kept .0 ∙ c .before .before .before .before .before .before .lines .kept .0 ∙ c .before .before .before .before .before .before .before .before .before .before .mode-note .kept .0 ∙ c .before .before .before .before .before .before .before .before .before .before .before .before .before .before .bytes .kept .0)
+    (λ c. c .before .before .told .kept .0 ∙ c .before .before .before .before .before .before .lines .kept .0
+    ∙ c .before .before .before .before .before .before .before .before .before .before .mode-note .kept .0
+    ∙ c .before .before .before .before .before .before .before .before .before .before .before .before .before .before .bytes .kept .0)
     -- returns
     (λ c. and (and (and (c .before .before .before .before .before .before .before .before .before .before .before .before .before .before .bytes .ensures) (c .before .before .before .before .before .before .before .before .before .before .mode-note .ensures)) (c .before .before .before .before .before .before .lines .ensures)) (c .before .before .told .ensures)))

@@ -32,6 +32,9 @@ size-spec =
     -- bytes-requires-3
     (λ c κs. search needs)
     -- same-length
-    (λ c. c .before .before .bytes3 .kept .0 ∙ c .before .before .before .before .before .before .before .count2 .kept .0 ∙ c .before .before .before .before .before .before .before .before .before .before .before .before .bytes2 .kept .0 ∙ c .before .before .before .before .before .before .before .before .before .before .before .before .before .before .before .before .before .count .kept .0 ∙ c .before .before .before .before .before .before .before .before .before .before .before .before .before .before .before .before .before .before .before .before .before .before .bytes .kept .0)
+    (λ c. c .before .before .bytes3 .kept .0 ∙ c .before .before .before .before .before .before .before .count2 .kept .0
+    ∙ c .before .before .before .before .before .before .before .before .before .before .before .before .bytes2 .kept .0
+    ∙ c .before .before .before .before .before .before .before .before .before .before .before .before .before .before .before .before .before .count .kept .0 ∙ c .before .before .before .before .before .before .before .before .before .before .before .before .before .before .before .before .before .before .before .before .before .before .bytes .kept .0)
     -- returns
-    (λ c. and (and (and (and (c .before .before .before .before .before .before .before .before .before .before .before .before .before .before .before .before .before .before .before .before .before .before .bytes .ensures) (c .before .before .before .before .before .before .before .before .before .before .before .before .before .before .before .before .before .count .ensures)) (c .before .before .before .before .before .before .before .before .before .before .before .before .bytes2 .ensures)) (c .before .before .before .before .before .before .before .count2 .ensures)) (c .before .before .bytes3 .ensures)))
+    (λ c. and (and (and (and
+    (c .before .before .before .before .before .before .before .before .before .before .before .before .before .before .before .before .before .before .before .before .before .before .bytes .ensures) (c .before .before .before .before .before .before .before .before .before .before .before .before .before .before .before .before .before .count .ensures)) (c .before .before .before .before .before .before .before .before .before .before .before .before .bytes2 .ensures)) (c .before .before .before .before .before .before .before .count2 .ensures)) (c .before .before .bytes3 .ensures)))

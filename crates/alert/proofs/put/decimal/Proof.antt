@@ -37,4 +37,5 @@ decimal-spec =
     let wanted3′ = c .before .before .before .before .before .before .before .wanted3 in
     let digit4′ = c .before .before .before .digit4 in
     let byte′ = c .before .before .byte in
-    decimal-put (x .v) (digit′ .ensures) (digit2′ .ensures) (digit3′ .ensures) (digit4′ .ensures) (wanted′ .ensures) (wanted2′ .ensures) (wanted3′ .ensures) (byte′ .ensures)))
+    decimal-put (x .v) (digit′ .ensures) (digit2′ .ensures) (digit3′ .ensures) (digit4′ .ensures) (wanted′ .ensures) (wanted2′ .ensures)
+    (wanted3′ .ensures) (byte′ .ensures)))

@@ -47,7 +47,9 @@ finish-spec =
     (λ c.
     let l = c .before .before .before .before .before .before .before .before .before .before .before .before .before .loop in
     let resume′ = c .before .before .before .before .before .before .resume in (
-      finish-on (c .before .before .before .before .before .before .before .before .before .before .before .before .loop-test .taken) (omega (arith, l .inv)) (c .before .before .before .before .before .before .before .before .before .before .before .sends .ensures) (not-false _ (c .before .before .before .before .before .before .before .before .before .before .if1 .left)) (resume′ .ensures) (l .inv .0),
+      finish-on (c .before .before .before .before .before .before .before .before .before .before .before .before .loop-test .taken)
+          (omega (arith, l .inv)) (c .before .before .before .before .before .before .before .before .before .before .before .sends .ensures)
+          (not-false _ (c .before .before .before .before .before .before .before .before .before .before .if1 .left)) (resume′ .ensures) (l .inv .0),
       omega (arith, resume′ .kept, l .inv),
     ))
     -- same-length-4

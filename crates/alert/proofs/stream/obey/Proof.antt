@@ -60,5 +60,8 @@ obey-spec =
     let take′ = c .before .before .before .before .before .before .before .before .before .before .before .before .before .before .before .before .before .before .before .before .before .before .before .before .before .take in
     let remember′ = c .before .before .before .before .before .before .before .before .before .before .before .before .remember in
     let finish′ = c .before .before .before .before .before .before .finish in
-    obeyed (length (now (x .room))) (x .byte) (now (x .page)) (now (x .drawn)) (x .p .state) (take′ .ensures) (c .before .before .before .before .before .before .before .before .before .before .before .before .before .before .protects .ensures) (c .before .before .before .before .before .before .before .before .before .before .before .before .before .protects2 .ensures) (remember′ .ensures)
+    obeyed (length (now (x .room))) (x .byte) (now (x .page)) (now (x .drawn)) (x .p .state) (take′ .ensures)
+    (c .before .before .before .before .before .before .before .before .before .before .before .before .before .before .protects .ensures)
+    (c .before .before .before .before .before .before .before .before .before .before .before .before .before .protects2 .ensures)
+    (remember′ .ensures)
     (omega (arith, take′ .kept)) (finish′ .ensures)))

@@ -15,7 +15,11 @@ play-spec =
     -- begun-requires
     (λ c κs. search needs)
     -- pieces-requires
-    (λ c κs. omega (arith, c .before .before .before .before .before .before .before .before .start .kept, c .before .before .before .before .before .before .before .before .before .before .before .before .before .before .before .pre .1))
+    (λ c κs. omega (
+      arith,
+      c .before .before .before .before .before .before .before .before .start .kept,
+      c .before .before .before .before .before .before .before .before .before .before .before .before .before .before .before .pre .1,
+    ))
     -- same-length
     (λ c. omega (arith, c .before .before .before .before .before .before .before .before .before .before .before .before .before .before .before .before .before .before .before .start .kept, c .before .before .before .before .before .before .before .before .before .before .pieces .kept))
     -- same-length-2

@@ -15,4 +15,11 @@ start-narrow-spec =
     -- same-length
     (λ c. search needs)
     -- returns
-    (λ c. (c .before .before .before .power-on .ensures .state ∙ on-state (c .before .before .before .before .before .before .args .personality) (now (c .before .before .before .before .before .before .args .page)), c .before .before .before .power-on .ensures .page ∙ on-page (c .before .before .before .before .before .before .args .personality) (now (c .before .before .before .before .before .before .args .page)) (c .before .before .before .before .before .before .pre))))
+    (λ c. (
+      c .before .before .before .power-on .ensures .state
+          ∙ on-state (c .before .before .before .before .before .before .args .personality)
+          (now (c .before .before .before .before .before .before .args .page)),
+      c .before .before .before .power-on .ensures .page
+          ∙ on-page (c .before .before .before .before .before .before .args .personality)
+          (now (c .before .before .before .before .before .before .args .page)) (c .before .before .before .before .before .before .pre),
+    )))

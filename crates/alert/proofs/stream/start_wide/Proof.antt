@@ -20,4 +20,9 @@ start-wide-spec =
     -- same-length
     (λ c. search needs)
     -- returns
-    (λ c. turned (c .before .before .before .before .before .before .before .before .before .before .args .personality) (now (c .before .before .before .before .before .before .before .before .before .before .args .page)) (c .before .before .before .before .before .before .before .start-narrow .ensures .1) (c .before .before .before .before .before .before .before .start-narrow .ensures .0) (c .before .before .before .before .before .before .before .before .before .before .pre) (c .before .before .before .convert .ensures .state) (c .before .before .before .convert .ensures .target)))
+    (λ c. turned (c .before .before .before .before .before .before .before .before .before .before .args .personality)
+    (now (c .before .before .before .before .before .before .before .before .before .before .args .page))
+    (c .before .before .before .before .before .before .before .start-narrow .ensures .1)
+    (c .before .before .before .before .before .before .before .start-narrow .ensures .0)
+    (c .before .before .before .before .before .before .before .before .before .before .pre) (c .before .before .before .convert .ensures .state)
+    (c .before .before .before .convert .ensures .target)))

@@ -26,7 +26,8 @@ settle-in-spec =
     (λ c κs.
     let e = c .before in
     let s = start e in
-    settle-asked (s .args .x) (s .pre .1 .0) (s .pre .1 .1 .0) (now (s .args .page)) (s .pre .0) (e .before .segment-start .ensures) (e .segment-end .ensures))
+    settle-asked (s .args .x) (s .pre .1 .0) (s .pre .1 .1 .0) (now (s .args .page)) (s .pre .0) (e .before .segment-start .ensures)
+    (e .segment-end .ensures))
     -- returns
     (λ c.
     let e = c .before .before in

@@ -13,6 +13,12 @@ cursor-column-spec =
     -- cursor-column-requires
     (λ c κs. search needs)
     -- cast-result
-    (λ c. omega (arith, c .cursor-column .ensures, width-range (columns-width (c .before .args .x .wide)), column-below (columns-width (c .before .args .x .wide)) (cursorOf (c .before .args .x))))
+    (λ c. omega (
+      arith,
+      c .cursor-column .ensures,
+      width-range (columns-width (c .before .args .x .wide)),
+      column-below
+          (columns-width (c .before .args .x .wide)) (cursorOf (c .before .args .x)),
+    ))
     -- returns
     (λ c. search needs))

@@ -37,7 +37,8 @@ send-spec =
     (λ c κs.
     let told = c .before .before .before .before .before in
     let s = told .before .before .before .before in
-    let t = text-needs (s .args .core .screen) (now (s .args .page)) (s .pre .0) (s .pre .1 .0) (s .pre .1 .1 .0) (told .sending2 .given .1) (c .before .before .width-of .ensures) (c .before .cursor-of .ensures) in
+    let t = text-needs (s .args .core .screen) (now (s .args .page)) (s .pre .0) (s .pre .1 .0) (s .pre .1 .1 .0) (told .sending2 .given .1)
+    (c .before .before .width-of .ensures) (c .before .cursor-of .ensures) in
     (t .0, (t .1 .0, (t .1 .1 .0, (t .1 .1 .1, s .pre .1 .1 .1)))))
     -- returns
     (λ c.
@@ -51,7 +52,8 @@ send-spec =
     let told = c .before .before .before .before .before in
     let s = told .before .before .before .before in
     let x = s .args in
-    went (now (x .page)) (x .core) (x .sending) (now (x .room)) (short-went (now (x .page)) (x .core) (now (x .room)) (told .sending .given .1) (c .before .before .send-short .ensures)))
+    went (now (x .page)) (x .core) (x .sending) (now (x .room))
+    (short-went (now (x .page)) (x .core) (now (x .room)) (told .sending .given .1) (c .before .before .send-short .ensures)))
     -- same-length-2
     (λ c. search needs)
     -- returns-3
@@ -61,4 +63,6 @@ send-spec =
     let told = width .before .before .before in
     let s = told .before .before .before .before in
     let x = s .args in
-    went (now (x .page)) (x .core) (x .sending) (now (x .room)) (text-went (now (x .page)) (x .core) (now (x .room)) (told .sending2 .given .1) (width .width-of .ensures) (cursor .cursor-of .ensures) (c .before .before .send-text .ensures))))
+    went (now (x .page)) (x .core) (x .sending) (now (x .room))
+    (text-went (now (x .page)) (x .core) (now (x .room)) (told .sending2 .given .1) (width .width-of .ensures) (cursor .cursor-of .ensures)
+    (c .before .before .send-text .ensures))))

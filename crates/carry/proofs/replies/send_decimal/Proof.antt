@@ -25,4 +25,11 @@ send-decimal-spec =
     -- same-length
     (λ c. search needs)
     -- returns
-    (λ c. c .before .before .send-bytes .ensures ∙ rw (c .before .before .before .before .before .before .before .before .before .digit .ensures, c .before .before .before .before .before .before .before .before .digit2 .ensures, c .before .before .before .before .before .before .before .digit3 .ensures, c .before .before .before .before .before .before .digit4 .ensures, c .before .before .before .before .before .digit5 .ensures)))
+    (λ c. c .before .before .send-bytes .ensures
+    ∙ rw (
+      c .before .before .before .before .before .before .before .before .before .digit .ensures,
+      c .before .before .before .before .before .before .before .before .digit2 .ensures,
+      c .before .before .before .before .before .before .before .digit3 .ensures,
+      c .before .before .before .before .before .before .digit4 .ensures,
+      c .before .before .before .before .before .digit5 .ensures,
+    )))

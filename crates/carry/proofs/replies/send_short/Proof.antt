@@ -119,7 +119,8 @@ send-short-spec =
     let told = cursor .before .before in
     let s = told .before .before .before .before .before .before .before in
     let x = s .args in
-    cell-went (now (x .page)) (x .core) (now (x .room)) (x .from) (told .enum-told2 .given .1) (s .pre .1 .1 .0) (cursor .cursor-of .ensures) (c .before .before .send-cell .ensures))
+    cell-went (now (x .page)) (x .core) (now (x .room)) (x .from) (told .enum-told2 .given .1) (s .pre .1 .1 .0) (cursor .cursor-of .ensures)
+    (c .before .before .send-cell .ensures))
     -- same-length-3
     (λ c. search needs)
     -- returns-3
@@ -133,7 +134,8 @@ send-short-spec =
     let row = column .before in
     let s = row .before .before .before .before in
     let x = s .args in
-    cursor-went (now (x .page)) (x .core) (now (x .room)) (x .from) (row .cursor-row .ensures) (column .cursor-column .ensures) (told .enum-told4 .given .1) (c .before .before .send-bytes2 .ensures))
+    cursor-went (now (x .page)) (x .core) (now (x .room)) (x .from) (row .cursor-row .ensures) (column .cursor-column .ensures)
+    (told .enum-told4 .given .1) (c .before .before .send-bytes2 .ensures))
     -- same-length-5
     (λ c. search needs)
     -- returns-5
@@ -143,7 +145,8 @@ send-short-spec =
     let row = column .before in
     let s = row .before .before .before .before in
     let x = s .args in
-    segment-went (now (x .page)) (x .core) (now (x .room)) (x .from) (row .cursor-row .ensures) (column .cursor-column .ensures) (told .enum-told5 .given .1) (c .before .before .send-bytes3 .ensures))
+    segment-went (now (x .page)) (x .core) (now (x .room)) (x .from) (row .cursor-row .ensures) (column .cursor-column .ensures)
+    (told .enum-told5 .given .1) (c .before .before .send-bytes3 .ensures))
     -- same-length-6
     (λ c. search needs)
     -- returns-6
@@ -153,4 +156,5 @@ send-short-spec =
     let row = column .before in
     let s = row .before .before .before .before in
     let x = s .args in
-    decimal-went (now (x .page)) (x .core) (now (x .room)) (x .from) (row .cursor-row .ensures) (column .cursor-column .ensures) (told .enum-told6 .given .1) (c .before .before .send-decimal .ensures)))
+    decimal-went (now (x .page)) (x .core) (now (x .room)) (x .from) (row .cursor-row .ensures) (column .cursor-column .ensures)
+    (told .enum-told6 .given .1) (c .before .before .send-decimal .ensures)))

@@ -17,9 +17,19 @@ keep-list-spec =
     -- returns
     (λ c. inl (c .if1 .taken))
     -- returns-2
-    (λ c. beside-is (c .before .before .before .before .args .width) (ap (λ (on : Bool). guardedAt on (now (c .before .before .before .before .args .page))) (same-mode (c .before .before .before .before .args .on) (c .before .before .before .before .args .after) (c .if2 .taken))) (c .before .before .before .before .pre .1 .1))
+    (λ c. beside-is (c .before .before .before .before .args .width)
+    (ap (λ (on : Bool). guardedAt on (now (c .before .before .before .before .args .page)))
+    (same-mode (c .before .before .before .before .args .on) (c .before .before .before .before .args .after) (c .if2 .taken)))
+    (c .before .before .before .before .pre .1 .1))
     -- rebuild-requires
-    (λ c κs. (c .before .before .before .before .before .pre .1 .0, (c .before .before .before .before .before .pre .0, listed-length _ _ (c .before .before .before .before .before .pre .1 .1) (c .before .before .if1 .left))))
+    (λ c κs. (
+      c .before .before .before .before .before .pre .1 .0,
+      (
+        c .before .before .before .before .before .pre .0,
+        listed-length _ _ (c .before .before .before .before .before .pre .1 .1)
+            (c .before .before .if1 .left),
+      ),
+    ))
     -- same-length
     (λ c. search needs)
     -- returns-3

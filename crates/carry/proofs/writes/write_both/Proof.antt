@@ -119,7 +119,8 @@ write-both-spec =
     let x = s .args in (
       written v,
       beside-is (x .width)
-          (sym (after-first (k .before) ∙ kept-guards (x .width) (x .on) (x .first) (now (x .page)) (sym (k .keeps-guards2 .ensures) ∙ c .if3 .taken)))
+          (sym (after-first (k .before)
+          ∙ kept-guards (x .width) (x .on) (x .first) (now (x .page)) (sym (k .keeps-guards2 .ensures) ∙ c .if3 .taken)))
           (s .pre .1 .1 .1 .1),
     ))
     -- touched-requires

@@ -18,11 +18,15 @@ ask-spec =
     -- array-share-prefix-question
     (λ c. few-bytes (c .before .before .before .before .before .args .ready) (c .before .before .question-length .ensures))
     -- slice-aggregate-run
-    (λ c. sym (length-take-le _ _ (few-bytes (c .before .before .before .before .before .before .args .ready) (c .before .before .before .question-length .ensures))))
+    (λ c. sym (length-take-le _ _
+    (few-bytes (c .before .before .before .before .before .before .args .ready) (c .before .before .before .question-length .ensures))))
     -- slice-relend-prefix-run
-    (λ c. room-most (c .before .before .before .before .before .before .args .ready) (now (c .before .before .before .before .before .before .args .room)) (c .before .before .room-length .ensures))
+    (λ c. room-most (c .before .before .before .before .before .before .args .ready)
+    (now (c .before .before .before .before .before .before .args .room)) (c .before .before .room-length .ensures))
     -- slice-aggregate-run-2
-    (λ c. sym (length-take-le _ _ (room-most (c .before .before .before .before .before .before .before .args .ready) (now (c .before .before .before .before .before .before .before .args .room)) (c .before .before .before .room-length .ensures))))
+    (λ c. sym (length-take-le _ _
+    (room-most (c .before .before .before .before .before .before .before .args .ready)
+    (now (c .before .before .before .before .before .before .before .args .room)) (c .before .before .before .room-length .ensures))))
     -- run-requires
     (λ c κs. search needs)
     -- same-length
@@ -30,4 +34,6 @@ ask-spec =
     -- same-length-2
     (λ c. search needs)
     -- returns
-    (λ c. let x = c .before .before .before .before .before .before .before .before .before .before .before .before .args in lends (now (x .page)) (x .state) (x .ready) (c .before .before .before .before .before .before .before .before .before .question-length .ensures) (c .before .before .before .before .before .before .before .before .room-length .ensures) (c .before .before .before .before .run .ensures)))
+    (λ c. let x = c .before .before .before .before .before .before .before .before .before .before .before .before .args in lends (now (x .page))
+    (x .state) (x .ready) (c .before .before .before .before .before .before .before .before .before .question-length .ensures)
+    (c .before .before .before .before .before .before .before .before .room-length .ensures) (c .before .before .before .before .run .ensures)))

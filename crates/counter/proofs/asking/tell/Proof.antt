@@ -13,8 +13,11 @@ tell-spec =
     -- returns-2
     (λ c. let x = c .before .before .args in tell-page (x .answer) (x .full) (x .ready) (x .cut) (x .c) (c .before .if1 .taken) (c .if2 .left))
     -- returns-3
-    (λ c. let x = c .before .before .args in tell-under-way (x .answer) (x .full) (x .ready) (x .cut) (x .c) (c .before .if1 .left) (not-true _ (c .if3 .taken)))
+    (λ c. let x = c .before .before .args in tell-under-way (x .answer) (x .full) (x .ready) (x .cut) (x .c) (c .before .if1 .left)
+    (not-true _ (c .if3 .taken)))
     -- returns-4
-    (λ c. let x = c .before .before .before .args in tell-no-room (x .answer) (x .full) (x .ready) (x .cut) (x .c) (c .before .before .if1 .left) (not-false _ (c .before .if3 .left)) (c .if4 .taken))
+    (λ c. let x = c .before .before .before .args in tell-no-room (x .answer) (x .full) (x .ready) (x .cut) (x .c) (c .before .before .if1 .left)
+    (not-false _ (c .before .if3 .left)) (c .if4 .taken))
     -- returns-5
-    (λ c. let x = c .before .before .before .args in tell-counted (x .answer) (x .full) (x .ready) (x .cut) (x .c) (c .before .before .if1 .left) (not-false _ (c .before .if3 .left)) (c .if4 .left)))
+    (λ c. let x = c .before .before .before .args in tell-counted (x .answer) (x .full) (x .ready) (x .cut) (x .c) (c .before .before .if1 .left)
+    (not-false _ (c .before .if3 .left)) (c .if4 .left)))

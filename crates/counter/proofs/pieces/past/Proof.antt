@@ -39,7 +39,12 @@ past-spec =
     -- mark-requires
     (λ c κs. search needs)
     -- sub-left
-    (λ c. omega (arith, c .mark .ensures, mark-small (isMark (getD (now (c .before .before .before .before .before .before .args .text)) (c .before .before .before .before .loop .i) 0))))
+    (λ c. omega (
+      arith,
+      c .mark .ensures,
+      mark-small
+          (isMark (getD (now (c .before .before .before .before .before .before .args .text)) (c .before .before .before .before .loop .i) 0)),
+    ))
     -- add-i
     (λ c. search needs)
     -- loop-less

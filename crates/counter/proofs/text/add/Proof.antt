@@ -17,10 +17,12 @@ add-spec =
     -- add-t7
     (λ c. search needs)
     -- returns
-    (λ c. add-fits (c .before .before .before .before .before .args .t) (c .before .before .before .before .before .args .n) _ (c .before .before .before .before .more-units .ensures) (c .before .before .if1 .taken))
+    (λ c. add-fits (c .before .before .before .before .before .args .t) (c .before .before .before .before .before .args .n) _
+    (c .before .before .before .before .more-units .ensures) (c .before .before .if1 .taken))
     -- add-t8
     (λ c. search needs)
     -- add-t9
     (λ c. search needs)
     -- returns-2
-    (λ c. add-opens (c .before .before .before .before .before .args .t) (c .before .before .before .before .before .args .n) _ (c .before .before .before .before .more-units .ensures) (c .before .before .if1 .left)))
+    (λ c. add-opens (c .before .before .before .before .before .args .t) (c .before .before .before .before .before .args .n) _
+    (c .before .before .before .before .more-units .ensures) (c .before .before .if1 .left)))

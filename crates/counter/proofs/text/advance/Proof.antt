@@ -14,10 +14,13 @@ advance-spec =
     -- is-cut-requires
     (λ c κs. search needs)
     -- returns
-    (λ c. on-mark (c .before .before .args .cut) (c .before .before .args .b) (c .before .before .args .t) (sym (c .before .is-cut .ensures) ∙ c .if1 .taken))
+    (λ c. on-mark (c .before .before .args .cut) (c .before .before .args .b) (c .before .before .args .t)
+    (sym (c .before .is-cut .ensures) ∙ c .if1 .taken))
     -- cost-of-requires
     (λ c κs. search needs)
     -- add-requires
     (λ c κs. (omega (arith, c .cost-of .ensures, cost-small (c .before .before .before .args .b)), c .before .before .before .pre))
     -- returns-2
-    (λ c. on-character (c .before .before .before .before .args .cut) (c .before .before .before .before .args .b) (c .before .before .before .before .args .t) (sym (c .before .before .before .is-cut .ensures) ∙ c .before .before .if1 .left) (c .before .cost-of .ensures) (c .add .ensures)))
+    (λ c. on-character (c .before .before .before .before .args .cut) (c .before .before .before .before .args .b)
+    (c .before .before .before .before .args .t) (sym (c .before .before .before .is-cut .ensures) ∙ c .before .before .if1 .left)
+    (c .before .cost-of .ensures) (c .add .ensures)))

@@ -18,4 +18,6 @@ count-remaining-spec =
     -- walk-requires
     (λ c κs. search needs)
     -- returns
-    (λ c. c .walk .ensures ∙ walk-count (c .before .before .before .before .args .cut) (now (c .before .before .before .before .args .text)) (c .before .before .stripped .result) (c .before .before .stripped .ensures .1)))
+    (λ c. c .walk .ensures
+    ∙ walk-count (c .before .before .before .before .args .cut) (now (c .before .before .before .before .args .text))
+    (c .before .before .stripped .result) (c .before .before .stripped .ensures .1)))

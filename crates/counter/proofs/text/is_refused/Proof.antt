@@ -16,4 +16,5 @@ is-refused-spec =
     -- in-alphabet-requires
     (λ c κs. search needs)
     -- returns-2
-    (λ c. refuse-byte (c .before .before .before .args .cut) (c .before .before .before .args .b) (sym (c .before .before .is-cut .ensures) ∙ c .before .if1 .left) (c .in-alphabet .ensures)))
+    (λ c. refuse-byte (c .before .before .before .args .cut) (c .before .before .before .args .b)
+    (sym (c .before .before .is-cut .ensures) ∙ c .before .if1 .left) (c .in-alphabet .ensures)))

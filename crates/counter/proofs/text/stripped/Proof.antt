@@ -36,8 +36,12 @@ stripped-spec =
     (λ c.
     let x = now (c .before .before .before .before .before .before .args .text) in
     let n = c .before .before .before .before .loop .n in
-    let z : suc (n - 1) ≡ n = omega arith in
-    (omega arith, rw z at (strip-keep (c .before .before .before .before .before .before .args .cut) x (n - 1) (omega arith) (sym (c .before .is-dropped .ensures) ∙ not-true _ (c .if1 .taken))) ∙ c .before .before .before .before .loop .inv .1))
+    let z : suc (n - 1) ≡ n = omega arith in (
+      omega arith,
+      rw z at
+          (strip-keep (c .before .before .before .before .before .before .args .cut) x (n - 1) (omega arith)
+          (sym (c .before .is-dropped .ensures) ∙ not-true _ (c .if1 .taken))) ∙ c .before .before .before .before .loop .inv .1,
+    ))
     -- sub-n
     (λ c. search needs)
     -- loop-less
@@ -46,9 +50,16 @@ stripped-spec =
     (λ c.
     let x = now (c .before .before .before .before .before .before .args .text) in
     let n = c .before .before .before .before .loop .n in
-    let z : suc (n - 1) ≡ n = omega arith in
-    (omega arith, rw z at (strip-drop (c .before .before .before .before .before .before .args .cut) x (n - 1) (omega arith) (sym (c .before .is-dropped .ensures) ∙ not-false _ (c .if1 .left))) ∙ c .before .before .before .before .loop .inv .1))
+    let z : suc (n - 1) ≡ n = omega arith in (
+      omega arith,
+      rw z at
+          (strip-drop (c .before .before .before .before .before .before .args .cut) x (n - 1) (omega arith)
+          (sym (c .before .is-dropped .ensures) ∙ not-false _ (c .if1 .left))) ∙ c .before .before .before .before .loop .inv .1,
+    ))
     -- returns-2
     (λ c.
-    let z : c .before .loop .n ≡ 0 = omega arith in
-    (omega arith, strip-none (c .before .before .before .args .cut) (now (c .before .before .before .args .text)) (c .before .loop .n) z (c .before .loop .inv .1))))
+    let z : c .before .loop .n ≡ 0 = omega arith in (
+      omega arith,
+      strip-none (c .before .before .before .args .cut) (now (c .before .before .before .args .text)) (c .before .loop .n) z
+          (c .before .loop .inv .1),
+    )))

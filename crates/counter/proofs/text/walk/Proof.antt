@@ -53,7 +53,8 @@ walk-spec =
       (
         within-on (x .cut) (l .t) (getD (now (x .text)) (l .i) 0) (l .i) (c .advance .ensures) (l .inv .1 .0),
         ap (λ (t : Tally). walked (x .cut) t (drop (l .i + 1) (now (x .text)))) (c .advance .ensures)
-            ∙ (sym (walk-on (x .cut) (l .t) (now (x .text)) (l .i) (omega arith) (sym (c .before .before .is-refused .ensures) ∙ c .before .if1 .left)) ∙ l .inv .1 .1),
+            ∙ (sym (walk-on (x .cut) (l .t) (now (x .text)) (l .i) (omega arith)
+            (sym (c .before .before .is-refused .ensures) ∙ c .before .if1 .left)) ∙ l .inv .1 .1),
       ),
     ))
     -- tally-parts-requires

@@ -60,4 +60,5 @@ shift-left-spec =
     let x = c .before .before .before .before .before .before .before .args in
     let l = c .before .before .before .before .before .loop in
     c .before .before .put-cells .ensures ∙ left-filled (x .count) (x .value) (now (x .part))
-    (c .before .before .before .before .before .before .before .pre) refl (c .before .before .before .before .loop-test .left) (l .inv .1 .0) (l .inv .1 .1)))
+    (c .before .before .before .before .before .before .before .pre) refl (c .before .before .before .before .loop-test .left) (l .inv .1 .0)
+    (l .inv .1 .1)))

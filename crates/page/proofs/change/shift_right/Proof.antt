@@ -51,7 +51,8 @@ shift-right-spec =
     let more = c .before .loop-test .taken in
     (omega arith, right-turn (x .count) (x .value) (now (x .part)) (omega (arith, more)) (l .inv .0) (l .inv .1)))
     -- put-cells-requires
-    (λ c κs. let x = c .before .before .before .before .args in let l = c .before .before .loop in omega (arith, l .inv .1 .long, length-right (x .count) (x .value) (now (x .part)), c .before .before .before .before .pre))
+    (λ c κs. let x = c .before .before .before .before .args in let l = c .before .before .loop in omega
+    (arith, l .inv .1 .long, length-right (x .count) (x .value) (now (x .part)), c .before .before .before .before .pre))
     -- same-length
     (λ c. search needs)
     -- returns

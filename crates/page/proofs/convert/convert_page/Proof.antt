@@ -47,7 +47,8 @@ convert-page-spec =
       (
         length-set (l .target) (l .i) _ ∙ l .inv .1 .0,
         ap (λ t. lib.ListN.set t (l .i) (c .cell-for .result)) (l .inv .1 .1)
-            ∙ put-next (cellFor (columns (s .args .wide)) (otherWidth (s .args .wide)) (now (s .args .page))) (l .i) (now (s .args .target)) (omega (arith, more, l .inv .1 .0)) (c .cell-for .ensures),
+            ∙ put-next (cellFor (columns (s .args .wide)) (otherWidth (s .args .wide)) (now (s .args .page))) (l .i) (now (s .args .target))
+            (omega (arith, more, l .inv .1 .0)) (c .cell-for .ensures),
       ),
     ))
     -- same-length
@@ -56,4 +57,5 @@ convert-page-spec =
     (λ c.
     let l = c .before .loop in
     let s = c .before .before .before .before in
-    l .inv .1 .1 ∙ put-all (s .args .wide) (now (s .args .page)) (l .i) (now (s .args .target)) (s .pre .1) (omega (arith, c .loop-test .left, l .inv .1 .0)) (l .inv .0)))
+    l .inv .1 .1 ∙ put-all (s .args .wide) (now (s .args .page)) (l .i) (now (s .args .target)) (s .pre .1)
+    (omega (arith, c .loop-test .left, l .inv .1 .0)) (l .inv .0)))

@@ -19,7 +19,8 @@ settle-spec =
     -- returns
     (λ c.
     let x = c .before .before .before .before .args in
-    c .sought-around .ensures ∙ around-from (others (guardedAt (x .protect) (now (x .page)))) (x .first) (x .end) (x .from) _ (c .before .near-open .ensures .1))
+    c .sought-around .ensures
+    ∙ around-from (others (guardedAt (x .protect) (now (x .page)))) (x .first) (x .end) (x .from) _ (c .before .near-open .ensures .1))
     -- returns-2
     (λ c.
     let x = c .before .before .before .args in

@@ -26,4 +26,5 @@ follows-left-out-spec =
     -- left-out-requires
     (λ c κs. search needs)
     -- returns-2
-    (λ c. rw (ne-eqb (columnOf (c .before .before .before .before .args .width) (c .before .before .before .before .args .at)) 0 (c .before .before .if1 .left)) (c .left-out .ensures)))
+    (λ c. rw (ne-eqb (columnOf (c .before .before .before .before .args .width) (c .before .before .before .before .args .at)) 0
+    (c .before .before .if1 .left)) (c .left-out .ensures)))

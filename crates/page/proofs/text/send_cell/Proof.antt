@@ -18,7 +18,9 @@ send-cell-spec =
     -- is-guarded-requires
     (λ c κs. search needs)
     -- returns
-    (λ c. cell-guarded (c .before .before .before .before .before .args .protect) (getD (now (c .before .before .before .before .before .args .page)) (c .before .before .before .before .before .args .at) 0) (now (c .before .before .before .before .before .args .room)) (sym (c .before .is-guarded .ensures) ∙ c .if1 .taken))
+    (λ c. cell-guarded (c .before .before .before .before .before .args .protect)
+    (getD (now (c .before .before .before .before .before .args .page)) (c .before .before .before .before .before .args .at) 0)
+    (now (c .before .before .before .before .before .args .room)) (sym (c .before .is-guarded .ensures) ∙ c .if1 .taken))
     -- mul-sent-code
     (λ c. search needs)
     -- shared-slice-read-sent-code
@@ -30,4 +32,10 @@ send-cell-spec =
     -- same-length
     (λ c. search needs)
     -- returns-2
-    (λ c. rw (c .sent-code .ensures) (cell-open (c .before .before .before .before .before .before .before .args .protect) (getD (now (c .before .before .before .before .before .before .before .args .page)) (c .before .before .before .before .before .before .before .args .at) 0) (now (c .before .before .before .before .before .before .before .args .room)) (sym (c .before .before .before .is-guarded .ensures) ∙ c .before .before .if1 .left) (c .before .before .before .before .before .before .before .pre .1 .1))))
+    (λ c. rw (c .sent-code .ensures)
+    (cell-open (c .before .before .before .before .before .before .before .args .protect)
+    (getD (now (c .before .before .before .before .before .before .before .args .page))
+    (c .before .before .before .before .before .before .before .args .at) 0)
+    (now (c .before .before .before .before .before .before .before .args .room))
+    (sym (c .before .before .before .is-guarded .ensures) ∙ c .before .before .if1 .left)
+    (c .before .before .before .before .before .before .before .pre .1 .1))))

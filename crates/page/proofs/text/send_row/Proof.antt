@@ -33,15 +33,23 @@ send-row-spec =
     -- send-stretch-requires
     (λ c κs.
     let l = c .before .before .before .before in
-    let s = l .before .before .before in
-    (c .before .cut .ensures .0, (omega (arith, c .before .cut .ensures, s .pre .1 .0), (s .pre .1 .1 .0, omega (arith, c .before .cut .ensures, l .loop .inv .fits)))))
+    let s = l .before .before .before in (
+      c .before .cut .ensures .0,
+      (omega (arith, c .before .cut .ensures, s .pre .1 .0), (s .pre .1 .1 .0, omega (arith, c .before .cut .ensures, l .loop .inv .fits))),
+    ))
     -- sub-n
     (λ c. c .before .before .send-stretch .ensures .from)
     -- add-n
     (λ c.
     let cut = c .before .before .before .before in
     let l = cut .before .before .before in
-    omega (arith, c .before .before .send-stretch .ensures .from, c .before .before .send-stretch .ensures .to, cut .cut .ensures, l .loop .inv .fits))
+    omega (
+      arith,
+      c .before .before .send-stretch .ensures .from,
+      c .before .before .send-stretch .ensures .to,
+      cut .cut .ensures,
+      l .loop .inv .fits,
+    ))
     -- same-length
     (λ c.
     let sent = c .before .before .before in
@@ -54,7 +62,8 @@ send-row-spec =
     let stretch = cut .before in
     let test = stretch .before in
     let l = test .before in
-    row-stop (l .loop .inv) (test .loop-test .taken) (stretch .stretch-end .ensures) (cut .cut .ensures) (sent .send-stretch .ensures) (c .if1 .taken))
+    row-stop (l .loop .inv) (test .loop-test .taken) (stretch .stretch-end .ensures) (cut .cut .ensures) (sent .send-stretch .ensures)
+    (c .if1 .taken))
     -- slice-write-room
     (λ c.
     let sent = c .before .before .before in
@@ -70,7 +79,11 @@ send-row-spec =
     let stretch = cut .before in
     let test = stretch .before in
     let l = test .before in
-    omega (arith, fs-fits (l .loop .inv) (test .loop-test .taken) (stretch .stretch-end .ensures) (cut .cut .ensures) (sent .send-stretch .ensures) (c .if1 .left)))
+    omega (
+      arith,
+      fs-fits (l .loop .inv) (test .loop-test .taken) (stretch .stretch-end .ensures) (cut .cut .ensures) (sent .send-stretch .ensures)
+          (c .if1 .left),
+    ))
     -- add-at
     (λ c.
     let sent = c .before .before .before in
@@ -82,7 +95,14 @@ send-row-spec =
     let sent = c .before .before .before in
     let cut = sent .before .before in
     let stretch = cut .before in
-    omega (arith, stretch .stretch-end .ensures .from, sent .send-stretch .ensures .from, sent .send-stretch .ensures .to, cut .cut .ensures, c .if1 .left))
+    omega (
+      arith,
+      stretch .stretch-end .ensures .from,
+      sent .send-stretch .ensures .from,
+      sent .send-stretch .ensures .to,
+      cut .cut .ensures,
+      c .if1 .left,
+    ))
     -- loop-again
     (λ c.
     let sent = c .before .before .before in

@@ -23,7 +23,10 @@ send-rows-spec =
     Inv-loop
     μ-loop
     -- follows-left-out-requires
-    (λ c κs. (c .before .before .pre .0, (omega (arith, c .before .before .pre), omega (arith, c .before .before .pre .1 .1 .1 .0, page-small (c .before .before .pre .0)))))
+    (λ c κs. (
+      c .before .before .pre .0,
+      (omega (arith, c .before .before .pre), omega (arith, c .before .before .pre .1 .1 .1 .0, page-small (c .before .before .pre .0))),
+    ))
     -- row-end-requires
     (λ c κs.
     let s = c .before .before .before in
@@ -39,11 +42,17 @@ send-rows-spec =
     -- loop-holds
     (λ c.
     let s = c .before .before .before .before .before in
-    go-begin (s .pre .0) (s .pre .1 .1 .0) (s .pre .1 .0) (s .pre .1 .1 .1 .1) (c .before .before .follows-left-out .ensures) (rw (c .before .row-end .ensures) at (c .cut .ensures)))
+    go-begin (s .pre .0) (s .pre .1 .1 .0) (s .pre .1 .0) (s .pre .1 .1 .1 .1) (c .before .before .follows-left-out .ensures)
+    (rw (c .before .row-end .ensures) at (c .cut .ensures)))
     -- send-row-requires
     (λ c κs.
-    let s = c .before .before .before .before .before .before .before .before in
-    (omega (arith, c .before .before .loop .inv .some), (omega (arith, c .before .before .loop .inv .most, c .before .before .loop .inv .page), (omega (arith, s .pre .1 .1 .1 .0, page-small (s .pre .0)), c .before .before .loop .inv .fits))))
+    let s = c .before .before .before .before .before .before .before .before in (
+      omega (arith, c .before .before .loop .inv .some),
+      (
+        omega (arith, c .before .before .loop .inv .most, c .before .before .loop .inv .page),
+        (omega (arith, s .pre .1 .1 .1 .0, page-small (s .pre .0)), c .before .before .loop .inv .fits),
+      ),
+    ))
     -- cast-t20
     (λ c.
     let l = c .before .before .before .before .before .before in
@@ -78,7 +87,8 @@ send-rows-spec =
     let first = c .before .before .before in
     let row = first .before .before .before in
     let l = row .before .before .before in
-    stopped (c .stop-at2 .ensures) (rw (c .before .row-place .ensures) (go-full (l .loop .inv) (row .send-row .ensures) (first .if1 .left) (c .before .before .if2 .taken))))
+    stopped (c .stop-at2 .ensures)
+    (rw (c .before .row-place .ensures) (go-full (l .loop .inv) (row .send-row .ensures) (first .if1 .left) (c .before .before .if2 .taken))))
     -- slice-write-room
     (λ c.
     let row = c .before .before .before .before .before in

@@ -59,7 +59,8 @@ send-stretch-spec =
     let test = left .before .before in
     let l = test .before in
     let s = l .before .before .before in
-    put-next (l .loop .inv) (s .pre .1 .1 .1) (test .loop-test .taken) (sym (left .left-out .ensures) ∙ c .before .before .if1 .left) (c .sent-code .ensures))
+    put-next (l .loop .inv) (s .pre .1 .1 .1) (test .loop-test .taken) (sym (left .left-out .ensures) ∙ c .before .before .if1 .left)
+    (c .sent-code .ensures))
     -- same-length-2
     (λ c. c .before .loop .inv .long)
     -- returns-2

@@ -30,8 +30,13 @@ send-text-spec =
     (λ c. search needs)
     -- send-rows-requires-2
     (λ c κs.
-    let s = c .before .before .before .before .before .before in
-    (s .pre .0, ((rw (c .before .before .at2 .given .1) at (s .pre .1 .0)) .1, (s .pre .1 .1 .0, (s .pre .1 .1 .1 .0, omega (arith, s .pre .1 .1 .1 .1, length-set (now (s .args .room)) 0 0x1f))))))
+    let s = c .before .before .before .before .before .before in (
+      s .pre .0,
+      (
+        (rw (c .before .before .at2 .given .1) at (s .pre .1 .0)) .1,
+        (s .pre .1 .1 .0, (s .pre .1 .1 .1 .0, omega (arith, s .pre .1 .1 .1 .1, length-set (now (s .args .room)) 0 0x1f))),
+      ),
+    ))
     -- enum-told
     (λ c. search needs)
     -- slice-write-room-2
@@ -52,7 +57,10 @@ send-text-spec =
     let s = told .before .before .before .before in
     let x = s .args in
     let g = rw (told .at2 .given .1) at (s .pre .1 .0) in
-    rw (told .at2 .given .1) (c .before .before .send-rows2 .ensures ∙ sym (go-us (x .width) (now (x .page)) (x .to) (x .all) (x .segment) _ (now (x .room)) (s .pre .0) (s .pre .1 .1 .0) (g .0) (g .1) (s .pre .1 .1 .1 .1))))
+    rw (told .at2 .given .1)
+    (c .before .before .send-rows2 .ensures
+    ∙ sym (go-us (x .width) (now (x .page)) (x .to) (x .all) (x .segment) _ (now (x .room)) (s .pre .0) (s .pre .1 .1 .0) (g .0) (g .1)
+    (s .pre .1 .1 .1 .1))))
     -- same-length-3
     (λ c. search needs)
     -- returns-3

@@ -31,12 +31,14 @@ stretch-end-spec =
     -- left-out-requires
     (λ c κs. search needs)
     -- returns-2
-    (λ c. skip-end (c .before .before .before .before .loop .inv) (not-false _ (c .before .before .before .before .before .if1 .left)) (λ h. sym (c .before .left-out .ensures) ∙ not-true _ (c .if2 .taken)))
+    (λ c. skip-end (c .before .before .before .before .loop .inv) (not-false _ (c .before .before .before .before .before .if1 .left))
+    (λ h. sym (c .before .left-out .ensures) ∙ not-true _ (c .if2 .taken)))
     -- add-i
     (λ c. search needs)
     -- loop-less
     (λ c. search needs)
     -- loop-again
-    (λ c. skip-next (c .before .before .before .before .loop .inv) (c .before .before .before .loop-test .taken) (sym (c .before .left-out .ensures) ∙ not-false _ (c .if2 .left)))
+    (λ c. skip-next (c .before .before .before .before .loop .inv) (c .before .before .before .loop-test .taken)
+    (sym (c .before .left-out .ensures) ∙ not-false _ (c .if2 .left)))
     -- returns-3
     (λ c. skip-end (c .before .loop .inv) (not-false _ (c .before .before .if1 .left)) (λ h. absurd (omega (arith, c .loop-test .left)))))

@@ -33,10 +33,14 @@ judge-bytes-spec =
     -- returns-2
     (λ c.
     let x = c .before .before .before .before .before .before .before .before .before .args in
-    let p = pages-at (now (x .before)) (now (x .after)) _ (c .before .before .before .before .before .width-of .ensures) (c .before .before .before .before .if1 .left) in
-    taken-verdict (x .personality) (now (x .before)) (now (x .after)) (now (x .bytes)) (c .before .before .before .before .before .width-of .result) p (c .before .before .paints .ensures) (c .if2 .taken))
+    let p = pages-at (now (x .before)) (now (x .after)) _ (c .before .before .before .before .before .width-of .ensures)
+    (c .before .before .before .before .if1 .left) in
+    taken-verdict (x .personality) (now (x .before)) (now (x .after)) (now (x .bytes)) (c .before .before .before .before .before .width-of .result) p
+    (c .before .before .paints .ensures) (c .if2 .taken))
     -- returns-3
     (λ c.
     let x = c .before .before .before .before .before .before .before .before .before .args in
-    let p = pages-at (now (x .before)) (now (x .after)) _ (c .before .before .before .before .before .width-of .ensures) (c .before .before .before .before .if1 .left) in
-    left-verdict (x .personality) (now (x .before)) (now (x .after)) (now (x .bytes)) (c .before .before .before .before .before .width-of .result) p (c .before .before .paints .ensures) (c .if2 .left)))
+    let p = pages-at (now (x .before)) (now (x .after)) _ (c .before .before .before .before .before .width-of .ensures)
+    (c .before .before .before .before .if1 .left) in
+    left-verdict (x .personality) (now (x .before)) (now (x .after)) (now (x .bytes)) (c .before .before .before .before .before .width-of .result) p
+    (c .before .before .paints .ensures) (c .if2 .left)))

@@ -27,7 +27,8 @@ paints-spec =
     let k = c .before .before .before .before .before .before .before .before .before .before .before .before .before .before .before .before .before .pre in
     let r = c .before .before .before .before .before .run .kept .0 in
     let x = c .before .before .before .before .before .before .before .before .before .before .before .before .before .before .before .before .before .args in
-    let y = over-all (now (x .before)) (now (x .scratch)) (omega (arith, k .1 .0)) (c .before .before .before .before .before .before .before .before .before .before .before .copy-cells .ensures) in
+    let y = over-all (now (x .before)) (now (x .scratch)) (omega (arith, k .1 .0))
+    (c .before .before .before .before .before .before .before .before .before .before .before .copy-cells .ensures) in
     let z = ap length y in
     (omega (arith, k, r, z), omega (arith, k, r, z), omega (arith, k, r, z)))
     -- and-requires
@@ -38,6 +39,8 @@ paints-spec =
     (λ c.
     let x = c .before .before .before .before .before .before .before .before .before .before .before .before .before .before .before .before .before .before .before .args in
     let t = c .before .before .before .before .before .before .before .run .ensures in
-    paints-made (x .personality) (x .wide) (now (x .before)) (now (x .after)) (now (x .bytes)) (c .before .before .before .before .before .before .before .before .before .before .before .before .before .before .before .before .before .before .before .pre .0 .1) (over-all (now (x .before)) (now (x .scratch)) (omega (arith, c .before .before .before .before .before .before .before .before .before .before .before .before .before .before .before .before .before .before .before .pre .1 .0)) (c .before .before .before .before .before .before .before .before .before .before .before .before .before .copy-cells .ensures))
-    (c .before .before .before .before .before .before .before .before .before .before .power-on-at .ensures) refl (t .answer) (t .taken) (t .refused) (t .page) (c .before .before .before .is-clean .ensures)
+    paints-made (x .personality) (x .wide) (now (x .before)) (now (x .after)) (now (x .bytes))
+    (c .before .before .before .before .before .before .before .before .before .before .before .before .before .before .before .before .before .before .before .pre .0 .1) (over-all (now (x .before)) (now (x .scratch)) (omega (arith, c .before .before .before .before .before .before .before .before .before .before .before .before .before .before .before .before .before .before .before .pre .1 .0)) (c .before .before .before .before .before .before .before .before .before .before .before .before .before .copy-cells .ensures))
+    (c .before .before .before .before .before .before .before .before .before .before .power-on-at .ensures) refl (t .answer) (t .taken) (t .refused)
+    (t .page) (c .before .before .before .is-clean .ensures)
     (c .before .same-cells .ensures) (c .and .ensures)))

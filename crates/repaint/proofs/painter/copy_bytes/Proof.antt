@@ -34,8 +34,14 @@ copy-bytes-spec =
     -- loop-again
     (λ c.
     let x = c .before .before .before .args in
-    let l = c .before .before .loop in
-    (omega arith, (length-set (l .to) (l .i) _ ∙ l .inv .1 .0, copy-step (now (x .from)) (now (x .to)) (l .i) (omega arith) (omega arith) (l .inv .1 .1))))
+    let l = c .before .before .loop in (
+      omega arith,
+      (
+        length-set (l .to) (l .i) _
+            ∙ l .inv .1 .0,
+        copy-step (now (x .from)) (now (x .to)) (l .i) (omega arith) (omega arith) (l .inv .1 .1),
+      ),
+    ))
     -- same-length
     (λ c. c .before .loop .inv .1 .0)
     -- returns

@@ -68,9 +68,11 @@ same-length-4 c = search needs
 returns : tie.Need-returns
 returns c =
     let x = c .before .before .before .before .before .before .before .before .before .before .before .before .before .before .before .before .before .before .before .before .before .before .before .before .before .before .before .before .args in (
-      over-part (now (x .r)) (now (x .rows)) (x .n) (c .before .before .before .before .before .before .before .before .before .before .before .before .before .before .before .before .before .copy-cells .ensures),
+      over-part (now (x .r)) (now (x .rows)) (x .n)
+          (c .before .before .before .before .before .before .before .before .before .before .before .before .before .before .before .before .before .copy-cells .ensures),
       (
-        over-part (now (x .c)) (now (x .columns)) (x .n) (c .before .before .before .before .before .before .before .before .before .before .before .before .copy-cells2 .ensures),
+        over-part (now (x .c)) (now (x .columns)) (x .n)
+            (c .before .before .before .before .before .before .before .before .before .before .before .before .copy-cells2 .ensures),
         (
           over-part (now (x .l)) (now (x .lengths)) (x .n) (c .before .before .before .before .before .before .before .copy-cells3 .ensures),
           over-part (now (x .o)) (now (x .out)) (x .k) (c .before .before .copy-bytes .ensures),

@@ -20,4 +20,5 @@ has-room-spec =
     -- returns
     (λ c.
     let x = c .before .before .before .args in
-    c .and3 .ensures ∙ ap (λ (t : Bool). both t (leb (x .k) (x .out))) (c .before .and2 .ensures ∙ ap (λ (t : Bool). both (leb (x .n) (x .rows)) t) (c .before .before .and .ensures))))
+    c .and3 .ensures ∙ ap (λ (t : Bool). both t (leb (x .k) (x .out)))
+    (c .before .and2 .ensures ∙ ap (λ (t : Bool). both (leb (x .n) (x .rows)) t) (c .before .before .and .ensures))))

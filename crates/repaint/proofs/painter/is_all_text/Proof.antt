@@ -35,7 +35,8 @@ is-all-text-spec =
     (λ c.
     let x = c .before .before .before .before .before .before .args in
     let l = c .before .before .before .before .loop in
-    sym (text-stops (x .personality) (now (x .page)) (l .i) (c .before .before .before .loop-test .taken) (sym (c .before .is-text .ensures) ∙ not-true _ (c .if1 .taken))) ∙ l .inv .1)
+    sym (text-stops (x .personality) (now (x .page)) (l .i) (c .before .before .before .loop-test .taken)
+    (sym (c .before .is-text .ensures) ∙ not-true _ (c .if1 .taken))) ∙ l .inv .1)
     -- add-i
     (λ c. search needs)
     -- loop-less
@@ -44,8 +45,11 @@ is-all-text-spec =
     (λ c.
     let x = c .before .before .before .before .before .before .args in
     let l = c .before .before .before .before .loop in
-    let h = c .before .before .before .loop-test .taken in
-    (omega (arith, h), text-goes (x .personality) (now (x .page)) (l .i) h (sym (c .before .is-text .ensures) ∙ not-false _ (c .if1 .left)) ∙ l .inv .1))
+    let h = c .before .before .before .loop-test .taken in (
+      omega (arith, h),
+      text-goes (x .personality) (now (x .page)) (l .i) h (sym (c .before .is-text .ensures) ∙ not-false _ (c .if1 .left))
+          ∙ l .inv .1,
+    ))
     -- returns-2
     (λ c.
     let x = c .before .before .before .args in

@@ -33,16 +33,30 @@ paint-spec =
     let h = c .before .before .before .before .loop-test .taken in
     let e = c .before .before .before .stretch-end .ensures in
     let g = l .inv in
-    let s = span-fits (now (x .before)) (now (x .after)) (k .0 .0) (k .0 .1) (l .at) _ h e g in
-    (end-range (now (x .before)) (now (x .after)) (k .0 .0) (k .0 .1) (l .at) _ h e, (s (l .rows) (now (x .rows)) (g .long-x) (k .1 .rows), (s (l .columns) (now (x .columns)) (g .long-y) (k .1 .columns), (s (l .lengths) (now (x .lengths)) (g .long-z) (k .1 .lengths), span-few (now (x .before)) (now (x .after)) (k .0 .0) (k .0 .1) (l .at) _ h e g (k .1 .few))))))
+    let s = span-fits (now (x .before)) (now (x .after)) (k .0 .0) (k .0 .1) (l .at) _ h e g in (
+      end-range (now (x .before)) (now (x .after)) (k .0 .0) (k .0 .1) (l .at) _ h e,
+      (
+        s (l .rows) (now (x .rows)) (g .long-x) (k .1 .rows),
+        (
+          s (l .columns) (now (x .columns)) (g .long-y) (k .1 .columns),
+          (
+            s (l .lengths) (now (x .lengths)) (g .long-z) (k .1 .lengths),
+            span-few (now (x .before)) (now (x .after)) (k .0 .0) (k .0 .1)
+                (l .at) _ h e g (k .1 .few),
+          ),
+        ),
+      ),
+    ))
     -- put-stretch-requires
     (λ c κs.
     let x = c .before .before .before .before .before .before .before .before .before .before .before .before .before .before .before .before .before .before .before .before .args in
     let k = c .before .before .before .before .before .before .before .before .before .before .before .before .before .before .before .before .before .before .before .before .pre in
     let l = c .before .before .before .before .before .before .before .before .before .before .before .before .before .loop in
     let h = c .before .before .before .before .before .before .before .before .before .before .before .before .loop-test .taken in
-    let e = c .before .before .before .before .before .before .before .before .before .before .before .stretch-end .ensures in
-    (end-range (now (x .before)) (now (x .after)) (k .0 .0) (k .0 .1) (l .at) _ h e, (k .0 .1, bytes-fit (now (x .before)) (now (x .after)) (k .0 .0) (k .0 .1) (l .at) _ h e (l .inv) (k .1 .bytes))))
+    let e = c .before .before .before .before .before .before .before .before .before .before .before .stretch-end .ensures in (
+      end-range (now (x .before)) (now (x .after)) (k .0 .0) (k .0 .1) (l .at) _ h e,
+      (k .0 .1, bytes-fit (now (x .before)) (now (x .after)) (k .0 .0) (k .0 .1) (l .at) _ h e (l .inv) (k .1 .bytes)),
+    ))
     -- past-requires
     (λ c κs.
     let x = c .before .before .before .before .before .before .before .before .before .before .before .before .before .before .before .before .before .before .before .before .before .before .before .args in
@@ -68,7 +82,8 @@ paint-spec =
     let e = c .before .before .before .before .before .before .before .before .before .before .before .before .before .before .before .stretch-end .ensures in
     let s = c .before .before .before .before .before .before .before .before .before .before .before .put-span in
     let p = c .before .before .before .put-stretch in
-    going-on (now (x .before)) (now (x .after)) (k .0 .0) (k .0 .1) (l .at) _ h e (l .inv) (s .ensures (now (x .after)) (k .0 .1)) (p .ensures) (s .kept .0) (s .kept .1 .0) (s .kept .1 .1 .0) (p .kept .0) (c .past .ensures))
+    going-on (now (x .before)) (now (x .after)) (k .0 .0) (k .0 .1) (l .at) _ h e (l .inv) (s .ensures (now (x .after)) (k .0 .1)) (p .ensures)
+    (s .kept .0) (s .kept .1 .0) (s .kept .1 .1 .0) (p .kept .0) (c .past .ensures))
     -- same-length
     (λ c. c .before .loop .inv .long-x)
     -- same-length-2
@@ -78,4 +93,5 @@ paint-spec =
     -- same-length-4
     (λ c. c .before .loop .inv .long-o)
     -- returns
-    (λ c. going-done (c .before .before .before .before .before .before .before .before .pre .0 .0) (omega (arith, c .loop-test .left)) (c .before .loop .inv)))
+    (λ c. going-done (c .before .before .before .before .before .before .before .before .pre .0 .0) (omega (arith, c .loop-test .left))
+    (c .before .loop .inv)))

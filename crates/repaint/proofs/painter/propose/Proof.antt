@@ -3,7 +3,8 @@ use mathlib.Core.Path.{sym, _∙_}
 use native.Mathlib.Omega.{arith}
 use denote.Ref.{now}
 use borrow.Author.Tests.{not-true, not-false}
-use Rattle.repaint.proofs.Proposing.{served-lengths, gives-seven, gives-three, gives-six, holding-fresh, made-count, made-size, made-few, made-fit, made-given, rooms}
+use Rattle.repaint.proofs.Proposing.{served-lengths, gives-seven, gives-three, gives-six, holding-fresh, made-count, made-size, made-few}
+use Rattle.repaint.proofs.Proposing.{made-fit, made-given, rooms}
 use borrow.Author.Needs.{needs}
 use Rattle.repaint.proofs.painter.propose.Statement.{statement}
 use Rattle.repaint.proofs.painter.propose.Tie as tie
@@ -17,7 +18,8 @@ refuse-requires c κs = search needs
 returns : tie.Need-returns
 returns c =
     let x = c .before .before .before .before .before .before .before .before .before .args in
-    gives-seven (x .personality) (now (x .before)) (now (x .after)) (now (x .rows)) (now (x .columns)) (now (x .lengths)) (now (x .out)) (c .before .before .width-of .ensures) (c .before .if1 .taken) (c .refuse .ensures)
+    gives-seven (x .personality) (now (x .before)) (now (x .after)) (now (x .rows)) (now (x .columns)) (now (x .lengths)) (now (x .out))
+    (c .before .before .width-of .ensures) (c .before .if1 .taken) (c .refuse .ensures)
 
 is-served-requires : tie.Need-is-served-requires
 is-served-requires c κs = search needs
@@ -28,7 +30,9 @@ refuse-requires-2 c κs = search needs
 returns-2 : tie.Need-returns-2
 returns-2 c =
     let x = c .before .before .before .before .before .before .before .before .before .before .before .args in
-    gives-three (x .personality) (now (x .before)) (now (x .after)) (now (x .rows)) (now (x .columns)) (now (x .lengths)) (now (x .out)) (λ e. c .before .before .before .if1 .left (c .before .before .before .before .width-of .ensures ∙ e)) (sym (c .before .before .is-served .ensures) ∙ not-true _ (c .before .if2 .taken)) (c .refuse2 .ensures)
+    gives-three (x .personality) (now (x .before)) (now (x .after)) (now (x .rows)) (now (x .columns)) (now (x .lengths)) (now (x .out))
+    (λ e. c .before .before .before .if1 .left (c .before .before .before .before .width-of .ensures ∙ e))
+    (sym (c .before .before .is-served .ensures) ∙ not-true _ (c .before .if2 .taken)) (c .refuse2 .ensures)
 
 slice-aggregate-paint : tie.Need-slice-aggregate-paint
 slice-aggregate-paint c = search needs
@@ -57,9 +61,15 @@ refuse-requires-3 c κs = search needs
 returns-3 : tie.Need-returns-3
 returns-3 c =
     let x = c .before .before .before .before .before .before .before .before .before .before .before .before .before .before .before .before .before .before .before .before .before .before .args in
-    let s = (sym (c .before .before .before .before .before .before .before .before .before .before .before .before .before .is-served .ensures) ∙ not-false _ (c .before .before .before .before .before .before .before .before .before .before .before .before .if2 .left)) in
+    let s = (sym (c .before .before .before .before .before .before .before .before .before .before .before .before .before .is-served .ensures)
+    ∙ not-false _ (c .before .before .before .before .before .before .before .before .before .before .before .before .if2 .left)) in
     let p = c .before .before .before .before .before .before .before .paint .ensures in
-    gives-six (x .personality) (now (x .before)) (now (x .after)) (now (x .rows)) (now (x .columns)) (now (x .lengths)) (now (x .out)) (λ e. c .before .before .before .before .before .before .before .before .before .before .before .before .before .before .if1 .left (c .before .before .before .before .before .before .before .before .before .before .before .before .before .before .before .width-of .ensures ∙ e)) s (made-count (x .personality) (now (x .before)) (now (x .after)) s p) (made-size (x .personality) (now (x .before)) (now (x .after)) s p) (sym (c .before .before .has-room .ensures) ∙ not-true _ (c .before .if3 .taken)) (c .refuse3 .ensures)
+    gives-six (x .personality) (now (x .before)) (now (x .after)) (now (x .rows)) (now (x .columns)) (now (x .lengths)) (now (x .out))
+    (λ e. c .before .before .before .before .before .before .before .before .before .before .before .before .before .before .if1 .left
+    (c .before .before .before .before .before .before .before .before .before .before .before .before .before .before .before .width-of .ensures
+    ∙ e)) s (made-count (x .personality) (now (x .before)) (now (x .after)) s p)
+    (made-size (x .personality) (now (x .before)) (now (x .after)) s p)
+    (sym (c .before .before .has-room .ensures) ∙ not-true _ (c .before .if3 .taken)) (c .refuse3 .ensures)
 
 slice-aggregate-give : tie.Need-slice-aggregate-give
 slice-aggregate-give c = search needs
@@ -77,20 +87,36 @@ give-requires : tie.Need-give-requires
 give-requires c κs =
     let x = c .before .before .before .before .before .before .before .before .before .before .before .before .before .before .before .before .before .before .before .before .before .before .before .before .before .before .before .before .before .args in
     let s = (sym (c .before .before .before .before .before .before .before .before .before .before .before .before .before .before .before .before .before .before .before .before .is-served .ensures) ∙ not-false _ (c .before .before .before .before .before .before .before .before .before .before .before .before .before .before .before .before .before .before .before .if2 .left)) in
-    let p = c .before .before .before .before .before .before .before .before .before .before .before .before .before .before .paint .ensures in
-    (made-fit (x .personality) (now (x .before)) (now (x .after)) s p, rooms _ _ _ _ _ _ (sym (c .before .before .before .before .before .before .before .before .before .has-room .ensures) ∙ not-false _ (c .before .before .before .before .before .before .before .before .if3 .left)))
+    let p = c .before .before .before .before .before .before .before .before .before .before .before .before .before .before .paint .ensures in (
+      made-fit (x .personality) (now (x .before)) (now (x .after)) s p,
+      rooms _ _ _ _ _ _
+          (sym (c .before .before .before .before .before .before .before .before .before .has-room .ensures)
+          ∙ not-false _ (c .before .before .before .before .before .before .before .before .if3 .left)),
+    )
 
 cast-t46 : tie.Need-cast-t46
 cast-t46 c =
     let x = c .before .before .before .before .before .before .before .before .before .before .before .before .before .before .before .before .before .before .before .before .before .before .before .before .before .before .before .before .before .before .before .before .before .before .before .before .before .before .args in
     let s = (sym (c .before .before .before .before .before .before .before .before .before .before .before .before .before .before .before .before .before .before .before .before .before .before .before .before .before .before .before .before .before .is-served .ensures) ∙ not-false _ (c .before .before .before .before .before .before .before .before .before .before .before .before .before .before .before .before .before .before .before .before .before .before .before .before .before .before .before .before .if2 .left)) in
-    record { fits = omega (arith, made-few (x .personality) (now (x .before)) (now (x .after)) s (c .before .before .before .before .before .before .before .before .before .before .before .before .before .before .before .before .before .before .before .before .before .before .before .paint .ensures) .0) }
+    record {
+      fits = omega (
+        arith,
+        made-few (x .personality) (now (x .before)) (now (x .after)) s
+            (c .before .before .before .before .before .before .before .before .before .before .before .before .before .before .before .before .before .before .before .before .before .before .before .paint .ensures) .0,
+      );
+    }
 
 cast-t47 : tie.Need-cast-t47
 cast-t47 c =
     let x = c .before .before .before .before .before .before .before .before .before .before .before .before .before .before .before .before .before .before .before .before .before .before .before .before .before .before .before .before .before .before .before .before .before .before .before .before .before .before .args in
     let s = (sym (c .before .before .before .before .before .before .before .before .before .before .before .before .before .before .before .before .before .before .before .before .before .before .before .before .before .before .before .before .before .is-served .ensures) ∙ not-false _ (c .before .before .before .before .before .before .before .before .before .before .before .before .before .before .before .before .before .before .before .before .before .before .before .before .before .before .before .before .if2 .left)) in
-    record { fits = omega (arith, made-few (x .personality) (now (x .before)) (now (x .after)) s (c .before .before .before .before .before .before .before .before .before .before .before .before .before .before .before .before .before .before .before .before .before .before .before .paint .ensures) .1) }
+    record {
+      fits = omega (
+        arith,
+        made-few (x .personality) (now (x .before)) (now (x .after)) s
+            (c .before .before .before .before .before .before .before .before .before .before .before .before .before .before .before .before .before .before .before .before .before .before .before .paint .ensures) .1,
+      );
+    }
 
 same-length : tie.Need-same-length
 same-length c = search needs
@@ -109,7 +135,8 @@ returns-4 c =
     let x = c .before .before .before .before .before .before .before .before .before .before .before .before .before .before .before .before .before .before .before .before .before .before .before .before .before .before .before .before .before .before .before .before .before .before .before .before .before .before .args in
     let s = (sym (c .before .before .before .before .before .before .before .before .before .before .before .before .before .before .before .before .before .before .before .before .before .before .before .before .before .before .before .before .before .is-served .ensures) ∙ not-false _ (c .before .before .before .before .before .before .before .before .before .before .before .before .before .before .before .before .before .before .before .before .before .before .before .before .before .before .before .before .if2 .left)) in
     let p = c .before .before .before .before .before .before .before .before .before .before .before .before .before .before .before .before .before .before .before .before .before .before .before .paint .ensures in
-    made-given (x .personality) (now (x .before)) (now (x .after)) s p (λ e. c .before .before .before .before .before .before .before .before .before .before .before .before .before .before .before .before .before .before .before .before .before .before .before .before .before .before .before .before .before .before .if1 .left (c .before .before .before .before .before .before .before .before .before .before .before .before .before .before .before .before .before .before .before .before .before .before .before .before .before .before .before .before .before .before .before .width-of .ensures ∙ e)) (now (x .rows)) (now (x .columns)) (now (x .lengths)) (now (x .out)) (sym (c .before .before .before .before .before .before .before .before .before .before .before .before .before .before .before .before .before .before .has-room .ensures) ∙ not-false _ (c .before .before .before .before .before .before .before .before .before .before .before .before .before .before .before .before .before .if3 .left)) (c .before .before .before .before .before .before .before .before .give .ensures)
+    made-given (x .personality) (now (x .before)) (now (x .after)) s p
+    (λ e. c .before .before .before .before .before .before .before .before .before .before .before .before .before .before .before .before .before .before .before .before .before .before .before .before .before .before .before .before .before .before .if1 .left (c .before .before .before .before .before .before .before .before .before .before .before .before .before .before .before .before .before .before .before .before .before .before .before .before .before .before .before .before .before .before .before .width-of .ensures ∙ e)) (now (x .rows)) (now (x .columns)) (now (x .lengths)) (now (x .out)) (sym (c .before .before .before .before .before .before .before .before .before .before .before .before .before .before .before .before .before .before .has-room .ensures) ∙ not-false _ (c .before .before .before .before .before .before .before .before .before .before .before .before .before .before .before .before .before .if3 .left)) (c .before .before .before .before .before .before .before .before .give .ensures)
 
 pub propose-spec : {M : Type 1} → statement M
 propose-spec =

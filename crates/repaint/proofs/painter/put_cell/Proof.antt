@@ -32,10 +32,16 @@ put-cell-spec =
     -- put-requires-2
     (λ c κs.
     let x = c .before .before .before .before .before .args in
-    omega (arith, c .before .before .before .before .before .pre, ap length (cell-other (x .remembered) (x .v) (c .before .before .before .if1 .left))))
+    omega (
+      arith,
+      c .before .before .before .before .before .pre,
+      ap length
+          (cell-other (x .remembered) (x .v) (c .before .before .before .if1 .left)),
+    ))
     -- same-length-2
     (λ c. search needs)
     -- returns-2
     (λ c.
     let x = c .before .before .before .before .before .before .before .before .args in
-    put-other (x .remembered) (x .v) (c .before .before .before .before .before .before .if1 .left) (c .before .before .before .before .attribute-code .ensures) (c .before .before .put2 .ensures)))
+    put-other (x .remembered) (x .v) (c .before .before .before .before .before .before .if1 .left)
+    (c .before .before .before .before .attribute-code .ensures) (c .before .before .put2 .ensures)))

@@ -27,13 +27,15 @@ put-cells-spec =
     -- shared-slice-read-v
     (λ c. search needs)
     -- put-cell-requires
-    (λ c κs. cells-fit (c .before .before .before .loop .inv) (c .before .before .loop-test .taken) (c .before .before .before .before .before .before .pre .1))
+    (λ c κs. cells-fit (c .before .before .before .loop .inv) (c .before .before .loop-test .taken)
+    (c .before .before .before .before .before .before .pre .1))
     -- add-i
     (λ c. search needs)
     -- loop-less
     (λ c. search needs)
     -- loop-again
-    (λ c. cells-go (c .before .before .before .before .before .before .loop .inv) (c .before .before .before .before .before .loop-test .taken) (c .before .before .put-cell .ensures) (c .before .before .put-cell .kept .0))
+    (λ c. cells-go (c .before .before .before .before .before .before .loop .inv) (c .before .before .before .before .before .loop-test .taken)
+    (c .before .before .put-cell .ensures) (c .before .before .put-cell .kept .0))
     -- same-length
     (λ c. c .before .loop .inv .long)
     -- returns

@@ -47,7 +47,8 @@ put-span-spec =
     -- returns
     (λ c.
     let x = c .before .args in
-    λ b e. span-some b (x .at) (x .end - x .at) (x .n) (now (x .rows)) (now (x .columns)) (now (x .lengths)) (x .n + 1) (omega (arith, c .if1 .taken)) (omega (arith, e, c .before .pre .0 .0, c .before .pre .0 .1)) refl)
+    λ b e. span-some b (x .at) (x .end - x .at) (x .n) (now (x .rows)) (now (x .columns)) (now (x .lengths)) (x .n + 1) (omega (arith, c .if1 .taken))
+    (omega (arith, e, c .before .pre .0 .0, c .before .pre .0 .1)) refl)
     -- returns-2
     (λ c.
     let x = c .before .args in

@@ -25,7 +25,12 @@ put-stretch-spec =
     -- put-requires
     (λ c κs.
     let x = c .before .before .before .before .before .args in
-    omega (arith, c .before .before .before .before .before .pre .1 .1, one-size (now (x .after)) (x .at) (x .end - x .at) (x .remembered) (omega (arith, c .before .before .if1 .taken))))
+    omega (
+      arith,
+      c .before .before .before .before .before .pre .1 .1,
+      one-size (now (x .after)) (x .at) (x .end - x .at) (x .remembered)
+          (omega (arith, c .before .before .if1 .taken)),
+    ))
     -- mul-put-cells
     (λ c. search needs)
     -- sub-put-cells
@@ -33,20 +38,30 @@ put-stretch-spec =
     -- part-put-cells-start
     (λ c. search needs)
     -- part-put-cells-end
-    (λ c. omega (arith, c .before .before .before .before .before .before .before .before .before .pre .0 .1, c .before .before .before .before .before .before .before .before .before .pre .1 .0))
+    (λ c. omega (
+      arith,
+      c .before .before .before .before .before .before .before .before .before .pre .0 .1,
+      c .before .before .before .before .before .before .before .before .before .pre .1 .0,
+    ))
     -- put-cells-requires
     (λ c κs.
     let x = c .before .before .before .before .before .before .before .before .before .before .args in
     let k = c .before .before .before .before .before .before .before .before .before .before .pre in
     let p = c .before .before .before .before .put in
-    let s = one-size (now (x .after)) (x .at) (x .end - x .at) (x .remembered) (omega (arith, c .before .before .before .before .before .before .before .if1 .taken)) in
-    (omega (arith, k .0 .1, k .0 .0, length-take (x .end - x .at) (drop (x .at) (now (x .after)))), omega (arith, k .1 .1, s, p .ensures .place, p .kept .0)))
+    let s = one-size (now (x .after)) (x .at) (x .end - x .at) (x .remembered)
+    (omega (arith, c .before .before .before .before .before .before .before .if1 .taken)) in (
+      omega (arith, k .0 .1, k .0 .0, length-take (x .end - x .at) (drop (x .at) (now (x .after)))),
+      omega
+          (arith, k .1 .1, s, p .ensures .place, p .kept .0),
+    ))
     -- same-length
     (λ c. search needs)
     -- returns
     (λ c.
     let x = c .before .before .before .before .before .before .before .before .before .before .before .before .before .args in
-    stretch-some (now (x .after)) (x .at) (x .end - x .at) (x .remembered) (omega (arith, c .before .before .before .before .before .before .before .before .before .before .if1 .taken)) (c .before .before .before .before .before .before .before .put .ensures) (c .before .before .put-cells .ensures))
+    stretch-some (now (x .after)) (x .at) (x .end - x .at) (x .remembered)
+    (omega (arith, c .before .before .before .before .before .before .before .before .before .before .if1 .taken))
+    (c .before .before .before .before .before .before .before .put .ensures) (c .before .before .put-cells .ensures))
     -- returns-2
     (λ c.
     let x = c .before .before .before .args in

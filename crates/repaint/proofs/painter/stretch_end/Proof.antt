@@ -35,7 +35,12 @@ returns : tie.Need-returns Inv-loop μ-loop
 returns c =
     let l = c .before .before .before .before .loop in
     let s = c .before .before .before .before .before .pre in
-    omega (arith, l .inv .1 .1, reach-stop (now (c .before .before .before .before .before .args .before)) (now (c .before .before .before .before .before .args .after)) (l .i) (s .0 ∙ sym (s .1 .0)) (omega (arith, s .0)) (c .if1 .taken))
+    omega (
+      arith,
+      l .inv .1 .1,
+      reach-stop (now (c .before .before .before .before .before .args .before))
+          (now (c .before .before .before .before .before .args .after)) (l .i) (s .0 ∙ sym (s .1 .0)) (omega (arith, s .0)) (c .if1 .taken),
+    )
 
 add-i : tie.Need-add-i Inv-loop μ-loop
 add-i c = search needs
@@ -44,7 +49,13 @@ returns-2 : tie.Need-returns-2 Inv-loop μ-loop
 returns-2 c =
     let l = c .before .before .before .before .before .loop in
     let s = c .before .before .before .before .before .before .pre in
-    omega (arith, l .inv .1 .1, reach-turn (now (c .before .before .before .before .before .before .args .before)) (now (c .before .before .before .before .before .before .args .after)) (l .i) (s .0 ∙ sym (s .1 .0)) (omega (arith, s .0)) (c .before .if1 .left) (c .if2 .taken))
+    omega (
+      arith,
+      l .inv .1 .1,
+      reach-turn (now (c .before .before .before .before .before .before .args .before))
+          (now (c .before .before .before .before .before .before .args .after)) (l .i) (s .0 ∙ sym (s .1 .0)) (omega (arith, s .0))
+          (c .before .if1 .left) (c .if2 .taken),
+    )
 
 loop-less : tie.Need-loop-less Inv-loop μ-loop
 loop-less c = search needs
@@ -52,14 +63,30 @@ loop-less c = search needs
 loop-again : tie.Need-loop-again Inv-loop μ-loop
 loop-again c =
     let l = c .before .before .before .before .before .loop in
-    let s = c .before .before .before .before .before .before .pre in
-    (omega arith, (omega arith, omega (arith, l .inv .1 .1, reach-go (now (c .before .before .before .before .before .before .args .before)) (now (c .before .before .before .before .before .before .args .after)) (l .i) (s .0 ∙ sym (s .1 .0)) (omega (arith, s .0)) (c .before .if1 .left) (c .if2 .left))))
+    let s = c .before .before .before .before .before .before .pre in (
+      omega arith,
+      (
+        omega arith,
+        omega (
+          arith,
+          l .inv .1 .1,
+          reach-go (now (c .before .before .before .before .before .before .args .before))
+              (now (c .before .before .before .before .before .before .args .after)) (l .i) (s .0 ∙ sym (s .1 .0)) (omega (arith, s .0))
+              (c .before .if1 .left) (c .if2 .left),
+        ),
+      ),
+    )
 
 returns-3 : tie.Need-returns-3 Inv-loop μ-loop
 returns-3 c =
     let l = c .before .loop in
     let s = c .before .before .pre in
-    omega (arith, l .inv .1 .1, reach-none (now (c .before .before .args .before)) (now (c .before .before .args .after)) (l .i) (s .0 ∙ sym (s .1 .0)) (omega (arith, s .0)))
+    omega (
+      arith,
+      l .inv .1 .1,
+      reach-none (now (c .before .before .args .before)) (now (c .before .before .args .after)) (l .i)
+          (s .0 ∙ sym (s .1 .0)) (omega (arith, s .0)),
+    )
 
 pub stretch-end-spec : {M : Type 1} → statement M
 stretch-end-spec =

@@ -25,6 +25,11 @@ call-spec =
     -- same-length-3
     (λ c. search needs)
     -- same-length-4
-    (λ c. omega (arith, c .before .before .ended .kept, c .before .before .before .before .before .before .before .before .before .before .before .before .before .before .lent .kept, c .before .before .before .before .before .before .before .before .before .before .before .before .before .before .before .before .before .before .before .before .before .before .before .heading .kept))
+    (λ c. omega (
+      arith,
+      c .before .before .ended .kept,
+      c .before .before .before .before .before .before .before .before .before .before .before .before .before .before .lent .kept,
+      c .before .before .before .before .before .before .before .before .before .before .before .before .before .before .before .before .before .before .before .before .before .before .before .heading .kept,
+    ))
     -- returns
     (λ c. search needs))

@@ -31,6 +31,7 @@ of-bytes-spec =
     -- loop-less
     (λ c. search needs)
     -- loop-again
-    (λ c. hash-on (c .before .before .before .before .loop .inv) (c .before .before .before .loop-test .taken) (c .before .wide .ensures) (c .with-byte .ensures))
+    (λ c. hash-on (c .before .before .before .before .loop .inv) (c .before .before .before .loop-test .taken) (c .before .wide .ensures)
+    (c .with-byte .ensures))
     -- returns
     (λ c. hash-end (c .before .loop .inv) (c .loop-test .left)))

@@ -13,17 +13,41 @@ encode-spec =
     tie.close
     (tie.spec
     -- put-stops-requires
-    (λ c κs. omega (arith, stops-most (c .before .before .before .before .before .before .before .args .u .tabs), c .before .before .before .before .before .before .before .pre .1))
+    (λ c κs. omega (
+      arith,
+      stops-most (c .before .before .before .before .before .before .before .args .u .tabs),
+      c .before .before .before .before .before .before .before .pre .1,
+    ))
     -- put-features-requires
     (λ c κs.
     let u = c .before .before .before .before .before .before .before .before .before .before .before .args .u in
     let e : length (u .attributes) ≡ 4 = search needs in
-    omega (arith, stops-most (u .tabs), features-size (u .features), attributes-size 0x30 (u .attributes), e, c .before .before .before .before .before .before .before .before .before .before .before .pre .1, c .before .before .before .put-stops .ensures .place, c .before .before .before .put-stops .kept .0))
+    omega (
+      arith,
+      stops-most (u .tabs),
+      features-size (u .features),
+      attributes-size 0x30 (u .attributes),
+      e,
+      c .before .before .before .before .before .before .before .before .before .before .before .pre .1,
+      c .before .before .before .put-stops .ensures .place,
+      c .before .before .before .put-stops .kept .0,
+    ))
     -- put-attributes-requires
     (λ c κs.
     let u = c .before .before .before .before .before .before .before .before .before .before .before .before .before .before .before .args .u in
     let e : length (u .attributes) ≡ 4 = search needs in
-    omega (arith, stops-most (u .tabs), features-size (u .features), attributes-size 0x30 (u .attributes), e, c .before .before .before .before .before .before .before .before .before .before .before .before .before .before .before .pre .1, c .before .before .before .before .before .before .before .put-stops .ensures .place, c .before .before .before .before .before .before .before .put-stops .kept .0, c .before .before .before .put-features .ensures .place, c .before .before .before .put-features .kept .0))
+    omega (
+      arith,
+      stops-most (u .tabs),
+      features-size (u .features),
+      attributes-size 0x30 (u .attributes),
+      e,
+      c .before .before .before .before .before .before .before .before .before .before .before .before .before .before .before .pre .1,
+      c .before .before .before .before .before .before .before .put-stops .ensures .place,
+      c .before .before .before .before .before .before .before .put-stops .kept .0,
+      c .before .before .before .put-features .ensures .place,
+      c .before .before .before .put-features .kept .0,
+    ))
     -- put-keys-requires
     (λ c κs.
     let u = c .before .before .before .before .before .before .before .before .before .before .before .before .before .before .before .before .before .before .before .args .u in
@@ -41,5 +65,17 @@ encode-spec =
     let u = c .before .before .before .before .before .before .before .before .before .before .before .before .before .before .before .before .before .before .before .before .before .before .before .before .before .before .args .u in
     let e : length (u .attributes) ≡ 4 = search needs in (
       setup-put u (c .before .before .before .before .before .before .before .before .before .before .before .before .before .before .before .before .before .before .put-stops .ensures) (c .before .before .before .before .before .before .before .before .before .before .before .before .before .before .put-features .ensures) (c .before .before .before .before .before .before .before .before .before .before .put-attributes .ensures) (c .before .before .before .before .before .before .put-keys .ensures .0) (c .before .before .put-labels .ensures .0),
-      omega (arith, stops-most (u .tabs), features-size (u .features), attributes-size 0x30 (u .attributes), e, c .before .before .before .before .before .before .before .before .before .before .before .before .before .before .before .before .before .before .before .before .before .before .before .before .before .before .pre .1, c .before .before .before .before .before .before .before .before .before .before .before .before .before .before .before .before .before .before .put-stops .ensures .place, c .before .before .before .before .before .before .before .before .before .before .before .before .before .before .put-features .ensures .place, c .before .before .before .before .before .before .before .before .before .before .put-attributes .ensures .place, c .before .before .before .before .before .before .put-keys .ensures .1, c .before .before .put-labels .ensures .1),
+      omega (
+        arith,
+        stops-most (u .tabs),
+        features-size (u .features),
+        attributes-size 0x30 (u .attributes),
+        e,
+        c .before .before .before .before .before .before .before .before .before .before .before .before .before .before .before .before .before .before .before .before .before .before .before .before .before .before .pre .1,
+        c .before .before .before .before .before .before .before .before .before .before .before .before .before .before .before .before .before .before .put-stops .ensures .place,
+        c .before .before .before .before .before .before .before .before .before .before .before .before .before .before .put-features .ensures .place,
+        c .before .before .before .before .before .before .before .before .before .before .put-attributes .ensures .place,
+        c .before .before .before .before .before .before .put-keys .ensures .1,
+        c .before .before .put-labels .ensures .1,
+      ),
     )))

@@ -29,7 +29,9 @@ put-features-spec =
     -- same-length
     (λ c. search needs)
     -- returns
-    (λ c. let l = c .before .before .before .before .before .before .before .before .before .before .before .args .t3 in features-put l _ _ _ (c .before .before .before .before .before .before .before .put .ensures) (by-code-low l (c .before .before .before .before .if1 .taken)) (c .before .before .put-three .ensures))
+    (λ c. let l = c .before .before .before .before .before .before .before .before .before .before .before .args .t3 in features-put l _ _ _
+    (c .before .before .before .before .before .before .before .put .ensures) (by-code-low l (c .before .before .before .before .if1 .taken))
+    (c .before .before .put-three .ensures))
     -- array-read-put-three-5
     (λ c. search needs)
     -- array-read-put-three-6
@@ -41,4 +43,6 @@ put-features-spec =
     -- same-length-2
     (λ c. search needs)
     -- returns-2
-    (λ c. let l = c .before .before .before .before .before .before .before .before .before .before .before .args .t3 in features-put l _ _ _ (c .before .before .before .before .before .before .before .put .ensures) (by-code-high l (c .before .before .before .before .if1 .left)) (c .before .before .put-three2 .ensures)))
+    (λ c. let l = c .before .before .before .before .before .before .before .before .before .before .before .args .t3 in features-put l _ _ _
+    (c .before .before .before .before .before .before .before .put .ensures) (by-code-high l (c .before .before .before .before .if1 .left))
+    (c .before .before .put-three2 .ensures)))

@@ -36,8 +36,13 @@ put-keys-spec =
     (λ c κs.
     let x = c .before .before .before .before .before .before .args in
     let l = c .before .before .before .before .loop in
-    let e : length (x .t3) ≡ 32 = search needs in
-    (text-few 0 0x7f keyValue (x .t3) (l .i) (c .before .before .before .before .before .before .pre .0), text-fits 0 0x7f keyValue (l .inv) (c .before .key-value .ensures) (c .before .before .before .before .before .before .pre .0) (omega (arith, e, c .before .before .before .loop-test .taken)) (omega (arith, e, c .before .before .before .before .before .before .pre .1))))
+    let e : length (x .t3) ≡ 32 = search needs in (
+      text-few 0 0x7f keyValue (x .t3) (l .i) (c .before .before .before .before .before .before .pre .0),
+      text-fits 0 0x7f keyValue (l .inv)
+          (c .before .key-value .ensures) (c .before .before .before .before .before .before .pre .0)
+          (omega (arith, e, c .before .before .before .loop-test .taken))
+          (omega (arith, e, c .before .before .before .before .before .before .pre .1)),
+    ))
     -- add-i
     (λ c. search needs)
     -- loop-less
@@ -46,7 +51,10 @@ put-keys-spec =
     (λ c.
     let x = c .before .before .before .before .before .before .before .before .before .args in
     let e : length (x .t3) ≡ 32 = search needs in
-    text-go 0 0x7f keyValue (c .before .before .before .before .before .before .before .loop .inv) (c .before .before .before .before .key-value .ensures) (omega (arith, e, c .before .before .before .before .before .before .loop-test .taken)) (c .before .before .put-text .ensures) (c .before .before .put-text .kept .0))
+    text-go 0 0x7f keyValue (c .before .before .before .before .before .before .before .loop .inv)
+    (c .before .before .before .before .key-value .ensures)
+    (omega (arith, e, c .before .before .before .before .before .before .loop-test .taken)) (c .before .before .put-text .ensures)
+    (c .before .before .put-text .kept .0))
     -- same-length
     (λ c. c .before .loop .inv .long)
     -- returns

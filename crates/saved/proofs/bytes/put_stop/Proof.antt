@@ -14,7 +14,11 @@ put-stop-spec =
     -- slice-aggregate-put
     (λ c. search needs)
     -- put-requires
-    (λ c κs. omega (arith, stop-length (c .before .before .before .before .args .column) (c .before .before .if1 .taken), c .before .before .before .before .pre))
+    (λ c κs. omega (
+      arith,
+      stop-length (c .before .before .before .before .args .column) (c .before .before .if1 .taken),
+      c .before .before .before .before .pre,
+    ))
     -- same-length
     (λ c. search needs)
     -- returns

@@ -30,8 +30,11 @@ put-stops-spec =
     -- put-stop-requires
     (λ c κs.
     let x = c .before .before .before .before .args in
-    let e : length (x .t3) ≡ 132 = search needs in
-    (c .before .loop-test .taken, stop-fits (x .t3) e (c .before .before .loop .inv) (c .before .loop-test .taken) (c .before .before .before .before .pre)))
+    let e : length (x .t3) ≡ 132 = search needs in (
+      c .before .loop-test .taken,
+      stop-fits (x .t3) e (c .before .before .loop .inv) (c .before .loop-test .taken)
+          (c .before .before .before .before .pre),
+    ))
     -- add-i
     (λ c. search needs)
     -- loop-less
@@ -40,7 +43,8 @@ put-stops-spec =
     (λ c.
     let x = c .before .before .before .before .before .before .before .args in
     let e : length (x .t3) ≡ 132 = search needs in
-    stop-go (x .t3) e (c .before .before .before .before .before .loop .inv) (c .before .before .before .before .loop-test .taken) (c .before .before .put-stop .ensures) (c .before .before .put-stop .kept .0))
+    stop-go (x .t3) e (c .before .before .before .before .before .loop .inv) (c .before .before .before .before .loop-test .taken)
+    (c .before .before .put-stop .ensures) (c .before .before .put-stop .kept .0))
     -- same-length
     (λ c. c .before .loop .inv .long)
     -- returns

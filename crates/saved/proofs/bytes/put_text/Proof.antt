@@ -18,7 +18,8 @@ put-text-spec =
     -- slice-aggregate-put
     (λ c. search needs)
     -- put-requires
-    (λ c κs. let x = c .before .before .before .before .before .args in omega (arith, text-size (x .end) (x .value) (x .t), c .before .before .before .before .before .pre))
+    (λ c κs. let x = c .before .before .before .before .before .args in omega
+    (arith, text-size (x .end) (x .value) (x .t), c .before .before .before .before .before .pre))
     -- sub-put
     (λ c. search needs)
     -- part-put-start
@@ -31,7 +32,15 @@ put-text-spec =
     (λ c κs.
     let x = c .before .before .before .before .before .before .before .before .before .before .before .args in
     let e : x .t .len - 0 ≡ x .t .len = omega arith in
-    omega (arith, text-size (x .end) (x .value) (x .t), c .before .before .before .before .before .before .before .before .before .before .before .pre, c .before .before .before .before .before .put .ensures .place, c .before .before .before .before .before .put .kept .0, ap (λ (n : ℕ). length (take n (x .t .bytes))) e))
+    omega (
+      arith,
+      text-size (x .end) (x .value) (x .t),
+      c .before .before .before .before .before .before .before .before .before .before .before .pre,
+      c .before .before .before .before .before .put .ensures .place,
+      c .before .before .before .before .before .put .kept .0,
+      ap
+          (λ (n : ℕ). length (take n (x .t .bytes))) e,
+    ))
     -- slice-aggregate-put-2
     (λ c. search needs)
     -- put-requires-3
@@ -54,4 +63,6 @@ put-text-spec =
     (λ c.
     let x = c .before .before .before .before .before .before .before .before .before .before .before .before .before .before .before .before .before .before .before .args in
     let e : x .t .len - 0 ≡ x .t .len = omega arith in
-    text-put (x .end) (x .value) (x .t) (ap (λ (n : ℕ). take n (x .t .bytes)) e) (c .before .before .before .before .before .before .before .before .before .before .before .before .before .put .ensures) (c .before .before .before .before .before .before .before .put2 .ensures) (c .before .before .put3 .ensures)))
+    text-put (x .end) (x .value) (x .t) (ap (λ (n : ℕ). take n (x .t .bytes)) e)
+    (c .before .before .before .before .before .before .before .before .before .before .before .before .before .put .ensures)
+    (c .before .before .before .before .before .before .before .put2 .ensures) (c .before .before .put3 .ensures)))

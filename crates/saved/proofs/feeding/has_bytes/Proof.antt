@@ -33,4 +33,5 @@ has-bytes-spec =
     let z : n - 0 ≡ n = omega arith in
     c .same-bytes .ensures
     ∙ ap (λ (l : List ℕ). same (now (c .before .before .before .before .before .before .before .args .bytes)) l)
-    (ap (λ (k : ℕ). take k (c .before .before .before .before .encode .last .1 .0)) z ∙ front-part (c .before .before .before .before .encode .ensures .0) (omega (arith, c .before .before .before .before .encode .ensures .1)))))
+    (ap (λ (k : ℕ). take k (c .before .before .before .before .encode .last .1 .0)) z
+    ∙ front-part (c .before .before .before .before .encode .ensures .0) (omega (arith, c .before .before .before .before .encode .ensures .1)))))

@@ -19,4 +19,5 @@ is-setup-spec =
     -- has-bytes-requires
     (λ c κs. c .setup-after .ensures .1)
     -- returns
-    (λ c. c .has-bytes .ensures ∙ ap (λ (u : Setup). same (now (c .before .before .before .args .bytes)) (setupBytes u)) (c .before .setup-after .ensures .0)))
+    (λ c. c .has-bytes .ensures
+    ∙ ap (λ (u : Setup). same (now (c .before .before .before .args .bytes)) (setupBytes u)) (c .before .setup-after .ensures .0)))

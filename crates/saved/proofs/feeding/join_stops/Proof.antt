@@ -37,8 +37,11 @@ join-stops-spec =
     let x = c .before .before .args in
     let l = c .before .loop in
     let a : length (x .t1) ≡ 132 = search needs in
-    let b : length (x .beyond) ≡ 132 = search needs in
-    (omega arith, ap (λ (z : List Bool). set z (l .i) (getD (x .t1) (l .i) false)) (l .inv .1) ∙ stops-step (x .t1) (x .beyond) (l .i) (omega (arith, a, c .loop-test .taken)) (omega (arith, b, c .loop-test .taken))))
+    let b : length (x .beyond) ≡ 132 = search needs in (
+      omega arith,
+      ap (λ (z : List Bool). set z (l .i) (getD (x .t1) (l .i) false)) (l .inv .1)
+          ∙ stops-step (x .t1) (x .beyond) (l .i) (omega (arith, a, c .loop-test .taken)) (omega (arith, b, c .loop-test .taken)),
+    ))
     -- returns
     (λ c.
     let x = c .before .before .args in

@@ -19,4 +19,6 @@ setup-after-spec =
     -- run-requires
     (λ c κs. search needs)
     -- returns
-    (λ c. let x = c .before .before .before .before .before .before .before .before .before .args in after-run (x .m) (now (x .bytes)) refl (c .before .before .before .before .before .before .before .power-on-state .ensures) refl (c .before .before .before .before .run .ensures .state)))
+    (λ c. let x = c .before .before .before .before .before .before .before .before .before .args in after-run (x .m) (now (x .bytes)) refl
+    (c .before .before .before .before .before .before .before .power-on-state .ensures) refl
+    (c .before .before .before .before .run .ensures .state)))

@@ -15,4 +15,5 @@ with-settings-spec =
     -- with-settings-of-requires
     (λ c κs. search needs)
     -- returns
-    (λ c. c .with-settings-of .ensures ∙ ap (λ (v : Setup). withSettings v (c .before .before .before .args .u)) (c .before .setup-after .ensures .0)))
+    (λ c. c .with-settings-of .ensures
+    ∙ ap (λ (v : Setup). withSettings v (c .before .before .before .args .u)) (c .before .setup-after .ensures .0)))

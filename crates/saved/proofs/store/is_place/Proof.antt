@@ -54,6 +54,8 @@ is-place-spec =
     let n = c .before .before .before .before .before .before .two-at .result in
     let e = c .before .before .before .before .before .before .two-at .ensures in
     let z = not-false _ (c .before .before .if2 .left) in
-    let h : allZero (drop n (drop 2 p)) ≡ true = sym (c .before .before .before .all-zero .ensures ∙ ap allZero (behind p n (2 + n) _ refl refl)) ∙ z in
+    let h : allZero (drop n (drop 2 p)) ≡ true = sym (c .before .before .before .all-zero .ensures ∙ ap allZero (behind p n (2 + n) _ refl refl))
+    ∙ z in
     c .is-setup .ensures ∙ (ap isSetup (inside p n (2 + n) _ refl refl) ∙ (ap (λ (k : ℕ). isSetup (take k (drop 2 p))) e
-    ∙ sym (place-rest p (omega (arith, e, c .before .before .before .before .before .if1 .left)) (ap (λ (k : ℕ). allZero (drop k (drop 2 p))) (sym e) ∙ h))))))
+    ∙ sym (place-rest p (omega (arith, e, c .before .before .before .before .before .if1 .left))
+    (ap (λ (k : ℕ). allZero (drop k (drop 2 p))) (sym e) ∙ h))))))

@@ -49,13 +49,23 @@ is-store-spec =
     -- is-used-requires
     (λ c κs.
     let at = 2 + 1089 * (c .before .before .loop .k) in
-    omega (arith, length-take (at + 1089 - at) (drop at (now (c .before .before .before .before .before .before .args .store))), length-drop at (now (c .before .before .before .before .before .before .args .store)), c .before .before .loop .inv, c .before .loop-test .taken))
+    omega (
+      arith,
+      length-take (at + 1089 - at) (drop at (now (c .before .before .before .before .before .before .args .store))),
+      length-drop at
+          (now (c .before .before .before .before .before .before .args .store)),
+      c .before .before .loop .inv,
+      c .before .loop-test .taken,
+    ))
     -- returns-2
     (λ c.
     let store = now (c .before .before .before .before .before .before .before .before .args .store) in
     let l = c .before .before .before .before .loop in
-    let p = place-part store (l .k) (2 + 1089 * l .k) (2 + 1089 * l .k + 1089 - (2 + 1089 * l .k)) (c .before .before .before .loop-test .taken) refl (omega arith) in
-    let u = sym (c .before .is-used .ensures ∙ ap (λ (z : List ℕ). pick (ltb (l .k) (c .before .before .before .before .before .two-at .result)) (isPlace z) (allZero z)) p) ∙ not-true _ (c .if2 .taken) in
+    let p = place-part store (l .k) (2 + 1089 * l .k) (2 + 1089 * l .k + 1089 - (2 + 1089 * l .k)) (c .before .before .before .loop-test .taken) refl
+    (omega arith) in
+    let u = sym (c .before .is-used .ensures
+    ∙ ap (λ (z : List ℕ). pick (ltb (l .k) (c .before .before .before .before .before .two-at .result)) (isPlace z) (allZero z)) p)
+    ∙ not-true _ (c .if2 .taken) in
     store-false store (c .before .before .before .before .before .two-at .result) (l .k) (l .inv) (c .before .before .before .loop-test .taken) u)
     -- add-k
     (λ c. search needs)
@@ -65,8 +75,12 @@ is-store-spec =
     (λ c.
     let store = now (c .before .before .before .before .before .before .before .before .args .store) in
     let l = c .before .before .before .before .loop in
-    let p = place-part store (l .k) (2 + 1089 * l .k) (2 + 1089 * l .k + 1089 - (2 + 1089 * l .k)) (c .before .before .before .loop-test .taken) refl (omega arith) in
-    let u = sym (c .before .is-used .ensures ∙ ap (λ (z : List ℕ). pick (ltb (l .k) (c .before .before .before .before .before .two-at .result)) (isPlace z) (allZero z)) p) ∙ not-false _ (c .if2 .left) in
+    let p = place-part store (l .k) (2 + 1089 * l .k) (2 + 1089 * l .k + 1089 - (2 + 1089 * l .k)) (c .before .before .before .loop-test .taken) refl
+    (omega arith) in
+    let u = sym (c .before .is-used .ensures
+    ∙ ap (λ (z : List ℕ). pick (ltb (l .k) (c .before .before .before .before .before .two-at .result)) (isPlace z) (allZero z)) p)
+    ∙ not-false _ (c .if2 .left) in
     store-again store (c .before .before .before .before .before .two-at .result) (l .k) (l .inv) (c .before .before .before .loop-test .taken) u)
     -- returns-3
-    (λ c. let l = c .before .loop in store-true (now (c .before .before .before .before .before .args .store)) (c .before .before .two-at .result) (l .k) (l .inv) (c .loop-test .left)))
+    (λ c. let l = c .before .loop in store-true (now (c .before .before .before .before .before .args .store)) (c .before .before .two-at .result)
+    (l .k) (l .inv) (c .loop-test .left)))

@@ -52,8 +52,11 @@ restore-from-spec =
     let r = number-range store (x .n) (c .before .before .before .before .pre .0) (c .before .before .before .before .pre .1) in
     let size = store-length store (c .before .before .before .before .pre .0) in
     let at = 2 + 1089 * ((x .n - 1) % 8) in
-    let p = place-part store ((x .n - 1) % 8) at (at + 1089 - at) (omega arith) refl (omega arith) in
-    (omega (arith, size, length-take (at + 1089 - at) (drop at store), length-drop at store), rw p (number-short store (x .n) (c .before .before .before .before .pre .0) (c .before .before .before .before .pre .1))))
+    let p = place-part store ((x .n - 1) % 8) at (at + 1089 - at) (omega arith) refl (omega arith) in (
+      omega (arith, size, length-take (at + 1089 - at) (drop at store), length-drop at store),
+      rw p
+          (number-short store (x .n) (c .before .before .before .before .pre .0) (c .before .before .before .before .pre .1)),
+    ))
     -- returns
     (λ c.
     let x = c .before .before .before .before .before .args in

@@ -34,5 +34,7 @@ restore-place-spec =
     let p = now (c .before .before .before .before .args .p) in
     let n = c .before .before .two-at .result in
     c .with-settings .ensures
-    ∙ (ap (λ (z : List ℕ). withSettings (fed (c .before .before .before .before .args .m) z) (c .before .before .before .before .args .u)) (inside p n (2 + n) _ refl refl)
-    ∙ ap (λ (k : ℕ). withSettings (fed (c .before .before .before .before .args .m) (take k (drop 2 p))) (c .before .before .before .before .args .u)) (c .before .before .two-at .ensures))))
+    ∙ (ap (λ (z : List ℕ). withSettings (fed (c .before .before .before .before .args .m) z) (c .before .before .before .before .args .u))
+    (inside p n (2 + n) _ refl refl)
+    ∙ ap (λ (k : ℕ). withSettings (fed (c .before .before .before .before .args .m) (take k (drop 2 p))) (c .before .before .before .before .args .u))
+    (c .before .before .two-at .ensures))))

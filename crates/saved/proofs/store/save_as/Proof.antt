@@ -43,14 +43,21 @@ save-as-spec =
     (λ c κs.
     let x = c .before .before .before .before .before .before .args in
     let store = now (x .store) in
-    let at = 2 + 1089 * ((x .n - 1) % 8) in
-    (omega (arith, c .before .before .before .before .before .before .pre .1, length-take (at + 1089 - at) (drop at store), length-drop at store), c .before .before .before .encode .kept .1 .0))
+    let at = 2 + 1089 * ((x .n - 1) % 8) in (
+      omega (arith, c .before .before .before .before .before .before .pre .1, length-take (at + 1089 - at) (drop at store), length-drop at store),
+      c .before .before .before .encode .kept .1 .0,
+    ))
     -- write-two-requires
     (λ c κs.
     let x = c .before .before .before .before .before .before .before .before .before .before .args in
     let store = now (x .store) in
     let at = 2 + 1089 * ((x .n - 1) % 8) in
-    omega (arith, c .before .before .before .before .before .before .before .before .before .before .pre .1, same-len-mid at (at + 1089 - at) store (c .before .before .before .write-place .last .0) (c .before .before .before .write-place .kept .0)))
+    omega (
+      arith,
+      c .before .before .before .before .before .before .before .before .before .before .pre .1,
+      same-len-mid at (at + 1089 - at) store
+          (c .before .before .before .write-place .last .0) (c .before .before .before .write-place .kept .0),
+    ))
     -- same-length
     (λ c. search needs)
     -- returns
@@ -58,6 +65,11 @@ save-as-spec =
     let x = c .before .before .before .before .before .before .before .before .before .before .before .before .before .args in
     let store = now (x .store) in
     let at = 2 + 1089 * ((x .n - 1) % 8) in
-    store-saved (setupBytes (x .u)) store (x .n) at (at + 1089) (c .before .before .before .before .before .before .before .before .before .before .before .before .before .pre .1 .0) (c .before .before .before .before .before .before .before .before .before .before .before .before .before .pre .1 .1) refl refl
-    (place-over store at (at + 1089) (at + 1089 - at) (omega arith) (c .before .before .before .before .before .before .write-place .ensures ∙ place-made (c .before .before .before .before .before .before .before .before .before .before .encode .ensures .0) refl (c .before .before .before .before .before .before .before .before .before .before .encode .ensures .1)))
+    store-saved (setupBytes (x .u)) store (x .n) at (at + 1089)
+    (c .before .before .before .before .before .before .before .before .before .before .before .before .before .pre .1 .0)
+    (c .before .before .before .before .before .before .before .before .before .before .before .before .before .pre .1 .1) refl refl
+    (place-over store at (at + 1089) (at + 1089 - at) (omega arith)
+    (c .before .before .before .before .before .before .write-place .ensures
+    ∙ place-made (c .before .before .before .before .before .before .before .before .before .before .encode .ensures .0) refl
+    (c .before .before .before .before .before .before .before .before .before .before .encode .ensures .1)))
     (c .before .before .write-two .ensures)))

@@ -17,4 +17,7 @@ write-place-spec =
     -- same-length
     (λ c. search needs)
     -- returns
-    (λ c. behind-two (now (c .before .before .before .before .before .before .before .before .before .before .args .p)) (now (c .before .before .before .before .before .before .before .before .before .before .args .bytes)) _ _ (c .before .before .before .before .before .before .write-two .ensures) (c .before .before .put .ensures .room) (omega (arith, c .before .before .before .before .before .before .before .before .before .before .pre))))
+    (λ c. behind-two (now (c .before .before .before .before .before .before .before .before .before .before .args .p))
+    (now (c .before .before .before .before .before .before .before .before .before .before .args .bytes)) _ _
+    (c .before .before .before .before .before .before .write-two .ensures) (c .before .before .put .ensures .room)
+    (omega (arith, c .before .before .before .before .before .before .before .before .before .before .pre))))

@@ -41,7 +41,8 @@ argument-spec =
     (λ c. rw (c .enum-told4 .given .1))
     (λ c. c .judged .ensures ∙ rw (c .before .is-attribute .ensures, c .before .before .enum-told5 .given .1))
     (λ c. c .judged2 .ensures ∙ rw (c .before .between .ensures, c .before .before .enum-told6 .given .1))
-    (λ c. c .judged3 .ensures ∙ rw (c .before .attribute-contents .ensures, c .before .before .is-attribute2 .ensures, c .before .before .before .enum-told7 .given .1))
+    (λ c. c .judged3 .ensures
+    ∙ rw (c .before .attribute-contents .ensures, c .before .before .is-attribute2 .ensures, c .before .before .before .enum-told7 .given .1))
     (λ c. c .judged4 .ensures ∙ rw (c .before .or .ensures, c .before .before .between2 .ensures, c .before .before .before .enum-told8 .given .1))
     (λ c. c .feature .ensures ∙ rw (c .before .enum-told9 .given .1))
     (λ c. rw (c .enum-told10 .given .1))

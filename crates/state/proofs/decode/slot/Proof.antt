@@ -21,4 +21,10 @@ slot-spec =
     -- judged-requires
     (λ c κs. search needs)
     -- returns-3
-    (λ c. c .judged .ensures ∙ rw (← c .before .before .before .before .is-key .ensures, c .before .before .before .if1 .left, ← c .before .before .is-label .ensures, c .before .if2 .left)))
+    (λ c. c .judged .ensures
+    ∙ rw (
+      ← c .before .before .before .before .is-key .ensures,
+      c .before .before .before .if1 .left,
+      ← c .before .before .is-label .ensures,
+      c .before .if2 .left,
+    )))

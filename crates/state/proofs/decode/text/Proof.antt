@@ -23,6 +23,26 @@ text-spec =
     -- and-requires
     (λ c κs. search needs)
     -- returns-2
-    (λ c. rw (← c .before .before .before .before .before .before .slot-end .ensures, ne-eqb (c .before .before .before .before .before .before .before .args .b) (c .before .before .before .before .before .before .slot-end .result) (c .before .before .before .before .before .if1 .left), ← c .before .before .before .before .slot-most .ensures, ← c .before .before .before .slot-low .ensures, ← c .before .before .is-text .ensures, ← c .before .and .ensures, c .if2 .taken))
+    (λ c. rw (
+      ← c .before .before .before .before .before .before .slot-end .ensures,
+      ne-eqb
+          (c .before .before .before .before .before .before .before .args .b) (c .before .before .before .before .before .before .slot-end .result)
+          (c .before .before .before .before .before .if1 .left),
+      ← c .before .before .before .before .slot-most .ensures,
+      ← c .before .before .before .slot-low .ensures,
+      ← c .before .before .is-text .ensures,
+      ← c .before .and .ensures,
+      c .if2 .taken,
+    ))
     -- returns-3
-    (λ c. rw (← c .before .before .before .before .before .before .slot-end .ensures, ne-eqb (c .before .before .before .before .before .before .before .args .b) (c .before .before .before .before .before .before .slot-end .result) (c .before .before .before .before .before .if1 .left), ← c .before .before .before .before .slot-most .ensures, ← c .before .before .before .slot-low .ensures, ← c .before .before .is-text .ensures, ← c .before .and .ensures, c .if2 .left)))
+    (λ c. rw (
+      ← c .before .before .before .before .before .before .slot-end .ensures,
+      ne-eqb
+          (c .before .before .before .before .before .before .before .args .b) (c .before .before .before .before .before .before .slot-end .result)
+          (c .before .before .before .before .before .if1 .left),
+      ← c .before .before .before .before .slot-most .ensures,
+      ← c .before .before .before .slot-low .ensures,
+      ← c .before .before .is-text .ensures,
+      ← c .before .and .ensures,
+      c .if2 .left,
+    )))

@@ -25,6 +25,18 @@ gathered-ok-spec =
     -- text-ok-requires
     (λ c κs.
     let e : length (c .before .before .before .before .args .t3) ≡ 46 = search needs in
-    omega (arith, c .before .before .if1 .left, c .before .before .before .slot-most .ensures, most-fits (c .before .before .before .before .args .x)))
+    omega (
+      arith,
+      c .before .before .if1 .left,
+      c .before .before .before .slot-most .ensures,
+      most-fits
+          (c .before .before .before .before .args .x),
+    ))
     -- returns-2
-    (λ c. rw (← c .before .before .before .before .slot-most .ensures, le-leb (c .before .before .before .before .before .args .n) (c .before .before .before .before .slot-most .result) (c .before .before .before .if1 .left), c .text-ok .ensures, c .before .slot-low .ensures)))
+    (λ c. rw (
+      ← c .before .before .before .before .slot-most .ensures,
+      le-leb (c .before .before .before .before .before .args .n)
+          (c .before .before .before .before .slot-most .result) (c .before .before .before .if1 .left),
+      c .text-ok .ensures,
+      c .before .slot-low .ensures,
+    )))

@@ -59,4 +59,5 @@ is-plain-spec =
     let first = second .before .before in
     let start = first .before in
     let a = start .args in
-    chained (a .before) (a .t1 .len) (a .t1 .bytes) (size start) (first .and .ensures) (second .and2 .ensures) (third .and3 .ensures) (fourth .and4 .ensures) (fifth .and5 .ensures) (sixth .and6 .ensures) (seventh .and7 .ensures) (eighth .and8 .ensures) (c .and9 .ensures)))
+    chained (a .before) (a .t1 .len) (a .t1 .bytes) (size start) (first .and .ensures) (second .and2 .ensures) (third .and3 .ensures)
+    (fourth .and4 .ensures) (fifth .and5 .ensures) (sixth .and6 .ensures) (seventh .and7 .ensures) (eighth .and8 .ensures) (c .and9 .ensures)))

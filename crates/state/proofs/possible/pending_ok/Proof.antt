@@ -69,6 +69,7 @@ pending-ok-spec =
     -- returns-9
     (λ c. rw (c .before .p6 .given .1))
     -- returns-10
-    (λ c. c .and3 .ensures ∙ rw (c .before .gathered-ok .ensures, c .before .before .slot-ok .ensures, c .before .before .before .before .p7 .given .1))
+    (λ c. c .and3 .ensures
+    ∙ rw (c .before .gathered-ok .ensures, c .before .before .slot-ok .ensures, c .before .before .before .before .p7 .given .1))
     -- returns-11
     (λ c. c .slot-ok2 .ensures ∙ rw (c .before .before .p8 .given .1)))

@@ -23,4 +23,11 @@ possible-spec =
     -- and-requires-2
     (λ c κs. search needs)
     -- returns
-    (λ c. c .and2 .ensures ∙ rw (c .before .core-ok .ensures, c .before .before .and .ensures, c .before .before .before .before .before .sending-ok .ensures, c .before .before .before .setup-ok .ensures, c .before .before .before .before .columns .ensures)))
+    (λ c. c .and2 .ensures
+    ∙ rw (
+      c .before .core-ok .ensures,
+      c .before .before .and .ensures,
+      c .before .before .before .before .before .sending-ok .ensures,
+      c .before .before .before .setup-ok .ensures,
+      c .before .before .before .before .columns .ensures,
+    )))

@@ -24,7 +24,12 @@ returns c =
     let x = c .before .before .before .before .loop in
     let h : x .i < a .n = omega arith in
     let k : a .n ≤ length (a .bytes .now) = search needs in
-    sym (x .inv .1 ∙ rw (slice-cons (x .i) (a .n) (a .bytes .now) 0 h k, ← c .before .is-text .ensures, not-true (c .before .is-text .result) (c .if1 .taken)))
+    sym (x .inv .1 ∙ rw (
+      slice-cons (x .i) (a .n) (a .bytes .now) 0 h k,
+      ← c .before .is-text .ensures,
+      not-true (c .before .is-text .result)
+          (c .if1 .taken),
+    ))
 
 loop-again : tie.Need-loop-again Inv-loop μ-loop
 unfolding allText
@@ -32,8 +37,16 @@ loop-again c =
     let a = c .before .before .before .before .before .before .args in
     let x = c .before .before .before .before .loop in
     let h : x .i < a .n = omega arith in
-    let k : a .n ≤ length (a .bytes .now) = search needs in
-    (omega arith, x .inv .1 ∙ rw (slice-cons (x .i) (a .n) (a .bytes .now) 0 h k, ← c .before .is-text .ensures, not-false (c .before .is-text .result) (c .if1 .left), add-one))
+    let k : a .n ≤ length (a .bytes .now) = search needs in (
+      omega arith,
+      x .inv .1
+          ∙ rw (
+            slice-cons (x .i) (a .n) (a .bytes .now) 0 h k,
+            ← c .before .is-text .ensures,
+            not-false (c .before .is-text .result) (c .if1 .left),
+            add-one,
+          ),
+    )
 
 returns-2 : tie.Need-returns-2 Inv-loop μ-loop
 unfolding allText

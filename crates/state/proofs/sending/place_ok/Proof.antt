@@ -27,6 +27,7 @@ place-ok-spec =
     -- returns
     (λ c. c .in-text .ensures ∙ rw (c .before .before .at .given .1))
     -- returns-2
-    (λ c. c .and .ensures ∙ rw (c .before .in-text2 .ensures, c .before .before .column-of .ensures, c .before .before .before .before .at2 .given .1))
+    (λ c. c .and .ensures
+    ∙ rw (c .before .in-text2 .ensures, c .before .before .column-of .ensures, c .before .before .before .before .at2 .given .1))
     -- returns-3
     (λ c. rw (c .enum-told .given .1)))

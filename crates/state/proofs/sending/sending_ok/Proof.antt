@@ -40,6 +40,14 @@ sending-ok-spec =
     (λ c.
     let n = c .before .before in
     let l = n .before in
-    c .and3 .ensures ∙ rw (c .before .and2 .ensures, n .and .ensures, l .short-length .ensures, l .before .replies-on .ensures, l .before .before .is-idle .ensures, l .before .before .before .before .sending .given .1))
+    c .and3 .ensures ∙ rw (
+      c .before .and2 .ensures,
+      n .and .ensures,
+      l .short-length .ensures,
+      l .before .replies-on .ensures,
+      l .before .before .is-idle .ensures,
+      l .before .before .before .before .sending .given .1,
+    ))
     -- returns-3
-    (λ c. c .and4 .ensures ∙ rw (c .before .place-ok .ensures, c .before .before .is-idle2 .ensures, c .before .before .before .before .sending2 .given .1)))
+    (λ c. c .and4 .ensures
+    ∙ rw (c .before .place-ok .ensures, c .before .before .is-idle2 .ensures, c .before .before .before .before .sending2 .given .1)))

@@ -34,8 +34,20 @@ stored-spec =
     -- long-text-requires
     (λ c κs. search needs)
     -- returns
-    (λ c. rw (c .set-key .ensures, c .before .short-text .ensures, c .before .before .key-place .ensures, c .before .before .before .before .before .x .given .1))
+    (λ c. rw (
+      c .set-key .ensures,
+      c .before .short-text .ensures,
+      c .before .before .key-place .ensures,
+      c .before .before .before .before .before .x .given .1,
+    ))
     -- returns-2
-    (λ c. rw (c .set-label .ensures, c .before .label-place .ensures, c .before .before .or .ensures, c .before .before .before .and .ensures, c .before .before .before .before .before .short-text2 .ensures, c .before .before .before .before .before .before .before .before .x2 .given .1))
+    (λ c. rw (
+      c .set-label .ensures,
+      c .before .label-place .ensures,
+      c .before .before .or .ensures,
+      c .before .before .before .and .ensures,
+      c .before .before .before .before .before .short-text2 .ensures,
+      c .before .before .before .before .before .before .before .before .x2 .given .1,
+    ))
     -- returns-3
     (λ c. rw (c .long-text .ensures, c .before .enum-told .given .1)))

@@ -18,4 +18,6 @@ long-text-spec =
     -- returns
     (λ c.
     let e : length (c .before .before .args .gathered) ≡ 46 = search needs in
-    rw (c .zeroed .ensures) (long-is (c .before .fewer .result) (c .before .before .args .n) (c .before .before .args .gathered) e (c .before .fewer .ensures .0) (c .before .fewer .ensures .1 (c .before .before .args .gathered) e))))
+    rw (c .zeroed .ensures)
+    (long-is (c .before .fewer .result) (c .before .before .args .n) (c .before .before .args .gathered) e (c .before .fewer .ensures .0)
+    (c .before .fewer .ensures .1 (c .before .before .args .gathered) e))))

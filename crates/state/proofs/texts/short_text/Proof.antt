@@ -20,4 +20,6 @@ short-text-spec =
     -- returns
     (λ c.
     let e : length (c .before .before .before .args .gathered) ≡ 46 = search needs in
-    rw (c .first .ensures, c .before .zeroed .ensures) (short-is (c .before .before .fewer .result) (c .before .before .before .args .n) (c .before .before .before .args .gathered) e (c .before .before .fewer .ensures .0) (c .before .before .fewer .ensures .1 (c .before .before .before .args .gathered) e))))
+    rw (c .first .ensures, c .before .zeroed .ensures)
+    (short-is (c .before .before .fewer .result) (c .before .before .before .args .n) (c .before .before .before .args .gathered) e
+    (c .before .before .fewer .ensures .0) (c .before .before .fewer .ensures .1 (c .before .before .before .args .gathered) e))))

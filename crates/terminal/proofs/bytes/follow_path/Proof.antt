@@ -38,8 +38,10 @@ follow-path-spec =
     -- rebuild-requires
     (λ c κs.
     let e = there (c .before .before) in
-    let s = start e in
-    (rw (c .before .columns .ensures) (columns-width _), (rw (c .before .columns .ensures) (s .pre .0), behind-length _ _ (s .pre .1) (e .if1 .left))))
+    let s = start e in (
+      rw (c .before .columns .ensures) (columns-width _),
+      (rw (c .before .columns .ensures) (s .pre .0), behind-length _ _ (s .pre .1) (e .if1 .left)),
+    ))
     -- same-length
     (λ c. search needs)
     -- returns-3

@@ -20,7 +20,8 @@ resume-spec =
     -- returns
     (λ c.
     let x = start (c .before) .args in
-    none-went (now (x .page)) (x .core) (x .sending) (now (x .reply)) (not-sending _ (sym (c .before .is-sending .ensures) ∙ not-true _ (c .if1 .taken))))
+    none-went (now (x .page)) (x .core) (x .sending) (now (x .reply))
+    (not-sending _ (sym (c .before .is-sending .ensures) ∙ not-true _ (c .if1 .taken))))
     -- send-requires
     (λ c κs. let e = c .before in start (e .before) .pre (sym (e .before .is-sending .ensures) ∙ not-false _ (e .if1 .left)))
     -- same-length

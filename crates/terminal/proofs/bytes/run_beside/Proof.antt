@@ -21,7 +21,8 @@ use Rattle.rules.specs.RowList.{Beside}
 use Rattle.terminal.specs.Promise.{RunDone}
 use Rattle.terminal.specs.Loop.{callTo}
 use Rattle.terminal.proofs.Calls.{run-none, run-sent, run-on, went-fits, went-long, has-room, send-ready, good-quiet}
-use Rattle.terminal.proofs.Loop.{Running, runBehind, ran-is, begin, stops, go, halt, finish, ready, room-size, back-size, more-replied, more-refused, nothing-made, event-ends, event-answer, no-event, stop-beside, go-beside, ended-beside}
+use Rattle.terminal.proofs.Loop.{Running, runBehind, ran-is, begin, stops, go, halt, finish, ready, room-size, back-size, more-replied}
+use Rattle.terminal.proofs.Loop.{more-refused, nothing-made, event-ends, event-answer, no-event, stop-beside, go-beside, ended-beside}
 use Rattle.terminal.proofs.FastPaths.{Resumed, resumed, path-fits}
 use Rattle.terminal.proofs.FastRows.{path-behind, moved-behind}
 use Rattle.terminal.proofs.Sequences.{passed, passed-beside, passed-reads}
@@ -93,7 +94,8 @@ on : (e : tie.Else2 Inv-loop μ-loop) {z : RunResult} {p w : List ℕ}
 on e k =
     let r = sent (e .before) in
     let s = asked r in
-    run-on (now (s .args .page)) (s .args .state) (s .pre .0) (r .resume .ensures) (heard (passed-room r)) (s .args .stop) (sym (all (e .before)) ∙ e .if2 .left) k
+    run-on (now (s .args .page)) (s .args .state) (s .pre .0) (r .resume .ensures) (heard (passed-room r)) (s .args .stop)
+    (sym (all (e .before)) ∙ e .if2 .left) k
 
 -- ---- back from the answer of the inner step: that step, the test that its byte is there, the core behind the awaited bytes, the list after the
 -- fast path, the core after it, that path, the turn of the loop, the send before it, the function's start
@@ -243,7 +245,8 @@ run-beside-spec =
     let r = sent (t .before) in
     let s = asked r in (
       ran-is (c .finished2 .ensures)
-          (run-sent (now (s .args .page)) (s .args .state) (s .pre .0) (r .resume .ensures) (heard (passed-room r)) (s .args .stop) _ (sym (all (t .before)) ∙ t .if2 .taken)),
+          (run-sent (now (s .args .page)) (s .args .state) (s .pre .0) (r .resume .ensures) (heard (passed-room r)) (s .args .stop) _
+          (sym (all (t .before)) ∙ t .if2 .taken)),
       ended-beside (c .finished2 .result) (now (s .args .page)) (ap (λ (z : RunResult). z .state .core) (c .finished2 .ensures)) (s .pre .1),
     ))
     -- loop-holds
@@ -295,8 +298,16 @@ run-beside-spec =
     let e = c .before .before .before .before .before in
     let w = e .before in
     let g = ready (past w .running) in
-    let came = w .before .awaited .ensures .1 (e .if4 .left) in
-    (g .0, (g .1 .0, (g .1 .1 .0, (g .1 .1 .1, (beside w, λ low. passed-reads (moved (followed w) .moved .result) _ (w .awaiting .ensures) (came low)))))))
+    let came = w .before .awaited .ensures .1 (e .if4 .left) in (
+      g .0,
+      (
+        g .1 .0,
+        (
+          g .1 .1 .0,
+          (g .1 .1 .1, (beside w, λ low. passed-reads (moved (followed w) .moved .result) _ (w .awaiting .ensures) (came low))),
+        ),
+      ),
+    ))
     -- is-no-room-requires
     (λ c κs. search needs)
     -- finished-requires-3
@@ -308,7 +319,8 @@ run-beside-spec =
     -- same-length-5
     (λ c.
     let i = called (c .before .before) in
-    back-size (past (waiting i) .running) (i .inner .last .1 .1 .1 .1 .1 .1 .0) (i .inner .kept .1 .1 .1 .1 .1 .1 .0) ∙ resized (sent (before i .before)))
+    back-size (past (waiting i) .running) (i .inner .last .1 .1 .1 .1 .1 .1 .0) (i .inner .kept .1 .1 .1 .1 .1 .1 .0)
+    ∙ resized (sent (before i .before)))
     -- returns-3
     (λ c.
     let i = called (c .before .before) in
@@ -346,7 +358,8 @@ run-beside-spec =
     -- same-length-8
     (λ c.
     let i = called (answered (c .before .before .before)) in
-    back-size (past (waiting i) .running) (i .inner .last .1 .1 .1 .1 .1 .1 .0) (i .inner .kept .1 .1 .1 .1 .1 .1 .0) ∙ resized (sent (before i .before)))
+    back-size (past (waiting i) .running) (i .inner .last .1 .1 .1 .1 .1 .1 .0) (i .inner .kept .1 .1 .1 .1 .1 .1 .0)
+    ∙ resized (sent (before i .before)))
     -- returns-4
     (λ c.
     let t = c .before .before in
@@ -357,7 +370,8 @@ run-beside-spec =
     let n = nothing-made _ _ _ (sym (y .is-nothing .ensures) ∙ t .if6 .taken) in
     let other = sym (a .is-no-room .ensures) ∙ y .before .before .before .before .before .before .if5 .left in
     let told = sym (tested y) ∙ c .before .if7 .taken in (
-      on (before i) (halt (r .running) (present i .if4 .left) (i .inner .ensures .0) other (n .0) (n .1 .0) (sym (n .1 .1)) (y .before .before .before .refusals .ensures)
+      on (before i) (halt (r .running) (present i .if4 .left) (i .inner .ensures .0) other (n .0) (n .1 .0) (sym (n .1 .1))
+          (y .before .before .before .refusals .ensures)
           (event-ends (stopping a) (event a) told) (event-answer (stopping a) (event a) told) (c .finished4 .ensures)),
       ended-beside (c .finished4 .result) (i .inner .last .0) (ap (λ (z : RunResult). z .state .core) (c .finished4 .ensures))
           (go-beside (r .running) (present i .if4 .left) (i .inner .ensures .0) other (i .inner .ensures .1)),
@@ -373,7 +387,8 @@ run-beside-spec =
     let r = past (waiting i) in
     let n = nothing-made _ _ _ (sym (y .is-nothing .ensures) ∙ t .if6 .taken) in
     let other = sym (a .is-no-room .ensures) ∙ y .before .before .before .before .before .before .if5 .left in (
-      go (r .running) (present i .if4 .left) (i .inner .ensures .0) other (n .0) (n .1 .0) (sym (n .1 .1)) (y .before .before .before .refusals .ensures) refl
+      go (r .running) (present i .if4 .left) (i .inner .ensures .0) other (n .0) (n .1 .0) (sym (n .1 .1))
+          (y .before .before .before .refusals .ensures) refl
           (no-event (stopping a) (event a) (sym (tested y) ∙ c .if7 .left)),
       (go-beside (r .running) (present i .if4 .left) (i .inner .ensures .0) other (i .inner .ensures .1), sized i),
     ))
@@ -398,7 +413,8 @@ run-beside-spec =
     -- same-length-11
     (λ c.
     let i = called (answered (changed (c .before .before .before))) in
-    back-size (past (waiting i) .running) (i .inner .last .1 .1 .1 .1 .1 .1 .0) (i .inner .kept .1 .1 .1 .1 .1 .1 .0) ∙ resized (sent (before i .before)))
+    back-size (past (waiting i) .running) (i .inner .last .1 .1 .1 .1 .1 .1 .0) (i .inner .kept .1 .1 .1 .1 .1 .1 .0)
+    ∙ resized (sent (before i .before)))
     -- returns-5
     (λ c.
     let t = c .before .before in
@@ -409,7 +425,8 @@ run-beside-spec =
     let r = past (waiting i) in
     let x = o .before .before in
     let other = sym (a .is-no-room .ensures) ∙ y .before .before .before .before .before .before .if5 .left in (
-      on (before i) (halt (r .running) (present i .if4 .left) (i .inner .ensures .0) other (x .before .gathered-after .ensures) (x .before .before .setup-after .ensures)
+      on (before i) (halt (r .running) (present i .if4 .left) (i .inner .ensures .0) other (x .before .gathered-after .ensures)
+          (x .before .before .setup-after .ensures)
           (x .sending-after .ensures) (y .before .before .before .refusals .ensures) (sym (ends o) ∙ t .if8 .taken) (c .before .answer-to .ensures)
           (c .finished5 .ensures)),
       ended-beside (c .finished5 .result) (i .inner .last .0) (ap (λ (z : RunResult). z .state .core) (c .finished5 .ensures))
@@ -427,7 +444,8 @@ run-beside-spec =
     let x = o .before .before in
     let on = sym (ends o) ∙ c .if8 .left in
     let other = sym (a .is-no-room .ensures) ∙ y .before .before .before .before .before .before .if5 .left in (
-      go (r .running) (present i .if4 .left) (i .inner .ensures .0) other (x .before .gathered-after .ensures) (x .before .before .setup-after .ensures)
+      go (r .running) (present i .if4 .left) (i .inner .ensures .0) other (x .before .gathered-after .ensures)
+          (x .before .before .setup-after .ensures)
           (x .sending-after .ensures) (y .before .before .before .refusals .ensures) (not-sending _ (either-right (both (stopping a) (event a)) _ on))
           (no-event (stopping a) (event a) (either-left (both (stopping a) (event a)) _ on)),
       (go-beside (r .running) (present i .if4 .left) (i .inner .ensures .0) other (i .inner .ensures .1), sized i),

@@ -88,12 +88,14 @@ escape-spec =
     (λ c.
     let e = edited (written c) in
     let a = start (follows e) .args in
-    write-page (a .ground) (now (a .page)) (e .edit .result .write) (c .before .before .write .ensures) (c .before .before .before .columns .ensures) .1)
+    write-page (a .ground) (now (a .page)) (e .edit .result .write) (c .before .before .write .ensures)
+    (c .before .before .before .columns .ensures) .1)
     -- returns-5
     (λ c.
     let k = written c .if4 .left in
     let e = edited (written c) in
     let f = follows e in
     let s = start f in
-    let page = write-page (s .args .ground) (now (s .args .page)) (e .edit .result .write) (c .before .before .write .ensures) (c .before .before .before .columns .ensures) .0 in
+    let page = write-page (s .args .ground) (now (s .args .page)) (e .edit .result .write) (c .before .before .write .ensures)
+    (c .before .before .before .columns .ensures) .0 in
     (acted none (edits (s .pre .1 .1 .1) (e .edit .ensures (omega (arith, k)))) (omega (arith, f .if3 .left)) (omega (arith, k)) page, λ z. refl)))

@@ -24,7 +24,8 @@ fast-path-spec =
     (λ c κs.
     let x = c .before .before .before .before .before .before .before in
     let s = screen-inside (x .args .core .screen) (x .pre .1 .0) in
-    rw (c .before .ground-of .ensures, c .cursor-of .ensures) (ground-fits (x .args .core) (x .pre .0) s (x .pre .1 .1 .1), (s .below, omega (arith, x .pre .1 .1 .0))))
+    rw (c .before .ground-of .ensures, c .cursor-of .ensures)
+    (ground-fits (x .args .core) (x .pre .0) s (x .pre .1 .1 .1), (s .below, omega (arith, x .pre .1 .1 .0))))
     -- still-requires
     (λ c κs. search needs)
     -- same-length
@@ -32,10 +33,14 @@ fast-path-spec =
     let r = c .before .before in
     let x = r .before .before .before .before .before .before .before .before in
     let s = screen-inside (x .args .core .screen) (x .pre .1 .0) in
-    passes-range (rw (r .before .before .ground-of .ensures, r .before .cursor-of .ensures) at (r .pass .ensures .0)) (omega (arith, x .pre .1 .1 .0)) (s .below) .size)
+    passes-range (rw (r .before .before .ground-of .ensures, r .before .cursor-of .ensures) at (r .pass .ensures .0)) (omega (arith, x .pre .1 .1 .0))
+    (s .below) .size)
     -- returns
     (λ c.
-    let r = c .before .before in
-    (passing (r .before .before .before .before .enum-told .given .1) (rw (r .before .before .ground-of .ensures, r .before .cursor-of .ensures) at (r .pass .ensures .0)), r .pass .ensures .1))
+    let r = c .before .before in (
+      passing (r .before .before .before .before .enum-told .given .1)
+          (rw (r .before .before .ground-of .ensures, r .before .cursor-of .ensures) at (r .pass .ensures .0)),
+      r .pass .ensures .1,
+    ))
     -- returns-2
     (λ c. rw (c .still .ensures) (still, λ z. refl)))

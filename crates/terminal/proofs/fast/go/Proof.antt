@@ -65,10 +65,12 @@ go-spec =
     -- same-length-3
     (λ c.
     let a = begun (shifted c) .args in
-    rolled-page (a .ground) (now (a .page)) false (a .ground .top) (a .ground .bottom) (c .before .before .shift-rows .ensures) (c .before .before .before .columns .ensures) .1)
+    rolled-page (a .ground) (now (a .page)) false (a .ground .top) (a .ground .bottom) (c .before .before .shift-rows .ensures)
+    (c .before .before .before .columns .ensures) .1)
     -- returns-3
     (λ c.
     let e = shifted c in
     let a = begun e .args in
     acted none (rolls (rolled e .roll .ensures (omega (arith, e .if2 .left)))) (omega (arith, begun e .pre .1 .1)) (omega (arith, e .if2 .left))
-    (rolled-page (a .ground) (now (a .page)) false (a .ground .top) (a .ground .bottom) (c .before .before .shift-rows .ensures) (c .before .before .before .columns .ensures) .0)))
+    (rolled-page (a .ground) (now (a .page)) false (a .ground .top) (a .ground .bottom) (c .before .before .shift-rows .ensures)
+    (c .before .before .before .columns .ensures) .0)))

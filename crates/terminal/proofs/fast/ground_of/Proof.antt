@@ -33,4 +33,11 @@ ground-of-spec =
     let e = t .before in
     let s = e .before in
     let w = s .before in
-    rw (w .before .scrolls .ensures, w .written-cell .ensures, s .segment-start .ensures, e .segment-end .ensures, t .segment-top .ensures, c .segment-bottom .ensures)))
+    rw (
+      w .before .scrolls .ensures,
+      w .written-cell .ensures,
+      s .segment-start .ensures,
+      e .segment-end .ensures,
+      t .segment-top .ensures,
+      c .segment-bottom .ensures,
+    )))

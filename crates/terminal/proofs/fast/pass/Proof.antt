@@ -15,7 +15,8 @@ use Rattle.terminal.proofs.fast.pass.Statement.{statement}
 use Rattle.terminal.proofs.fast.pass.Tie as tie
 
 abbrev Inv-loop : tie.InvT-loop
-Inv-loop page₀ z first input from stop at₀ i₀ refused₀ page at i refused = Passes z input first from page₀ at i page refused × (stop ≡ true → refused ≡ 0)
+Inv-loop page₀ z first input from stop at₀ i₀ refused₀ page at i refused = Passes z input first from page₀ at i page refused
+    × (stop ≡ true → refused ≡ 0)
 
 abbrev μ-loop : tie.MeasureT-loop
 μ-loop page₀ z first input from stop at₀ i₀ refused₀ page at i refused = length input - i
@@ -27,7 +28,8 @@ abbrev start : Head → tie.Start Inv-loop μ-loop
 start l = l .before .before .before
 
 -- where the loop stands
-stands : (l : Head) → let a = start l .args in Range (a .ground) (now (a .input)) (a .from) (now (a .page)) (l .loop .at) (l .loop .i) (l .loop .page) (l .loop .refused)
+stands : (l : Head) → let a = start l .args in Range (a .ground) (now (a .input)) (a .from) (now (a .page)) (l .loop .at) (l .loop .i) (l .loop .page)
+    (l .loop .refused)
 stands l = passes-range (l .loop .inv .0) (start l .pre .1 .1) (start l .pre .1 .0)
 
 -- after the text of a turn, whose loop is three places before

@@ -41,8 +41,11 @@ awaited-spec =
     -- loop-again
     (λ c.
     let k = c .before .before .before in
-    let t = k .before .before .before in
-    (next (t .before .loop .inv .0) (t .loop-test .taken) (k .before .if1 .left) (sym (k .decode .ensures) ∙ c .before .d .given .1), omega (arith, t .loop-test .taken)))
+    let t = k .before .before .before in (
+      next (t .before .loop .inv .0) (t .loop-test .taken) (k .before .if1 .left) (sym (k .decode .ensures) ∙ c .before .d .given .1),
+      omega
+          (arith, t .loop-test .taken),
+    ))
     -- returns-2
     (λ c.
     let k = c .before in

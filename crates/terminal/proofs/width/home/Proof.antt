@@ -20,6 +20,10 @@ home-spec =
     -- cast-t6
     (λ c.
     let s = c .before .before .before in
-    omega (arith, settles-below (s .args .wide) (s .args .protect) (now (s .args .page)) (s .pre) (c .settle .ensures ∙ rw (c .before .cells .ensures))))
+    omega (
+      arith,
+      settles-below (s .args .wide) (s .args .protect) (now (s .args .page)) (s .pre)
+          (c .settle .ensures ∙ rw (c .before .cells .ensures)),
+    ))
     -- returns
     (λ c. home-is _ _ _ _ (c .before .cells .ensures) (c .settle .ensures)))

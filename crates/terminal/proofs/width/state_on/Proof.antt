@@ -21,4 +21,5 @@ state-on-spec =
     let screen = c .before .before .before in
     let home = screen .before in
     let s = home .before .before .before .before .before .args in
-    on-state (s .state) (now (s .page)) _ _ (screen .with-screen .ensures ∙ on-core (s .state .core) (now (s .page)) _ (home .home .ensures)) (c .stops-within .ensures)))
+    on-state (s .state) (now (s .page)) _ _ (screen .with-screen .ensures ∙ on-core (s .state .core) (now (s .page)) _ (home .home .ensures))
+    (c .stops-within .ensures)))

@@ -20,7 +20,8 @@ propose-beside-spec =
     let x = t .before .before .before .before .before .before .before .before .before .before .before .before .args in
     let p = t .before .before .before .before .before .before .before .before .before .before .before .before .pre in
     let k = t .propose .kept .1 .1 .1 in
-    let f = propose-fits (x .personality) (now (x .before)) (now (x .after)) (now (x .bytes)) (now (x .rows)) (now (x .columns)) (now (x .lengths)) (t .propose .ensures) in
+    let f = propose-fits (x .personality) (now (x .before)) (now (x .after)) (now (x .bytes)) (now (x .rows)) (now (x .columns)) (now (x .lengths))
+    (t .propose .ensures) in
     let l = p .0 in (
       (omega (arith, f, k .0), (omega (arith, f, k .1 .0, p .1 .0), omega (arith, f, k .1 .1 .0, p .1 .1))),
       (omega (arith, f, p .0), omega (arith, f, p .0)),
@@ -40,5 +41,6 @@ propose-beside-spec =
     let t = c .before .before .before .before .before .before .before .before .before .before .before .before .before .before .before .before in
     let x = t .before .before .before .before .before .before .before .before .before .before .before .before .args in
     let p = t .before .before .before .before .before .before .before .before .before .before .before .before .pre in
-    propose-all (x .personality) (now (x .before)) (now (x .after)) (now (x .numbers)) (now (x .bytes)) (now (x .rows)) (now (x .columns)) (now (x .lengths))
+    propose-all (x .personality) (now (x .before)) (now (x .after)) (now (x .numbers)) (now (x .bytes)) (now (x .rows)) (now (x .columns))
+    (now (x .lengths))
     (p .0) (p .1 .0) (p .1 .1) (t .propose .ensures) (c .before .before .put-spans .ensures)))

@@ -75,7 +75,8 @@ put-spans-spec =
     let l = c .before .before .before .before .loop in (
       omega arith,
       (
-        put-long (l .numbers) (3 * l .i) (getD (now (x .rows)) (l .i) 0) (getD (now (x .columns)) (l .i) 0) (getD (now (x .lengths)) (l .i) 0) ∙ l .inv .1 .0,
+        put-long (l .numbers) (3 * l .i) (getD (now (x .rows)) (l .i) 0) (getD (now (x .columns)) (l .i) 0) (getD (now (x .lengths)) (l .i) 0)
+            ∙ l .inv .1 .0,
         put-on (x .n) (now (x .rows)) (now (x .columns)) (now (x .lengths)) (now (x .numbers)) (p .0) (l .i) (omega arith) (p .1 .1) (l .inv .1 .1),
       ),
     ))
@@ -85,4 +86,5 @@ put-spans-spec =
     (λ c.
     let x = c .before .before .args in
     let l = c .before .loop in
-    put-done (x .n) (now (x .rows)) (now (x .columns)) (now (x .lengths)) (now (x .numbers)) (c .before .before .pre .0) (l .i) (omega arith) (l .inv .0) (l .inv .1 .1)))
+    put-done (x .n) (now (x .rows)) (now (x .columns)) (now (x .lengths)) (now (x .numbers)) (c .before .before .pre .0) (l .i) (omega arith)
+    (l .inv .0) (l .inv .1 .1)))

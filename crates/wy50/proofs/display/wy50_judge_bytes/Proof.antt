@@ -26,5 +26,6 @@ wy50-judge-bytes-spec =
     (λ c.
     let e = c .before .before .before in
     let x = e .before .before .before .before .before .args in
-    bytes-named (x .personality) (now (x .before)) (now (x .after)) (now (x .bytes)) (sym (e .before .is-personality .ensures) ∙ not-false _ (e .if1 .left))
+    bytes-named (x .personality) (now (x .before)) (now (x .after)) (now (x .bytes))
+    (sym (e .before .is-personality .ensures) ∙ not-false _ (e .if1 .left))
     (c .before .before .personality-at .ensures) (c .before .judge-bytes .ensures) (c .verdict-number .ensures)))

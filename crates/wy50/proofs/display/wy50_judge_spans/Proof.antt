@@ -1,5 +1,7 @@
--- `wy50::display::wy50_judge_spans` meets its contract: a walk of its MIR, by hand. The pages and the spans go to `repaint::judge_spans`, and its verdict
--- to `verdict_number`. All that the walk knows of the two is that each meets its contract. The pages and the slice are Copy: what each owns is had twice
+-- `wy50::display::wy50_judge_spans` meets its contract: a walk of its MIR, by hand. The pages and the spans go to `repaint::judge_spans`, and its
+-- verdict
+-- to `verdict_number`. All that the walk knows of the two is that each meets its contract. The pages and the slice are Copy: what each owns is had
+-- twice
 -- before the call, and one copy is kept.
 -- Assumes nothing.
 use mathlib.Core.Path.{_≡_, refl, sym, subst}
@@ -17,7 +19,8 @@ use prog.Wp.{Heap, Calls, Loops, WpFn, Tables}
 use ghost.Atoms.{Atoms, sem}
 use contract.Monad.{Fun, fact}
 use contract.Running.{givenOf, tables, tablesOf}
-use types.Kit.{Given, Item, ‵, raw, _⊛_, ⋆, some, later, _$_, _∵_, !, qed, by, move, drop, use1, use2, split, join, pick, fsplit, fjoin, suffices, frame, await, done}
+use types.Kit.{Given, Item, ‵, raw, _⊛_, ⋆, some, later, _$_, _∵_, !, qed, by, move, drop, use1, use2, split, join, pick, fsplit, fjoin, suffices}
+use types.Kit.{frame, await, done}
 use types.Run.{look, init, forget, stop, from, load, and-then, no-more, land, returns, enter, alloc1, alloc0, params1, pass1, pass0, free1, free0}
 use sound.WpLaws.{FmC, fmOf, WpFn-mono}
 use denote.RattleType.{owns}
@@ -58,7 +61,10 @@ use Rattle.wy50.proofs.display.wy50_judge_spans.Statement as stated
 use Rattle.wy50.proofs.display.wy50_judge_spans.Code as code
 
 abbrev stayed : Stays (judge.ended .signature .params) (judge.ended .kept)
-stayed = (stay-none-slice (0 ∷ []) tt (plain (λ _. u16)) yes, (stay-none-slice (1 ∷ []) tt (plain (λ _. u16)) yes, (stay-none-slice (2 ∷ []) tt (plain (λ _. T.the-row)) yes, tt)))
+stayed = (
+  stay-none-slice (0 ∷ []) tt (plain (λ _. u16)) yes,
+  (stay-none-slice (1 ∷ []) tt (plain (λ _. u16)) yes, (stay-none-slice (2 ∷ []) tt (plain (λ _. T.the-row)) yes, tt)),
+)
 
 abbrev page₀ : Ty
 page₀ = sliceTy (tyRef (named 0) imm (tyInt w16))
@@ -102,7 +108,8 @@ module _ {M : Type 1} (𝓤 : URA M) (H : Heap 𝓤) (A : Atoms 𝓤) (W : Given
   at = (vx ∷ [], (vy ∷ [], (vz ∷ [], tt)))
 
   abbrev Post : Val → SProp 𝓤
-  Post = walkOf 𝓤 H A judge.ended stayed (judge.clauses 𝓤 H A mem run) .post (((κ₀, (κ₁, (κ₂, tt))), (q₀, (q₁, (q₂, tt))), tt, (x, (y, (z, tt))), at), tt)
+  Post = walkOf 𝓤 H A judge.ended stayed (judge.clauses 𝓤 H A mem run) .post
+      (((κ₀, (κ₁, (κ₂, tt))), (q₀, (q₁, (q₂, tt))), tt, (x, (y, (z, tt))), at), tt)
 
   abbrev X : Fml
   X = ShrSlice (named 0) κ₀ u16 .own x (vx ∷ [])
@@ -121,20 +128,28 @@ module _ {M : Type 1} (𝓤 : URA M) (H : Heap 𝓤) (A : Atoms 𝓤) (W : Given
   abbrev to-inner : Inner 𝓤 H A mem run .Ghost
   to-inner = (((κ₀, (κ₁, (κ₂, tt))), (q₀, (q₁, (q₂, tt))), tt, (x, (y, (z, tt))), at), tt)
 
-  asks-inner : ent 𝓤 (onEntry 𝓤 H A inner.signature (κ₀, (κ₁, (κ₂, tt))) (q₀, (q₁, (q₂, tt))) (x, (y, (z, tt))) at) (Inner 𝓤 H A mem run .pre to-inner)
-  asks-inner = qed W (Tokens ∷ ‵ (owns (ShrSlice (named 0) κ₀ u16 ∷ ShrSlice (named 1) κ₁ u16 ∷ ShrSlice (named 2) κ₂ T.the-row ∷ []) (x, (y, (z, tt))) at) ∷ []) ∵ join ! $ frame ! $ done !
+  asks-inner : ent 𝓤 (onEntry 𝓤 H A inner.signature (κ₀, (κ₁, (κ₂, tt))) (q₀, (q₁, (q₂, tt))) (x, (y, (z, tt))) at)
+      (Inner 𝓤 H A mem run .pre to-inner)
+  asks-inner = qed W (Tokens
+      ∷ ‵ (owns (ShrSlice (named 0) κ₀ u16 ∷ ShrSlice (named 1) κ₁ u16 ∷ ShrSlice (named 2) κ₂ T.the-row ∷ []) (x, (y, (z, tt))) at)
+      ∷ []) ∵ join ! $ frame ! $ done !
 
-  inner-said : (r : Verdict) → ent 𝓤 (ensured 𝓤 H A inner.ended (inner.clauses 𝓤 H A mem run) (κ₀, (κ₁, (κ₂, tt))) (x, (y, (z, tt))) tt r) (fact 𝓤 (SpansVerdict a b spans (verdictNumber r)))
-  inner-said r = exE 𝓤 _ (λ ws. snd∗ 𝓤 (sem 𝓤 H A (lasts inner.ended (κ₀, (κ₁, (κ₂, tt))) (x, (y, (z, tt))) ws)) (fact 𝓤 (SpansVerdict a b spans (verdictNumber r))))
+  inner-said : (r : Verdict)
+      → ent 𝓤 (ensured 𝓤 H A inner.ended (inner.clauses 𝓤 H A mem run) (κ₀, (κ₁, (κ₂, tt))) (x, (y, (z, tt))) tt r)
+      (fact 𝓤 (SpansVerdict a b spans (verdictNumber r)))
+  inner-said r = exE 𝓤 _
+      (λ ws. snd∗ 𝓤 (sem 𝓤 H A (lasts inner.ended (κ₀, (κ₁, (κ₂, tt))) (x, (y, (z, tt))) ws)) (fact 𝓤 (SpansVerdict a b spans (verdictNumber r))))
 
   -- the same of `verdict_number`, of the verdict r with the machine value u
   abbrev to-number : Verdict → Val → Number 𝓤 H A mem run .Ghost
   to-number r u = ((tt, tt, tt, (r, tt), (u ∷ [], tt)), tt)
 
-  asks-number : (r : Verdict) (u : Val) → ent 𝓤 (onEntry 𝓤 H A number.signature tt tt (r, tt) (u ∷ [], tt)) (Number 𝓤 H A mem run .pre (to-number r u))
+  asks-number : (r : Verdict) (u : Val)
+      → ent 𝓤 (onEntry 𝓤 H A number.signature tt tt (r, tt) (u ∷ [], tt)) (Number 𝓤 H A mem run .pre (to-number r u))
   asks-number r u = qed W (‵ ftrue ∷ ‵ (owns (E.the-row ∷ []) (r, tt) (u ∷ [], tt)) ∷ []) ∵ join ! $ frame ! $ done !
 
-  number-said : (r : Verdict) (k : ℕ) → ent 𝓤 (ensured 𝓤 H A number.ended (number.clauses 𝓤 H A mem run) tt (r, tt) tt k) (fact 𝓤 (k ≡ verdictNumber r))
+  number-said : (r : Verdict) (k : ℕ)
+      → ent 𝓤 (ensured 𝓤 H A number.ended (number.clauses 𝓤 H A mem run) tt (r, tt) tt k) (fact 𝓤 (k ≡ verdictNumber r))
   number-said r k = exE 𝓤 _ (λ ws. snd∗ 𝓤 (sem 𝓤 H A (lasts number.ended tt (r, tt) ws)) (fact 𝓤 (k ≡ verdictNumber r)))
 
   -- from what is had at exit to the contract's own post
@@ -144,11 +159,13 @@ module _ {M : Type 1} (𝓤 : URA M) (H : Heap 𝓤) (A : Atoms 𝓤) (W : Given
   exits : (k : ℕ) (v : Val) → SpansVerdict a b spans k → ent 𝓤 (⋆ 𝓤 H A (AtEnd k v)) (Post v)
   exits k v e =
       qed W (AtEnd k v) ∵
-      suffices ! _ (ends-at 𝓤 H A judge.ended stayed (judge.clauses 𝓤 H A mem run) W (((κ₀, (κ₁, (κ₂, tt))), (q₀, (q₁, (q₂, tt))), tt, (x, (y, (z, tt))), at), tt) v k (tt, (tt, (tt, tt))) (tt, (tt, (tt, tt)))) $ says ! e $
+      suffices ! _ (ends-at 𝓤 H A judge.ended stayed (judge.clauses 𝓤 H A mem run) W
+      (((κ₀, (κ₁, (κ₂, tt))), (q₀, (q₁, (q₂, tt))), tt, (x, (y, (z, tt))), at), tt) v k (tt, (tt, (tt, tt))) (tt, (tt, (tt, tt)))) $ says ! e $
       move ! (1 ∷ []) $ drop ! $ move ! (1 ∷ []) $ frame ! $
       nothing ! $ move ! (4 ∷ 0 ∷ []) $ fjoin ! $ move ! (3 ∷ 0 ∷ []) $ fjoin ! $ move ! (2 ∷ 0 ∷ []) $ fjoin ! $ frame ! $ done !
 
-  module _ (𝓣 : Tables 𝓤 H) (fm : FmC 𝓤 H (W .laws) (𝓣 .C)) (known-inner : Triple 𝓤 (𝓣 .C #repaint·judge-spans) (Inner 𝓤 H A mem run)) (known-number : Triple 𝓤 (𝓣 .C #wy50·verdict-number) (Number 𝓤 H A mem run)) where
+  module _ (𝓣 : Tables 𝓤 H) (fm : FmC 𝓤 H (W .laws) (𝓣 .C)) (known-inner : Triple 𝓤 (𝓣 .C #repaint·judge-spans) (Inner 𝓤 H A mem run))
+      (known-number : Triple 𝓤 (𝓣 .C #wy50·verdict-number) (Number 𝓤 H A mem run)) where
     abbrev C : Calls 𝓤 H
     C = 𝓣 .C
 
@@ -156,13 +173,16 @@ module _ {M : Type 1} (𝓤 : URA M) (H : Heap 𝓤) (A : Atoms 𝓤) (W : Given
     Λ = 𝓣 .Λ
 
     walk : Is (ShrSlice (named 0) κ₀ u16) x (vx ∷ []) → Is (ShrSlice (named 1) κ₁ u16) y (vy ∷ []) → Is (ShrSlice (named 2) κ₂ T.the-row) z (vz ∷ [])
-        → ent 𝓤 (onEntry 𝓤 H A judge.signature (κ₀, (κ₁, (κ₂, tt))) (q₀, (q₁, (q₂, tt))) (x, (y, (z, tt))) at) (WpFn 𝓤 H C Λ code.function (vx ∷ vy ∷ vz ∷ []) Post)
+        → ent 𝓤 (onEntry 𝓤 H A judge.signature (κ₀, (κ₁, (κ₂, tt))) (q₀, (q₁, (q₂, tt))) (x, (y, (z, tt))) at)
+        (WpFn 𝓤 H C Λ code.function (vx ∷ vy ∷ vz ∷ []) Post)
     walk px py pz =
-        qed W ((‵ (flft κ₀ q₀) ⊛ ‵ (flft κ₁ q₁) ⊛ ‵ (flft κ₂ q₂) ⊛ ‵ ftrue) ∷ ‵ (owns (ShrSlice (named 0) κ₀ u16 ∷ ShrSlice (named 1) κ₁ u16 ∷ ShrSlice (named 2) κ₂ T.the-row ∷ []) (x, (y, (z, tt))) at) ∷ []) ∵
+        qed W ((‵ (flft κ₀ q₀) ⊛ ‵ (flft κ₁ q₁) ⊛ ‵ (flft κ₂ q₂) ⊛ ‵ ftrue)
+        ∷ ‵ (owns (ShrSlice (named 0) κ₀ u16 ∷ ShrSlice (named 1) κ₁ u16 ∷ ShrSlice (named 2) κ₂ T.the-row ∷ []) (x, (y, (z, tt))) at) ∷ []) ∵
         enter ! C Λ code.function (vx ∷ vy ∷ vz ∷ []) _ $
         alloc1 ! (λ l₀. alloc1 ! (λ l₁. alloc1 ! (λ l₂. alloc1 ! (λ l₃. alloc1 ! (λ l₄. alloc0 ! $ params1 ! $
         -- local k stands at 2 · (4 − k); then the tokens, and what the three slices own
-        pass1 ! (init ! 6 refl (shr-slice-lawful 𝓤 H A W (named 0) κ₀ u16 .typed x (vx ∷ []) px .0)) $ pass1 ! (init ! 4 refl (shr-slice-lawful 𝓤 H A W (named 1) κ₁ u16 .typed y (vy ∷ []) py .0)) $
+        pass1 ! (init ! 6 refl (shr-slice-lawful 𝓤 H A W (named 0) κ₀ u16 .typed x (vx ∷ []) px .0)) $ pass1 !
+        (init ! 4 refl (shr-slice-lawful 𝓤 H A W (named 1) κ₁ u16 .typed y (vy ∷ []) py .0)) $
         pass1 ! (init ! 2 refl (shr-slice-lawful 𝓤 H A W (named 2) κ₂ T.the-row .typed z (vz ∷ []) pz .0)) $ pass0 ! $
         move ! (11 ∷ []) $ fsplit ! $ move ! (1 ∷ []) $ fsplit ! $ move ! (1 ∷ []) $ fsplit ! $
         -- [Z; true; Y; X; local 4; …; tokens]: each is had twice, and the call is made
@@ -173,9 +193,14 @@ module _ {M : Type 1} (𝓤 : URA M) (H : Heap 𝓤) (A : Atoms 𝓤) (W : Given
         move ! (4 ∷ 6 ∷ []) $ fjoin ! $ move ! (3 ∷ 0 ∷ []) $ fjoin ! $ move ! (1 ∷ 0 ∷ []) $ fjoin ! $ move ! (14 ∷ 0 ∷ []) $
         use2 W (raw (Inner 𝓤 H A mem run .pre to-inner)) asks-inner $
         -- [what `judge_spans` asks; X; Y; Z; local 4; …]
-        calls-at ! fm (Inner 𝓤 H A mem run) known-inner to-inner (and-then ! (load ! (from ! (stop !)) (look ! 10 refl)) (and-then ! (load ! (from ! (stop !)) (look ! 8 refl)) (and-then ! (load ! (from ! (stop !)) (look ! 6 refl)) (no-more !)))) (λ u.
-        use1 W (later (some (λ (r : Verdict). (Tokens ⊛ ‵ (E.the-row .own r (u ∷ []))) ⊛ raw (ensured 𝓤 H A inner.ended (inner.clauses 𝓤 H A mem run) (κ₀, (κ₁, (κ₂, tt))) (x, (y, (z, tt))) tt r)))) (id⊢ 𝓤 _) $ await ! tt $ pick ! (λ r.
-        split ! $ move ! (1 ∷ []) $ use1 W (raw (fact 𝓤 (SpansVerdict a b spans (verdictNumber r)))) (inner-said r) $ heard ! (SpansVerdict a b spans (verdictNumber r)) (λ e. split ! $ move ! (1 ∷ []) $
+        calls-at ! fm (Inner 𝓤 H A mem run) known-inner to-inner
+        (and-then ! (load ! (from ! (stop !)) (look ! 10 refl))
+        (and-then ! (load ! (from ! (stop !)) (look ! 8 refl)) (and-then ! (load ! (from ! (stop !)) (look ! 6 refl)) (no-more !)))) (λ u.
+        use1 W (later (some (λ (r : Verdict). (Tokens ⊛ ‵ (E.the-row .own r (u ∷ []))) ⊛ raw
+        (ensured 𝓤 H A inner.ended (inner.clauses 𝓤 H A mem run) (κ₀, (κ₁, (κ₂, tt))) (x, (y, (z, tt))) tt r)))) (id⊢ 𝓤 _) $ await ! tt $ pick !
+        (λ r.
+        split ! $ move ! (1 ∷ []) $ use1 W (raw (fact 𝓤 (SpansVerdict a b spans (verdictNumber r)))) (inner-said r) $ heard !
+        (SpansVerdict a b spans (verdictNumber r)) (λ e. split ! $ move ! (1 ∷ []) $
         peeks ! E.the-row (Is E.the-row) (shows 𝓤 H A E.the-row) r (u ∷ []) (λ is.
         -- [the verdict; the tokens; X; Y; Z; local 4; …]
         land ! (from ! (stop !)) (init ! 5 refl (EL.lawful E.the-type E′.the-laws 𝓤 H A W tt .typed r _ is .0)) $
@@ -183,27 +208,38 @@ module _ {M : Type 1} (𝓤 : URA M) (H : Heap 𝓤) (A : Atoms 𝓤) (W : Given
         use2 W (raw (Number 𝓤 H A mem run .pre (to-number r u))) (asks-number r u) $
         -- [what `verdict_number` asks; the tokens; X; Y; Z; local 4; …]
         calls-at ! fm (Number 𝓤 H A mem run) known-number (to-number r u) (and-then ! (load ! (from ! (stop !)) (look ! 5 refl)) (no-more !)) (λ v.
-        use1 W (later (some (λ (k : ℕ). (‵ ftrue ⊛ ‵ (u8 .own k (v ∷ []))) ⊛ raw (ensured 𝓤 H A number.ended (number.clauses 𝓤 H A mem run) tt (r, tt) tt k)))) (id⊢ 𝓤 _) $ await ! tt $ pick ! (λ k.
-        split ! $ move ! (1 ∷ []) $ use1 W (raw (fact 𝓤 (k ≡ verdictNumber r))) (number-said r k) $ heard ! (k ≡ verdictNumber r) (λ f. split ! $ move ! (1 ∷ []) $
+        use1 W (later (some (λ (k : ℕ). (‵ ftrue ⊛ ‵ (u8 .own k (v ∷ []))) ⊛ raw
+        (ensured 𝓤 H A number.ended (number.clauses 𝓤 H A mem run) tt (r, tt) tt k)))) (id⊢ 𝓤 _) $ await ! tt $ pick ! (λ k.
+        split ! $ move ! (1 ∷ []) $ use1 W (raw (fact 𝓤 (k ≡ verdictNumber r))) (number-said r k) $ heard ! (k ≡ verdictNumber r)
+        (λ f. split ! $ move ! (1 ∷ []) $
         peeks ! u8 (Is u8) (shows 𝓤 H A u8) k (v ∷ []) (λ is′.
         -- [the number; true; the tokens; X; Y; Z; local 4; …]
         land ! (from ! (stop !)) (init ! 14 refl (uint-lawful 𝓤 H A W w8 .typed k _ is′ .0)) $
         returns ! (look ! 14 refl) $ forget ! 6 refl $ forget ! 8 refl $ forget ! 10 refl $ forget ! 12 refl $ forget ! 14 refl $
-        move ! (14 ∷ 15 ∷ []) $ free1 ! $ move ! (12 ∷ 13 ∷ []) $ free1 ! $ move ! (10 ∷ 11 ∷ []) $ free1 ! $ move ! (8 ∷ 9 ∷ []) $ free1 ! $ move ! (6 ∷ 7 ∷ []) $ free1 ! $ free0 ! $
+        move ! (14 ∷ 15 ∷ []) $ free1 ! $ move ! (12 ∷ 13 ∷ []) $ free1 ! $ move ! (10 ∷ 11 ∷ []) $ free1 ! $ move ! (8 ∷ 9 ∷ []) $ free1 ! $ move !
+        (6 ∷ 7 ∷ []) $ free1 ! $ free0 ! $
         by ! (exits k v (subst (SpansVerdict a b spans) (sym f) e)))))))))))))))
 
 module _ {M : Type 1} (𝓤 : URA M) (H : Heap 𝓤) (A : Atoms 𝓤) (W : Given 𝓤 H A) (mem : Memory → SProp 𝓤) (run : Routine → Fun 𝓤) (𝓣 : Tables 𝓤 H)
-    (known-inner : Triple 𝓤 (𝓣 .C #repaint·judge-spans) (Inner 𝓤 H A mem run)) (known-number : Triple 𝓤 (𝓣 .C #wy50·verdict-number) (Number 𝓤 H A mem run)) where
+    (known-inner : Triple 𝓤 (𝓣 .C #repaint·judge-spans) (Inner 𝓤 H A mem run))
+    (known-number : Triple 𝓤 (𝓣 .C #wy50·verdict-number) (Number 𝓤 H A mem run)) where
   judge-walks : Walks 𝓤 H A judge.ended stayed (WpFn 𝓤 H (𝓣 .C) (𝓣 .Λ) code.function) (judge.clauses 𝓤 H A mem run)
-  judge-walks = walked 𝓤 H A judge.ended stayed (judge.clauses 𝓤 H A mem run) (WpFn 𝓤 H (𝓣 .C) (𝓣 .Λ) code.function) (λ κs. (slice-vals, (slice-vals, (slice-vals, tt))))
-      (λ κs. (shr-slice-tells (named 0) (κs .0) u16, (shr-slice-tells (named 1) (κs .1 .0) u16, (shr-slice-tells (named 2) (κs .1 .1 .0) T.the-row, tt))))
+  judge-walks = walked 𝓤 H A judge.ended stayed (judge.clauses 𝓤 H A mem run) (WpFn 𝓤 H (𝓣 .C) (𝓣 .Λ) code.function)
+      (λ κs. (slice-vals, (slice-vals, (slice-vals, tt))))
+      (λ κs. (
+        shr-slice-tells (named 0) (κs .0) u16,
+        (shr-slice-tells (named 1) (κs .1 .0) u16, (shr-slice-tells (named 2) (κs .1 .1 .0) T.the-row, tt)),
+      ))
       (λ κs qs bounds p g are. via 𝓤 _ (fst∗ 𝓤 _ (emp 𝓤))
-      (walk 𝓤 H A W mem run (κs .0) (κs .1 .0) (κs .1 .1 .0) (qs .0) (qs .1 .0) (qs .1 .1 .0) (p .0) (p .1 .0) (p .1 .1 .0) 𝓣 (fmOf 𝓤 H (W .laws) 𝓣) known-inner known-number
+      (walk 𝓤 H A W mem run (κs .0) (κs .1 .0) (κs .1 .1 .0) (qs .0) (qs .1 .0) (qs .1 .1 .0) (p .0) (p .1 .0) (p .1 .1 .0) 𝓣
+      (fmOf 𝓤 H (W .laws) 𝓣) known-inner known-number
       (are .0) (are .1 .0) (are .1 .1 .0)))
 
   judge-meets : Meets 𝓤 H A judge.signature (WpFn 𝓤 H (𝓣 .C) (𝓣 .Λ) code.function) (judge.spec 𝓤 H A mem run)
-  judge-meets = walk-meets 𝓤 H A judge.ended stayed W
-      (goes-none-slice 𝓤 H A W 3 (0 ∷ []) tt (plain (λ _. u16)) yes, (goes-none-slice 𝓤 H A W 3 (1 ∷ []) tt (plain (λ _. u16)) yes, (goes-none-slice 𝓤 H A W 3 (2 ∷ []) tt (plain (λ _. T.the-row)) yes, tt)))
+  judge-meets = walk-meets 𝓤 H A judge.ended stayed W (
+    goes-none-slice 𝓤 H A W 3 (0 ∷ []) tt (plain (λ _. u16)) yes,
+    (goes-none-slice 𝓤 H A W 3 (1 ∷ []) tt (plain (λ _. u16)) yes, (goes-none-slice 𝓤 H A W 3 (2 ∷ []) tt (plain (λ _. T.the-row)) yes, tt)),
+  )
       (judge.clauses 𝓤 H A mem run) (WpFn 𝓤 H (𝓣 .C) (𝓣 .Λ) code.function) (WpFn-mono 𝓤 H (W .laws) 𝓣 code.function) judge-walks
 
 pub wy50-judge-spans-spec : {M : Type 1} → stated.statement M
@@ -212,5 +248,7 @@ wy50-judge-spans-spec 𝓤 H 𝓜 𝓖 𝓡 =
     entered 𝓤 H (tripleOf 𝓤 H (𝓖 .A) judge.signature (judge.spec 𝓤 H (𝓖 .A) (𝓜 .mem) (𝓡 .run)))
     (tables 𝓤 H 𝓜 𝓡 code.env .C) (tables 𝓤 H 𝓜 𝓡 code.env .Λ) #wy50·judge-spans code.function (code.unfolded 𝓤 H 𝓜 𝓡)
     (judge-meets 𝓤 H (𝓖 .A) (givenOf 𝓤 H 𝓜 𝓖) (𝓜 .mem) (𝓡 .run) (tablesOf 𝓤 H 𝓜 (tables 𝓤 H 𝓜 𝓡 code.env))
-    (cited 𝓤 H (Inner 𝓤 H (𝓖 .A) (𝓜 .mem) (𝓡 .run)) 𝓜 𝓡 code.env #repaint·judge-spans inner-def.routine code.calls-repaint·judge-spans (inner-thm.met 𝓤 H 𝓜 𝓖 𝓡))
-    (cited 𝓤 H (Number 𝓤 H (𝓖 .A) (𝓜 .mem) (𝓡 .run)) 𝓜 𝓡 code.env #wy50·verdict-number number-def.routine code.calls-wy50·display·verdict-number (number-thm.met 𝓤 H 𝓜 𝓖 𝓡)))
+    (cited 𝓤 H (Inner 𝓤 H (𝓖 .A) (𝓜 .mem) (𝓡 .run)) 𝓜 𝓡 code.env #repaint·judge-spans inner-def.routine code.calls-repaint·judge-spans
+    (inner-thm.met 𝓤 H 𝓜 𝓖 𝓡))
+    (cited 𝓤 H (Number 𝓤 H (𝓖 .A) (𝓜 .mem) (𝓡 .run)) 𝓜 𝓡 code.env #wy50·verdict-number number-def.routine code.calls-wy50·display·verdict-number
+    (number-thm.met 𝓤 H 𝓜 𝓖 𝓡)))

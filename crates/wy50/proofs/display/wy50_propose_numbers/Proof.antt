@@ -17,7 +17,8 @@ wy50-propose-numbers-spec =
     -- returns
     (λ c.
     let x = c .before .before .before .before .before .before .args in
-    propose-unnamed (x .personality) (now (x .before)) (now (x .after)) (now (x .numbers)) (now (x .bytes)) (sym (c .before .is-personality .ensures) ∙ not-true _ (c .if1 .taken)))
+    propose-unnamed (x .personality) (now (x .before)) (now (x .after)) (now (x .numbers)) (now (x .bytes))
+    (sym (c .before .is-personality .ensures) ∙ not-true _ (c .if1 .taken)))
     -- room-for-requires
     (λ c κs. search needs)
     -- personality-at-requires
@@ -51,5 +52,6 @@ wy50-propose-numbers-spec =
     let m = c .before .before .before .before .before .before .before .before .before .before .before .before .before in
     let e = m .before .before in
     let x = e .before .before .before .before .before .before .args in
-    propose-named (x .personality) (now (x .before)) (now (x .after)) (now (x .numbers)) (now (x .bytes)) (sym (e .before .is-personality .ensures) ∙ not-false _ (e .if1 .left))
+    propose-named (x .personality) (now (x .before)) (now (x .after)) (now (x .numbers)) (now (x .bytes))
+    (sym (e .before .is-personality .ensures) ∙ not-false _ (e .if1 .left))
     (m .personality-at .ensures) (c .before .before .before .before .before .before .before .propose-beside .ensures)))

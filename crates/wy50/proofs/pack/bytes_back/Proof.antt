@@ -49,7 +49,8 @@ bytes-back-spec =
     let a = c .before .before .before .before .args in
     let e : length (a .t2) ≡ 46 = search needs in
     let f : length (a .t4) ≡ 46 = search needs in
-    let h : x .i < length (laidOver (a .n) (a .t2) (blanked (a .m) (a .t4))) = omega (arith, laid-length (a .n) (a .m) (a .t2) (a .t4) (e ∙ sym f), f) in
+    let h : x .i < length (laidOver (a .n) (a .t2) (blanked (a .m) (a .t4))) = omega
+    (arith, laid-length (a .n) (a .m) (a .t2) (a .t4) (e ∙ sym f), f) in
     go (λ (b : ℕ). b) _ (x .t) (x .i) 0 (x .inv) h (c .byte-back .ensures ∙ byte-at (a .n) (a .m) (a .t2) (a .t4) (e ∙ sym f) (x .i)))
     -- returns-2
     (λ c.

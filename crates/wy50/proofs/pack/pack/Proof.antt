@@ -19,4 +19,7 @@ pack-spec =
     -- pack-with-requires
     (λ c κs. search needs)
     -- returns
-    (λ c. packed-is (c .before .before .before .before .before .before .before .before .before .args .x) (c .before .before .before .before .before .before .before .before .before .args .s) (c .before .before .before .before .sequence-of .ensures) (c .before .before .before .gathered-in .ensures) (c .before .before .gathered-in2 .ensures) (c .before .bytes-back .ensures) (c .pack-with .ensures)))
+    (λ c. packed-is (c .before .before .before .before .before .before .before .before .before .args .x)
+    (c .before .before .before .before .before .before .before .before .before .args .s) (c .before .before .before .before .sequence-of .ensures)
+    (c .before .before .before .gathered-in .ensures) (c .before .before .gathered-in2 .ensures) (c .before .bytes-back .ensures)
+    (c .pack-with .ensures)))

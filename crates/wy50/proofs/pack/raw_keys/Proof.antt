@@ -58,8 +58,10 @@ raw-keys-spec =
     (λ c.
     let y = c .before .before .before .loop2 in
     let x = c .before .before .before .before .before .loop in
-    let n = 8 * x .i + y .j in
-    (at rawKey _ _ _ _ (omega arith) (go rawKey _ (y .t) n record { len = 0; bytes = [] } (y .inv .0) (search needs) (c .raw-key .ensures)), search needs))
+    let n = 8 * x .i + y .j in (
+      at rawKey _ _ _ _ (omega arith) (go rawKey _ (y .t) n record { len = 0; bytes = [] } (y .inv .0) (search needs) (c .raw-key .ensures)),
+      search needs,
+    ))
     -- add-i
     (λ c. search needs)
     -- loop-less

@@ -23,8 +23,10 @@ text-sequence-spec =
     -- sequence-requires-3
     (λ c κs. search needs)
     -- returns
-    (λ c. c .sequence .ensures ∙ sym (ap (λ (x : Slot). textSequence x (c .before .before .before .before .args .n)) (c .before .before .x .given .1)))
+    (λ c. c .sequence .ensures
+    ∙ sym (ap (λ (x : Slot). textSequence x (c .before .before .before .before .args .n)) (c .before .before .x .given .1)))
     -- returns-2
-    (λ c. c .sequence2 .ensures ∙ sym (ap (λ (x : Slot). textSequence x (c .before .before .before .before .args .n)) (c .before .before .x2 .given .1)))
+    (λ c. c .sequence2 .ensures
+    ∙ sym (ap (λ (x : Slot). textSequence x (c .before .before .before .before .args .n)) (c .before .before .x2 .given .1)))
     -- returns-3
     (λ c. c .sequence3 .ensures ∙ sym (ap (λ (x : Slot). textSequence x (c .before .before .before .args .n)) (c .before .enum-told .given .1))))

@@ -19,4 +19,5 @@ is-possible-spec =
     -- possible-requires
     (λ c κs. search needs)
     -- returns-2
-    (λ c. possible-named _ (sym (c .before .before .before .is-named .ensures) ∙ not-false _ (c .before .before .if1 .left)) (c .before .unpack .ensures) (c .possible .ensures)))
+    (λ c. possible-named _ (sym (c .before .before .before .is-named .ensures) ∙ not-false _ (c .before .before .if1 .left))
+    (c .before .unpack .ensures) (c .possible .ensures)))

@@ -27,13 +27,19 @@ wy50-cursor-spec =
     (λ c κs. search needs)
     -- returns-2
     (λ c.
-    cursor-is (c .before .before .before .before .before .before .before .before .before .args .state) (c .position .ensures) (sym (c .before .before .before .before .before .before .before .before .is-possible .ensures) ∙ not-false _ (c .before .before .before .before .before .before .before .if1 .left)) (c .before .before .before .before .cells .ensures)
-    (sym (rw (eq-eqb (c .before .before .before .before .before .before .before .before .before .args .state .screen .active) 0 (c .before .before .if2 .taken)))))
+    cursor-is (c .before .before .before .before .before .before .before .before .before .args .state) (c .position .ensures)
+    (sym (c .before .before .before .before .before .before .before .before .is-possible .ensures)
+    ∙ not-false _ (c .before .before .before .before .before .before .before .if1 .left)) (c .before .before .before .before .cells .ensures)
+    (sym (rw (eq-eqb (c .before .before .before .before .before .before .before .before .before .args .state .screen .active) 0
+    (c .before .before .if2 .taken)))))
     -- cast-position-2
     (λ c. search needs)
     -- position-requires-2
     (λ c κs. search needs)
     -- returns-3
     (λ c.
-    cursor-is (c .before .before .before .before .before .before .before .before .before .args .state) (c .position2 .ensures) (sym (c .before .before .before .before .before .before .before .before .is-possible .ensures) ∙ not-false _ (c .before .before .before .before .before .before .before .if1 .left)) (c .before .before .before .before .cells .ensures)
-    (sym (rw (ne-eqb (c .before .before .before .before .before .before .before .before .before .args .state .screen .active) 0 (c .before .before .if2 .left))))))
+    cursor-is (c .before .before .before .before .before .before .before .before .before .args .state) (c .position2 .ensures)
+    (sym (c .before .before .before .before .before .before .before .before .is-possible .ensures)
+    ∙ not-false _ (c .before .before .before .before .before .before .before .if1 .left)) (c .before .before .before .before .cells .ensures)
+    (sym (rw (ne-eqb (c .before .before .before .before .before .before .before .before .before .args .state .screen .active) 0
+    (c .before .before .if2 .left))))))

@@ -22,4 +22,5 @@ wy50-field-text-spec =
     -- returns
     (λ c.
     let x = c .before .before .before .before .before .before .before .args in
-    read-as (ap (λ (t : Bool). fieldTextRule (now (x .page)) (x .start) t (length (now (x .text)))) (c .before .before .before .is-set .ensures)) (c .before .before .field-text .ensures)))
+    read-as (ap (λ (t : Bool). fieldTextRule (now (x .page)) (x .start) t (length (now (x .text)))) (c .before .before .before .is-set .ensures))
+    (c .before .before .field-text .ensures)))

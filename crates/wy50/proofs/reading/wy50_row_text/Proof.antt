@@ -22,4 +22,5 @@ wy50-row-text-spec =
     -- returns
     (λ c.
     let x = c .before .before .before .before .before .before .before .args in
-    read-as (ap (λ (t : Bool). rowTextRule (now (x .page)) (x .row) t (length (now (x .text)))) (c .before .before .before .is-set .ensures)) (c .before .before .row-text .ensures)))
+    read-as (ap (λ (t : Bool). rowTextRule (now (x .page)) (x .row) t (length (now (x .text)))) (c .before .before .before .is-set .ensures))
+    (c .before .before .row-text .ensures)))

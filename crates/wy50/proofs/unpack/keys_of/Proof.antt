@@ -60,8 +60,10 @@ keys-of-spec =
     (λ c.
     let y = c .before .before .before .loop2 in
     let x = c .before .before .before .before .before .loop in
-    let n = 8 * x .i + y .j in
-    (at keyOf _ _ _ _ (omega arith) (go keyOf _ (y .t) n record { len = 0; bytes = [] } (y .inv .0) (search needs) (c .key-of .ensures)), search needs))
+    let n = 8 * x .i + y .j in (
+      at keyOf _ _ _ _ (omega arith) (go keyOf _ (y .t) n record { len = 0; bytes = [] } (y .inv .0) (search needs) (c .key-of .ensures)),
+      search needs,
+    ))
     -- add-i
     (λ c. search needs)
     -- loop-less

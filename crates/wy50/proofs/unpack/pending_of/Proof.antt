@@ -60,4 +60,5 @@ pending-of-spec =
     -- returns-24
     (λ c. sym (ap (pendingAt (c .before .args .q)) (c .match .keys24)))
     -- returns-25
-    (λ c. let q = c .before .args .q in sym (not-found Pending.Idle (Unit {0}) (q .kind) (kinds (q .first) (q .second) (q .third)) (c .match .rest) .1)))
+    (λ c. let q = c .before .args .q in sym
+    (not-found Pending.Idle (Unit {0}) (q .kind) (kinds (q .first) (q .second) (q .third)) (c .match .rest) .1)))

@@ -19,11 +19,14 @@ sending-of-spec =
     -- place-at-requires
     (λ c κs. search needs)
     -- returns
-    (λ c. ap (Sending.Short Short.Acknowledge) (c .before .before .small .ensures) ∙ sym (ap (sendingAt (c .before .before .before .args .x)) (c .match .keys1)))
+    (λ c. ap (Sending.Short Short.Acknowledge) (c .before .before .small .ensures)
+    ∙ sym (ap (sendingAt (c .before .before .before .args .x)) (c .match .keys1)))
     -- returns-2
-    (λ c. ap (Sending.Short Short.Identity) (c .before .before .small .ensures) ∙ sym (ap (sendingAt (c .before .before .before .args .x)) (c .match .keys2)))
+    (λ c. ap (Sending.Short Short.Identity) (c .before .before .small .ensures)
+    ∙ sym (ap (sendingAt (c .before .before .before .args .x)) (c .match .keys2)))
     -- returns-3
-    (λ c. ap (Sending.Short Short.SegmentCursor) (c .before .before .small .ensures) ∙ sym (ap (sendingAt (c .before .before .before .args .x)) (c .match .keys3)))
+    (λ c. ap (Sending.Short Short.SegmentCursor) (c .before .before .small .ensures)
+    ∙ sym (ap (sendingAt (c .before .before .before .args .x)) (c .match .keys3)))
     -- returns-4
     (λ c. ap (Sending.Text false false) (c .before .place-at .ensures) ∙ sym (ap (sendingAt (c .before .before .before .args .x)) (c .match .keys4)))
     -- returns-5
@@ -33,11 +36,14 @@ sending-of-spec =
     -- returns-7
     (λ c. ap (Sending.Text true true) (c .before .place-at .ensures) ∙ sym (ap (sendingAt (c .before .before .before .args .x)) (c .match .keys7)))
     -- returns-8
-    (λ c. ap (Sending.Short Short.Cursor) (c .before .before .small .ensures) ∙ sym (ap (sendingAt (c .before .before .before .args .x)) (c .match .keys8)))
+    (λ c. ap (Sending.Short Short.Cursor) (c .before .before .small .ensures)
+    ∙ sym (ap (sendingAt (c .before .before .before .args .x)) (c .match .keys8)))
     -- returns-9
-    (λ c. ap (Sending.Short Short.Cell) (c .before .before .small .ensures) ∙ sym (ap (sendingAt (c .before .before .before .args .x)) (c .match .keys9)))
+    (λ c. ap (Sending.Short Short.Cell) (c .before .before .small .ensures)
+    ∙ sym (ap (sendingAt (c .before .before .before .args .x)) (c .match .keys9)))
     -- returns-10
-    (λ c. ap (Sending.Short Short.DecimalCursor) (c .before .before .small .ensures) ∙ sym (ap (sendingAt (c .before .before .before .args .x)) (c .match .keys10)))
+    (λ c. ap (Sending.Short Short.DecimalCursor) (c .before .before .small .ensures)
+    ∙ sym (ap (sendingAt (c .before .before .before .args .x)) (c .match .keys10)))
     -- returns-11
     (λ c.
     let x = c .before .before .before .args .x in

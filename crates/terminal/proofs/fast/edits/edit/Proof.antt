@@ -26,17 +26,28 @@ edit-spec =
     -- line-end-requires
     (λ c κs. let p = c .before .before .pre in omega (arith, p .1, p .0 .inside, p .0 .size))
     -- clear-requires
-    (λ c κs. let s = c .before .before .before in let p = s .pre in (omega (arith, p .1, p .0 .inside, p .0 .size), rw (c .line-end .ensures) (line-inside (p .0) (p .1))))
+    (λ c κs. let s = c .before .before .before in let p = s .pre in (
+      omega (arith, p .1, p .0 .inside, p .0 .size),
+      rw (c .line-end .ensures)
+          (line-inside (p .0) (p .1)),
+    ))
     -- edit-cell-requires-2
     (λ c κs. c .before .before .pre)
     -- clear-requires-2
     (λ c κs. let p = c .before .before .pre in (omega (arith, p .1, p .0 .inside, p .0 .size), omega (arith, p .0 .inside, p .0 .size)))
     -- reverse-requires
-    (λ c κs. let p = c .before .before .pre in (p .1, (omega (arith, p .0 .inside, p .0 .size), (omega (arith, p .0 .first), (omega (arith, p .0 .rows, p .0 .most), p .0 .most)))))
+    (λ c κs. let p = c .before .before .pre in (
+      p .1,
+      (omega (arith, p .0 .inside, p .0 .size), (omega (arith, p .0 .first), (omega (arith, p .0 .rows, p .0 .most), p .0 .most))),
+    ))
     -- line-end-requires-2
     (λ c κs. let p = c .before .before .pre in omega (arith, p .1, p .0 .inside, p .0 .size))
     -- clear-requires-3
-    (λ c κs. let s = c .before .before .before in let p = s .pre in (omega (arith, p .1, p .0 .inside, p .0 .size), rw (c .line-end2 .ensures) (line-inside (p .0) (p .1))))
+    (λ c κs. let s = c .before .before .before in let p = s .pre in (
+      omega (arith, p .1, p .0 .inside, p .0 .size),
+      rw (c .line-end2 .ensures)
+          (line-inside (p .0) (p .1)),
+    ))
     -- clear-requires-4
     (λ c κs. let p = c .before .before .pre in (omega (arith, p .1, p .0 .inside, p .0 .size), omega (arith, p .0 .inside, p .0 .size)))
     -- none-requires

@@ -22,4 +22,5 @@ edit-row-spec =
     -- line-start-requires
     (λ c κs. search needs)
     -- returns-2
-    (λ c p b e z. rw (c .line-start .ensures, c .before .before .row-of .ensures) (edits-row (c .before .before .before .before .args .down) e (c .before .before .before .if1 .left))))
+    (λ c p b e z. rw (c .line-start .ensures, c .before .before .row-of .ensures)
+    (edits-row (c .before .before .before .before .args .down) e (c .before .before .before .if1 .left))))

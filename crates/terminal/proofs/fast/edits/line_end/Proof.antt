@@ -19,6 +19,13 @@ line-end-spec =
     -- cast-result
     (λ c. search needs)
     -- add-result
-    (λ c. omega (arith, c .columns .ensures, width-range (columns-width (c .before .before .args .wide)), c .before .line-start .ensures, c .before .before .pre))
+    (λ c. omega (
+      arith,
+      c .columns .ensures,
+      width-range (columns-width (c .before .before .args .wide)),
+      c .before .line-start .ensures,
+      c .before .before .pre,
+    ))
     -- returns
-    (λ c. ap₂ (λ (m n : ℕ). m + n) (c .before .line-start .ensures) (c .columns .ensures) ∙ line-end (c .before .before .args .wide) (c .before .before .args .at)))
+    (λ c. ap₂ (λ (m n : ℕ). m + n) (c .before .line-start .ensures) (c .columns .ensures)
+    ∙ line-end (c .before .before .args .wide) (c .before .before .args .at)))

@@ -29,4 +29,5 @@ reverse-spec =
     -- cast-t8
     (λ c. search needs)
     -- returns-3
-    (λ c p z. reverses refl (c .before .before .before .before .before .if1 .left) (omega (arith, c .before .before .if2 .left, c .before .before .before .before .columns .ensures))))
+    (λ c p z. reverses refl (c .before .before .before .before .before .if1 .left)
+    (omega (arith, c .before .before .if2 .left, c .before .before .before .before .columns .ensures))))

@@ -40,7 +40,11 @@ address-spec =
     -- returns-6
     (λ c z. absurd (omega (arith, z)))
     -- is-guarded-at-requires
-    (λ c κs. omega (arith, c .if6 .left, c .before .before .before .before .before .before .before .before .before .before .before .before .before .pre .0 .inside))
+    (λ c κs. omega (
+      arith,
+      c .if6 .left,
+      c .before .before .before .before .before .before .before .before .before .before .before .before .before .pre .0 .inside,
+    ))
     -- returns-7
     (λ c z. absurd (omega (arith, z)))
     -- returns-8

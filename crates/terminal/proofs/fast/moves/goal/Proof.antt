@@ -29,7 +29,13 @@ goal-spec =
     -- line-start-requires-2
     (λ c κs. search needs)
     -- add-result-2
-    (λ c. omega (arith, c .before .before .columns .ensures, width-range (columns-width (c .before .before .before .args .ground .wide)), c .line-start2 .ensures, c .before .before .before .pre))
+    (λ c. omega (
+      arith,
+      c .before .before .columns .ensures,
+      width-range (columns-width (c .before .before .before .args .ground .wide)),
+      c .line-start2 .ensures,
+      c .before .before .before .pre,
+    ))
     -- returns
     (λ c p z. rw (c .before .match .keys1) (c .back .ensures p))
     -- returns-2

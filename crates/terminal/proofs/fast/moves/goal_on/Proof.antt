@@ -24,4 +24,5 @@ goal-on-spec =
     -- next-field-requires
     (λ c κs. let p = c .before .before .before .before .before .before .pre in (omega (arith, c .if3 .left), (p .1, p .0 .inside)))
     -- returns-4
-    (λ c z. goes-field (omega (arith, c .before .before .before .before .before .if1 .left)) (not-false _ (c .before .before .before .if2 .left)) (c .next-field .ensures)))
+    (λ c z. goes-field (omega (arith, c .before .before .before .before .before .if1 .left)) (not-false _ (c .before .before .before .if2 .left))
+    (c .next-field .ensures)))

@@ -31,6 +31,14 @@ up-spec =
     -- cast-result
     (λ c. search needs)
     -- add-result
-    (λ c. let s = c .before .before .before .before .before in omega (arith, c .column-of .ensures, column-below (columns-width (s .args .ground .wide)) (s .args .at), width-range (columns-width (s .args .ground .wide)), s .good))
+    (λ c. let s = c .before .before .before .before .before in omega (
+      arith,
+      c .column-of .ensures,
+      column-below (columns-width (s .args .ground .wide)) (s .args .at),
+      width-range
+          (columns-width (s .args .ground .wide)),
+      s .good,
+    ))
     -- returns-2
-    (λ c p. let w = c .before .before .before .before .columns .ensures in goes-bottom refl (omega (arith, c .before .before .if1 .left, w)) (ap₂ (λ (m n : ℕ). c .before .before .before .before .before .args .ground .end - m + n) w (c .column-of .ensures))))
+    (λ c p. let w = c .before .before .before .before .columns .ensures in goes-bottom refl (omega (arith, c .before .before .if1 .left, w))
+    (ap₂ (λ (m n : ℕ). c .before .before .before .before .before .args .ground .end - m + n) w (c .column-of .ensures))))

@@ -15,7 +15,8 @@ use Rattle.terminal.proofs.fast.text.insert.Tie as tie
 
 abbrev Inv-loop : tie.InvT-loop
 Inv-loop page₀ z first input from width last at₀ i₀ page at i =
-    (length page ≡ length page₀) × ((at < length page₀) × (Along first (z .end) from (length input) last at i × Passes z input first from page₀ at i page 0))
+    (length page ≡ length page₀)
+    × ((at < length page₀) × (Along first (z .end) from (length input) last at i × Passes z input first from page₀ at i page 0))
 
 abbrev μ-loop : tie.MeasureT-loop
 μ-loop page₀ z first input from width last at₀ i₀ page at i = last - i
@@ -73,8 +74,10 @@ insert-spec =
     let h = c .before .before .before .before .before .before .before .before .before in
     let l = h .loop in
     let w = h .before .before .columns .ensures in
-    let p = h .before .before .before .before .before .pre in
-    (rw w (columns-width _), (l .inv .0 ∙ p .0 .whole ∙ ap (λ (n : ℕ). 24 * n) (sym w), omega (arith, l .inv .1 .0, p .0 .whole ∙ ap (λ (n : ℕ). 24 * n) (sym w)))))
+    let p = h .before .before .before .before .before .pre in (
+      rw w (columns-width _),
+      (l .inv .0 ∙ p .0 .whole ∙ ap (λ (n : ℕ). 24 * n) (sym w), omega (arith, l .inv .1 .0, p .0 .whole ∙ ap (λ (n : ℕ). 24 * n) (sym w))),
+    ))
     -- add-at
     (λ c. let p = start c .pre in omega (arith, head c .loop .inv .1 .0, p .0 .size))
     -- add-i
@@ -89,8 +92,18 @@ insert-spec =
     let t = c .before .before .before .before .before .before in
     let s = t .before .before .is-stored .ensures (not-false _ (t .before .if1 .left)) in
     let free = sym (c .before .before .before .before .before .is-guarded .ensures) ∙ c .before .before .before .before .if2 .left in
-    let e = edited-page (start c .args .ground) (l .page) true (l .at) (t .text-cell .result) (c .before .before .shift-edit-run .ensures) (head c .before .before .columns .ensures) in
-    (e .1 ∙ l .inv .0, (omega (arith, k .0, p .0 .inside), (along (l .inv .1 .1 .0), acted (l .inv .1 .1 .1) (inserts (p .1 .1 .1) s (t .text-cell .ensures) free) (omega (arith, k .1)) (k .0) (e .0)))))
+    let e = edited-page (start c .args .ground) (l .page) true (l .at) (t .text-cell .result) (c .before .before .shift-edit-run .ensures)
+    (head c .before .before .columns .ensures) in (
+      e .1 ∙ l .inv .0,
+      (
+        omega (arith, k .0, p .0 .inside),
+        (
+          along (l .inv .1 .1 .0),
+          acted (l .inv .1 .1 .1) (inserts (p .1 .1 .1) s (t .text-cell .ensures) free) (omega (arith, k .1)) (k .0)
+              (e .0),
+        ),
+      ),
+    ))
     -- same-length-3
     (λ c. search needs)
     -- returns-3

@@ -13,7 +13,8 @@ use Rattle.terminal.proofs.fast.text.store.Tie as tie
 
 abbrev Inv-loop : tie.InvT-loop
 Inv-loop page₀ z first input from last at₀ i₀ page at i =
-    (length page ≡ length page₀) × ((at < length page₀) × (Along first (z .end) from (length input) last at i × Passes z input first from page₀ at i page 0))
+    (length page ≡ length page₀)
+    × ((at < length page₀) × (Along first (z .end) from (length input) last at i × Passes z input first from page₀ at i page 0))
 
 abbrev μ-loop : tie.MeasureT-loop
 μ-loop page₀ z first input from last at₀ i₀ page at i = last - i
@@ -59,8 +60,17 @@ store-spec =
     let k = next (l .inv .1 .1 .0) (c .before .before .before .before .before .loop-test .taken) in
     let s = c .before .before .is-stored .ensures (not-false _ (c .before .if1 .left)) in
     let p = c .before .before .before .before .before .before .before .before .before .before .pre in
-    let z = c .before .before .before .before .before .before .before .before .before .before .args .ground in
-    (search needs, (omega (arith, k .0, p .0 .inside), (along (l .inv .1 .1 .0), acted (l .inv .1 .1 .1) (stores (p .1 .1 .1) s (c .text-cell .ensures)) (omega (arith, k .1)) (k .0) (stored-page z (l .page) (l .at) (c .text-cell .result) (omega (arith, l .inv .0, l .inv .1 .0)) (s .here))))))
+    let z = c .before .before .before .before .before .before .before .before .before .before .args .ground in (
+      search needs,
+      (
+        omega (arith, k .0, p .0 .inside),
+        (
+          along (l .inv .1 .1 .0),
+          acted (l .inv .1 .1 .1) (stores (p .1 .1 .1) s (c .text-cell .ensures)) (omega (arith, k .1)) (k .0)
+              (stored-page z (l .page) (l .at) (c .text-cell .result) (omega (arith, l .inv .0, l .inv .1 .0)) (s .here)),
+        ),
+      ),
+    ))
     -- same-length-2
     (λ c. search needs)
     -- returns-2
