@@ -25,7 +25,7 @@ demo: ## plays two host streams: page, refusals, what members are sent with its 
 	@tools/need rt
 	@examples/demo
 
-test: ## the gate: proves every crate, tries the must-fail edits, runs the tests; about half an hour on two cores
+test: ## the gate: proves every crate, tries the must-fail edits, runs the tests; about 25 minutes on two cores
 	@tools/need rt cargo
 	@tests/gate
 
