@@ -1,6 +1,8 @@
 // Plays a host stream to the terminal and shows what came of it: the page, what was refused, what members are sent, and the replies. The
 // stream is standard input, or the file that is named; --first and --last choose the pieces that members are sent. The terminal is a WY-50, or with
 // -6 a WY-60; its page is narrow, or with -w wide.
+#![tactic(auto)]
+
 mod cells;
 mod guarded;
 mod message;

@@ -16,7 +16,7 @@ const LIMIT: usize = 0x1000_0000_0000_0000;
 // A WY-60 or a WY-50, a wide page or a narrow one. The pieces wanted: from `first` on to `last`, or all. `file` is the argument that names the file,
 // 0 where none does. `bad` is
 // a command line of another form.
-#[derive(Drop)]
+#[derive(Clone, Copy)]
 pub struct Options {
     pub wy60: bool,
     pub wide: bool,

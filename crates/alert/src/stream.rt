@@ -18,7 +18,7 @@ use std::num::wrapping_add_u64;
 const LONGEST: usize = 3192;
 
 // The bytes refused, by answer: 1 to 4 in this order, and the rest.
-#[derive(Drop)]
+#[derive(Clone, Copy)]
 pub struct Refusals {
     pub high: u64,
     pub unknown: u64,
@@ -27,7 +27,7 @@ pub struct Refusals {
     pub other: u64,
 }
 
-#[derive(Drop)]
+#[derive(Clone, Copy)]
 pub struct Played {
     pub state: State,
     pub refusals: Refusals,

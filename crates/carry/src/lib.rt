@@ -1,5 +1,7 @@
 // A plan carried out. A command that is planned reads and writes cells' contents here alone; what hosts send most goes without a plan, by
 // `terminal::fast`.
+#![tactic(auto)]
+
 ghost use Rattle.core.specs.Prelude.{◌≡◌, true, length};
 ghost use Rattle.rules.specs.State.{page_length, sends};
 ghost use Rattle.rules.specs.Theorems.Good.{GoodPlan};

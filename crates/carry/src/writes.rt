@@ -120,7 +120,7 @@ fn keeps_guards(on: bool, w: Write) -> bool
 }
 
 // The rows that are counted again after a write: the first, and the one past the last.
-#[derive(Drop)]
+#[derive(Clone, Copy)]
 struct RowSpan {
     top: usize,
     bottom: usize,

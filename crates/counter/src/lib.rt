@@ -1,4 +1,6 @@
 // The alert counter: the units and text parts of the wanted pieces of an ESC 5 reply. No call asks anything of its caller.
+#![tactic(auto)]
+
 mod asking; // what is asked, and what is told
 mod pieces; // where the pieces of a reply stand
 mod text; // the count of a text
@@ -16,7 +18,7 @@ use text::count_remaining;
 
 // The units and the parts of a text; or why it is not counted: the reply has no final CR, the first number is 0 or above the last, the last
 // is beyond the pieces, or a byte is outside the alphabet, with its place in the whole, from 0.
-#[derive(Drop)]
+#[derive(Clone, Copy)]
 pub enum Counted {
     Text(u64, u64),
     NoReturn,
@@ -27,7 +29,7 @@ pub enum Counted {
 
 // What a caller who asks the terminal is told: the count; or why there is none: a page of the wrong length, an impossible state, a sequence
 // or a send under way, or a reply that does not fit the room.
-#[derive(Drop)]
+#[derive(Clone, Copy)]
 pub enum Told {
     Counted(Counted),
     BadPage,
@@ -36,7 +38,7 @@ pub enum Told {
     NoRoom,
 }
 
-#[derive(Drop)]
+#[derive(Clone, Copy)]
 pub struct Asked {
     pub told: Told,
     pub replied: usize,

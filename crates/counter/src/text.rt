@@ -9,7 +9,7 @@ use crate::Counted;
 use crate::pieces::is_mark;
 
 // What is counted: characters, units, parts opened, and the units in the last of these.
-#[derive(Drop)]
+#[derive(Clone, Copy)]
 pub struct Tally {
     pub place: usize,
     pub units: u64,

@@ -1,4 +1,6 @@
 // Fields, rows and places, for a program that reads a page of any length. Each function gives what its definition in `rules` gives.
+#![tactic(auto)]
+
 ghost use Rattle.std.specs.Prelude.{◌≡◌, List, [], map, ℕ, ◌-◌, ◌*◌, ◌%◌, ◌<◌, ◌≤◌, length};
 ghost use Rattle.std.proofs.Math.Seq.{slice};
 ghost use Rattle.rules.specs.Cell.{sent};

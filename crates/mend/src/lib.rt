@@ -1,4 +1,6 @@
 // Mending a damaged saved page: each cell becomes one that the terminal could have written under a named personality.
+#![tactic(auto)]
+
 ghost use Rattle.std.specs.Prelude.{◌≡◌, [], ◌∷◌, ◌+◌, ◌*◌, ◌/◌, ◌%◌, ◌<◌, ◌≤◌, leb, ltb, length, get_or};
 ghost use Rattle.std.proofs.lemmas.List.Edits.{sets};
 ghost use Rattle.rules.specs.Cell.{pick, both};
@@ -15,7 +17,7 @@ use rules::Personality;
 
 // The answer, and how many entries the list needs.
 #[repr(C)]
-#[derive(Drop)]
+#[derive(Clone, Copy)]
 pub struct MendResult {
     pub answer: u8,
     pub needed: u16,

@@ -11,7 +11,7 @@ use crate::search::row_end;
 use rules::{Place, Sending, Short};
 
 // What a send comes to: how many bytes went, and the send that is left.
-#[derive(Drop)]
+#[derive(Clone, Copy)]
 pub struct Sent {
     pub replied: usize,
     pub left: Sending,
@@ -120,7 +120,7 @@ fn stretch_end(page: &[u16], all: bool, after: bool, from: usize, end: usize) ->
 }
 
 // Where a row's cells stand: the next cell, and its place in the room.
-#[derive(Drop)]
+#[derive(Clone, Copy)]
 struct RowResult {
     n: usize,
     at: usize,

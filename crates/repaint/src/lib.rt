@@ -1,4 +1,6 @@
 // Repainting a distant display: spans and bytes that bring it from the page that it shows to the page that it should show, and judges of both.
+#![tactic(auto)]
+
 mod feeding; // the judge of bytes
 mod painter; // our own proposer
 
@@ -11,7 +13,7 @@ pub use painter::propose;
 
 // Cells of one row: its row and its first column, counted from 1, and how many they are.
 #[repr(C)]
-#[derive(Drop)]
+#[derive(Clone, Copy)]
 pub struct Span {
     pub row: u16,
     pub column: u16,
@@ -19,7 +21,7 @@ pub struct Span {
 }
 
 // What a judge answers.
-#[derive(Drop)]
+#[derive(Clone, Copy)]
 pub enum Verdict {
     Accepted,
     NotAccepted,
@@ -28,7 +30,7 @@ pub enum Verdict {
 
 // The proposer's answer, and how many spans and bytes there are; none where it refuses.
 #[repr(C)]
-#[derive(Drop)]
+#[derive(Clone, Copy)]
 pub struct ProposeResult {
     pub answer: u8,
     pub spans: u16,

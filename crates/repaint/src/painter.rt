@@ -128,7 +128,7 @@ fn put_cell(out: &mut [u8], n: usize, remembered: u16, v: u16) -> usize
 }
 
 // The place behind the bytes that were put, and the attribute then remembered.
-#[derive(Drop)]
+#[derive(Clone, Copy)]
 struct Painted {
     place: usize,
     remembered: u16,
@@ -206,7 +206,7 @@ fn put_stretch(
 }
 
 // How many spans and bytes there are.
-#[derive(Drop)]
+#[derive(Clone, Copy)]
 struct Counts {
     spans: usize,
     bytes: usize,

@@ -5,7 +5,7 @@ use replay_text::bounds::{within, within_list};
 use replay_text::rooms::{clear, copy, fill};
 
 // How long they are: each is the front of its buffer.
-#[derive(Drop)]
+#[derive(Clone, Copy)]
 pub struct Lengths {
     pub cells: usize,
     pub rows: usize,
@@ -14,7 +14,7 @@ pub struct Lengths {
 }
 
 // After a line: the lengths, and whether the line is good.
-#[derive(Drop)]
+#[derive(Clone, Copy)]
 pub struct Changed {
     pub good: bool,
     pub lengths: Lengths,

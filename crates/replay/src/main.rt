@@ -1,4 +1,6 @@
 // Runs a script of calls against the terminal and writes its trace: the script on standard input, the trace on standard output.
+#![tactic(auto)]
+
 mod calls; // lines that call
 mod lists; // lines that change what is lent to calls
 mod progress; // what is kept from line to line

@@ -14,7 +14,7 @@ use replay_text::words::first;
 use rules::{Personality, State};
 use std::num::wrapping_add_usize;
 
-#[derive(Drop)]
+#[derive(Clone, Copy)]
 pub struct Progress {
     pub state: State,
     pub lengths: Lengths,

@@ -5,7 +5,7 @@ use replay_text::words::{NONE, byte, byte_string, first, later, number, which, w
 use rules::Personality;
 
 // Lines that change what is lent to calls: a new length, or numbers of it.
-#[derive(Drop)]
+#[derive(Clone, Copy)]
 pub enum ListLine {
     Page(usize),
     Rows(usize),
@@ -19,7 +19,7 @@ pub enum ListLine {
 }
 
 // Lines that call the terminal. A room has its length.
-#[derive(Drop)]
+#[derive(Clone, Copy)]
 pub enum TerminalLine {
     On(Personality),
     // with the row list, the byte, the room
@@ -31,7 +31,7 @@ pub enum TerminalLine {
 }
 
 // Lines that read the page.
-#[derive(Drop)]
+#[derive(Clone, Copy)]
 pub enum PageLine {
     Show,
     Field(usize),
@@ -42,7 +42,7 @@ pub enum PageLine {
     Place(usize, usize),
 }
 
-#[derive(Drop)]
+#[derive(Clone, Copy)]
 pub enum StoreLine {
     Save,
     Restore(u16),
@@ -50,7 +50,7 @@ pub enum StoreLine {
 
 // Lines that count, that mend, and about the distant display: the length of the input; the numbers of the first and the last piece; the length of
 // the list; the lengths of the rooms.
-#[derive(Drop)]
+#[derive(Clone, Copy)]
 pub enum AboveLine {
     Count(usize, usize, usize),
     Entry(usize),
@@ -60,7 +60,7 @@ pub enum AboveLine {
     Propose(Personality, usize, usize),
 }
 
-#[derive(Drop)]
+#[derive(Clone, Copy)]
 pub enum Call {
     Terminal(TerminalLine),
     Page(PageLine),
@@ -69,7 +69,7 @@ pub enum Call {
 }
 
 // A setting is read where it is carried out.
-#[derive(Drop)]
+#[derive(Clone, Copy)]
 pub enum Command {
     Bad,
     Skip,

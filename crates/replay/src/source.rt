@@ -8,7 +8,7 @@ use replay_text::words::find_from;
 use std::num::wrapping_add_usize;
 
 // A line: its number, where it begins and ends in the buffer, where the next begins, and how many bytes the buffer holds.
-#[derive(Drop)]
+#[derive(Clone, Copy)]
 pub struct Line {
     pub number: usize,
     pub from: usize,

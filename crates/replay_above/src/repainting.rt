@@ -12,7 +12,7 @@ use rules::Personality;
 const SPANS: usize = 11000;
 
 // The three numbers of a span; good if a word spells them.
-#[derive(Drop)]
+#[derive(Clone, Copy)]
 struct Reading {
     good: bool,
     row: u16,

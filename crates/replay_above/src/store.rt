@@ -29,7 +29,7 @@ pub fn save(s: State, store: &mut [u8], out: &mut [u8], at: usize) -> usize {
 }
 
 // After a restore: the state, and how many bytes the output buffer holds.
-#[derive(Drop)]
+#[derive(Clone, Copy)]
 pub struct Restored {
     pub state: State,
     pub at: usize,

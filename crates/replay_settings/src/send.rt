@@ -5,7 +5,7 @@ use replay_text::words::number;
 use rules::{Place, Sending, Short};
 
 // Good if a word spells a send.
-#[derive(Drop)]
+#[derive(Clone, Copy)]
 pub struct Reading {
     pub good: bool,
     pub sending: Sending,

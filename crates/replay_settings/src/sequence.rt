@@ -23,7 +23,7 @@ fn fed(bytes: &[u8], is_over: bool) -> State {
 }
 
 // The sequence that a word spells, and the bytes gathered of its text; good if bytes can leave it under way and this is its spelling.
-#[derive(Drop)]
+#[derive(Clone, Copy)]
 pub struct Reading {
     pub good: bool,
     pub pending: Pending,

@@ -7,7 +7,7 @@ use rules::{
 };
 
 // What a line sets of the core: a mode counts from 0 in the order of `Modes`.
-#[derive(Drop)]
+#[derive(Clone, Copy)]
 pub enum CorePart {
     Active(u8),
     Split(u8),
@@ -20,7 +20,7 @@ pub enum CorePart {
 }
 
 // What a line sets of the set-up.
-#[derive(Drop)]
+#[derive(Clone, Copy)]
 pub enum SetupPart {
     Shifted(bool),
     Wish(bool),
@@ -30,7 +30,7 @@ pub enum SetupPart {
 }
 
 // What a line sets. A key and a label have their place, counted from 0; their texts, the message, the sequence and the send are read later.
-#[derive(Drop)]
+#[derive(Clone, Copy)]
 pub enum Part {
     Bad,
     Core(CorePart),
@@ -151,7 +151,7 @@ fn feature(i: usize, n: usize) -> Part {
 }
 
 // The text that a word spells: its length, at most 255, and its first 46 bytes.
-#[derive(Drop)]
+#[derive(Clone, Copy)]
 struct Reading {
     good: bool,
     text: LongText,
@@ -324,7 +324,7 @@ fn with_message(u: Setup, m: LongText) -> Setup {
 }
 
 // After a line: the state, and whether the line is one of these.
-#[derive(Drop)]
+#[derive(Clone, Copy)]
 pub struct Changed {
     pub good: bool,
     pub state: State,

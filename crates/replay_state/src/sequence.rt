@@ -5,7 +5,7 @@ use replay_text::bounds::least;
 use rules::{Argument, Pending, Slot};
 
 // The first `len` of `bytes`, and whether `+` follows.
-#[derive(Drop)]
+#[derive(Clone, Copy)]
 pub struct Spelling {
     pub len: usize,
     pub bytes: [u8; 49],

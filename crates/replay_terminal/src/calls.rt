@@ -7,7 +7,7 @@ use replay_text::trace::{
 use rules::{Answer, Personality, RunResult, State, StepResult};
 
 // After a call: the state, and how many bytes the output buffer holds.
-#[derive(Drop)]
+#[derive(Clone, Copy)]
 pub struct Called {
     pub state: State,
     pub at: usize,
@@ -219,7 +219,7 @@ pub fn rebuild(s: State, page: &[u16], rows: &mut [u16], out: &mut [u8], at: usi
 }
 
 // After a conversion: the state, how many bytes the output buffer holds, and whether the target is now the page.
-#[derive(Drop)]
+#[derive(Clone, Copy)]
 pub struct Turned {
     pub state: State,
     pub at: usize,

@@ -340,6 +340,7 @@ call_counted p s (Run bytes room) (in_run _ _ _ _ x) = by (good p s) (sends s.se
     by true false z h i j = on (starts p s room h i)
     by true true false h i j = on (starts_inside p s room h i j)
     by true true true h i j = absurd (no_narrow_run p s bytes h i (subst (CompletedInRun p s bytes) (eqb-true room 0 j) x))
+call_counted p s (Press v room) x = elim x [ ]
 
 -- ---- the list
 

@@ -89,6 +89,12 @@ module _ {p q : List ℕ} (h : Related p q p q) (s : State) where
   unfolding obeyed plan_rule send_plan
   obeyed_agrees Send.OpenRow of_row room = carried_agrees false room
   obeyed_agrees Send.OpenSegment of_segment room = carried_agrees true room
+  obeyed_agrees Send.Acknowledge x room = elim x [ ]
+  obeyed_agrees Send.Identity x room = elim x [ ]
+  obeyed_agrees Send.Cursor x room = elim x [ ]
+  obeyed_agrees Send.SegmentCursor x room = elim x [ ]
+  obeyed_agrees Send.DecimalCursor x room = elim x [ ]
+  obeyed_agrees Send.Cell x room = elim x [ ]
 
   inner_agrees : (b : ℕ) (x : Send) → OpenSend x → ltb b 128 ≡ true → decode_rule Pending.Escape b ≡ Decoded.Do (Command.Send x)
       → s.core.pending ≡ Pending.Escape → (room : ℕ)

@@ -111,17 +111,21 @@ beyond_none n = refl
 
 pub bytes_beyond : {l : List Spot} → Small l → (n : ℕ) → bytes_of (beyond n l) ≡ drop n (bytes_of l)
 unfolding bytes_of
-bytes_beyond {l} h zero = rw (beyond_zero l)
+bytes_beyond none zero = rw (beyond_zero [])
 bytes_beyond none (suc n) = rw (beyond_none (suc n))
+bytes_beyond (silent {x} {l} h) zero = rw (beyond_zero (spot x [] ∷ l))
 bytes_beyond (silent {x} {l} h) (suc n) = rw (beyond_silent n x l) (bytes_beyond h (suc n))
+bytes_beyond (one {x} {b} {l} h) zero = rw (beyond_zero (spot x (b ∷ []) ∷ l))
 bytes_beyond (one {x} {b} {l} h) (suc n) = rw (beyond_one n x b l) (bytes_beyond h n)
 
 pub beyond_add : {l : List Spot} → Small l → (n m : ℕ) → beyond m (beyond n l) ≡ beyond (n + m) l
-beyond_add {l} h zero m = rw (beyond_zero l, zero-add m)
+beyond_add none zero m = rw (beyond_zero [], zero-add m)
 beyond_add none (suc n) m = rw (beyond_none (suc n), beyond_none m, beyond_none (suc n + m))
+beyond_add (silent {x} {l} h) zero m = rw (beyond_zero (spot x [] ∷ l), zero-add m)
 beyond_add (silent {x} {l} h) (suc n) m =
     let e : suc n + m ≡ suc (n + m) = omega arith in
     rw (beyond_silent n x l, e, beyond_silent (n + m) x l) (beyond_add h (suc n) m ∙ ap (λ (j : ℕ). beyond j l) e)
+beyond_add (one {x} {b} {l} h) zero m = rw (beyond_zero (spot x (b ∷ []) ∷ l), zero-add m)
 beyond_add (one {x} {b} {l} h) (suc n) m =
     let e : suc n + m ≡ suc (n + m) = omega arith in
     rw (beyond_one n x b l, e, beyond_one (n + m) x b l) (beyond_add h n m)

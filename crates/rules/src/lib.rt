@@ -1,8 +1,9 @@
 // The types of the alert terminal. The rules over them are the definitions in specs/; there is no executable code here.
+#![tactic(auto)]
 
 // A wide page has 132 columns, another 80. The split row counts from 1, and 0 is none. A cursor is a cell of the page, counted from 0, one for
 // each segment.
-#[derive(Drop)]
+#[derive(Clone, Copy)]
 pub struct Screen {
     pub wide: bool,
     pub active: u8,
@@ -12,7 +13,7 @@ pub struct Screen {
 }
 
 // `local` is local edit.
-#[derive(Drop)]
+#[derive(Clone, Copy)]
 pub struct Modes {
     pub protect: bool,
     pub writeprotect: bool,
@@ -23,13 +24,13 @@ pub struct Modes {
 }
 
 // A short text, a key's or a label's, and a long one, the host message: the first `len` of `bytes`.
-#[derive(Drop)]
+#[derive(Clone, Copy)]
 pub struct ShortText {
     pub len: u8,
     pub bytes: [u8; 8],
 }
 
-#[derive(Drop)]
+#[derive(Clone, Copy)]
 pub struct LongText {
     pub len: u8,
     pub bytes: [u8; 46],
@@ -37,7 +38,7 @@ pub struct LongText {
 
 // Features: cursor shown, cursor style, protected look, screen shown, scrolling.
 // Keys: 40h to 4Fh, then 60h to 6Fh. Labels: 30h to 37h, then 50h to 57h, the shifted line's; `shifted` says whether that line is on.
-#[derive(Drop)]
+#[derive(Clone, Copy)]
 pub struct Setup {
     pub tabs: [bool; 132],
     pub attributes: [u8; 4],
@@ -51,7 +52,7 @@ pub struct Setup {
 }
 
 // Where a text goes when it is complete: the key or the label of a value of ESC z, or the host message of ESC F.
-#[derive(Drop)]
+#[derive(Clone, Copy)]
 pub enum Slot {
     Key(u8),
     Label(u8),
@@ -60,7 +61,7 @@ pub enum Slot {
 
 // An argument that is awaited, nothing but its command having come: after ESC =, ESC -, ESC x, ESC x 1, ESC G, ESC H, ESC !, ESC ., ESC `,
 // ESC A, ESC z.
-#[derive(Drop)]
+#[derive(Clone, Copy)]
 pub enum Argument {
     Address,
     Segment,
@@ -76,7 +77,7 @@ pub enum Argument {
 }
 
 // The sequence under way: which bytes have come since ESC.
-#[derive(Drop)]
+#[derive(Clone, Copy)]
 pub enum Pending {
     Idle,
     Escape,
@@ -97,7 +98,7 @@ pub enum Pending {
 }
 
 // Whose rules the terminal follows: chosen at power-on, changed by no byte.
-#[derive(Drop)]
+#[derive(Clone, Copy)]
 pub enum Personality {
     Wy50,
     Wy60,
@@ -105,7 +106,7 @@ pub enum Personality {
 
 // What the bytes of the host change most. `attribute` is the one that ESC G sets in WY-60, remembered for the cells stored later: dim 16,
 // underscore 8, reverse 4, blink 2, blank 1.
-#[derive(Drop)]
+#[derive(Clone, Copy)]
 pub struct Core {
     pub screen: Screen,
     pub modes: Modes,
@@ -116,7 +117,7 @@ pub struct Core {
 }
 
 // The replies of a few bytes: 05h, ESC M, ESC SPACE, ESC ?, ESC /, ESC b.
-#[derive(Drop)]
+#[derive(Clone, Copy)]
 pub enum Short {
     Acknowledge,
     Cell,
@@ -127,7 +128,7 @@ pub enum Short {
 }
 
 // A place of a text that is sent: a cell, the US before a cell, the CR.
-#[derive(Drop)]
+#[derive(Clone, Copy)]
 pub enum Place {
     Cell(u16),
     Break(u16),
@@ -141,7 +142,7 @@ pub enum Place {
 //     ESC 5    false  true     the segment             the same
 //     ESC 6    true   false    the cursor's row        all cells
 //     ESC 7    true   true     the segment             all cells
-#[derive(Drop)]
+#[derive(Clone, Copy)]
 pub enum Sending {
     Nothing,
     Short(Short, u8),
@@ -149,7 +150,7 @@ pub enum Sending {
 }
 
 // `gathered` holds the bytes of a text under way; `sending` is the send under way.
-#[derive(Drop)]
+#[derive(Clone, Copy)]
 pub struct State {
     pub core: Core,
     pub sending: Sending,
@@ -158,7 +159,7 @@ pub struct State {
 }
 
 // What a call answers: 0 to 4 and 6 to 8 in this order.
-#[derive(Drop)]
+#[derive(Clone, Copy)]
 pub enum Answer {
     Done,
     HighByte,
@@ -171,7 +172,7 @@ pub enum Answer {
 }
 
 // What a search looks for. FieldStart holds the first cell of the segment.
-#[derive(Drop)]
+#[derive(Clone, Copy)]
 pub enum Sought {
     Open,
     Guarded,
@@ -179,7 +180,7 @@ pub enum Sought {
 }
 
 // A cell's contents: its kind, and its code.
-#[derive(Drop)]
+#[derive(Clone, Copy)]
 pub enum Contents {
     Text(u8),
     Attribute(u8),
@@ -188,7 +189,7 @@ pub enum Contents {
 
 // The commands, by what they touch.
 
-#[derive(Drop)]
+#[derive(Clone, Copy)]
 pub enum Move {
     Back,
     Right,
@@ -206,7 +207,7 @@ pub enum Move {
     Decimal(u8, u16),
 }
 
-#[derive(Drop)]
+#[derive(Clone, Copy)]
 pub enum Window {
     Unsplit,
     Split(u8),
@@ -217,7 +218,7 @@ pub enum Window {
     Place(u8, u8, u8),
 }
 
-#[derive(Drop)]
+#[derive(Clone, Copy)]
 pub enum Edit {
     InsertCell,
     DeleteCell,
@@ -226,7 +227,7 @@ pub enum Edit {
 }
 
 // Open cells: from the cursor to the end of the row, or of the segment; the whole segment; the cursor's column.
-#[derive(Drop)]
+#[derive(Clone, Copy)]
 pub enum Clear {
     Row(Contents),
     Rest(Contents),
@@ -234,7 +235,7 @@ pub enum Clear {
     Column,
 }
 
-#[derive(Drop)]
+#[derive(Clone, Copy)]
 pub enum Mode {
     WriteProtect,
     Insert,
@@ -243,7 +244,7 @@ pub enum Mode {
     LocalEdit,
 }
 
-#[derive(Drop)]
+#[derive(Clone, Copy)]
 pub enum Setting {
     Tab(bool),
     ClearTabs,
@@ -256,7 +257,7 @@ pub enum Setting {
     Wish(bool),
 }
 
-#[derive(Drop)]
+#[derive(Clone, Copy)]
 pub enum Send {
     Acknowledge,
     Identity,
@@ -269,7 +270,7 @@ pub enum Send {
 }
 
 // The six commands that demand 3 leaves out.
-#[derive(Drop)]
+#[derive(Clone, Copy)]
 pub enum Excluded {
     ProtectOff,
     ClearNulls,
@@ -279,7 +280,7 @@ pub enum Excluded {
     SendSegment,
 }
 
-#[derive(Drop)]
+#[derive(Clone, Copy)]
 pub enum Command {
     Nothing,
     Go(Move),
@@ -300,7 +301,7 @@ pub enum Command {
 
 // What a byte comes to after the sequence under way: more is awaited; the byte of a text, to be gathered at a place; a text of so many bytes is
 // complete; a refusal; or a command.
-#[derive(Drop)]
+#[derive(Clone, Copy)]
 pub enum Decoded {
     Wait(Pending),
     Gather(Slot, u8, u8),
@@ -310,7 +311,7 @@ pub enum Decoded {
 }
 
 // What is written to the page. Cells and rows count from 0; `to` and `bottom` are not included.
-#[derive(Drop)]
+#[derive(Clone, Copy)]
 pub enum Write {
     Nothing,
     // the open cells, or all cells
@@ -345,7 +346,7 @@ pub enum Write {
 }
 
 // What a command changes in the set-up.
-#[derive(Drop)]
+#[derive(Clone, Copy)]
 pub enum SetupChange {
     Nothing,
     Tab(u16, bool),
@@ -358,7 +359,7 @@ pub enum SetupChange {
 
 // What a byte changes beside the core: a byte of a text is gathered at a place, a slot takes the first so many bytes gathered, a command's change
 // of the set-up, or a reply that was due has begun, and this is left of it.
-#[derive(Drop)]
+#[derive(Clone, Copy)]
 pub enum Change {
     Gather(u8, u8),
     Take(Slot, u8),
@@ -367,13 +368,13 @@ pub enum Change {
 }
 
 // Where the active cursor goes at the end, over the page as it then is.
-#[derive(Drop)]
+#[derive(Clone, Copy)]
 pub enum Land {
     Stay,
     Settle(u16),
 }
 
-#[derive(Drop)]
+#[derive(Clone, Copy)]
 pub struct Plan {
     pub answer: Answer,
     pub first: Write,
@@ -386,7 +387,7 @@ pub struct Plan {
 }
 
 // What one byte gives: the set-up is not handed through, only its change.
-#[derive(Drop)]
+#[derive(Clone, Copy)]
 pub struct CoreResult {
     pub answer: Answer,
     pub replied: usize,
@@ -394,14 +395,14 @@ pub struct CoreResult {
     pub change: Change,
 }
 
-#[derive(Drop)]
+#[derive(Clone, Copy)]
 pub struct PowerOn {
     pub answer: Answer,
     pub state: State,
 }
 
 // `taken` says whether the step's own byte was taken.
-#[derive(Drop)]
+#[derive(Clone, Copy)]
 pub struct StepResult {
     pub answer: Answer,
     pub taken: bool,
@@ -409,7 +410,7 @@ pub struct StepResult {
     pub state: State,
 }
 
-#[derive(Drop)]
+#[derive(Clone, Copy)]
 pub struct RunResult {
     pub answer: Answer,
     pub taken: usize,
@@ -418,7 +419,7 @@ pub struct RunResult {
     pub state: State,
 }
 
-#[derive(Drop)]
+#[derive(Clone, Copy)]
 pub struct PressResult {
     pub answer: Answer,
     pub replied: usize,
@@ -426,7 +427,7 @@ pub struct PressResult {
 
 // What is read of a page, as C holds it. A field: its first cell, how many cells it has, and the first one's row and column; 0 cells: there is none.
 #[repr(C)]
-#[derive(Drop)]
+#[derive(Clone, Copy)]
 pub struct Field {
     pub start: usize,
     pub size: usize,
@@ -436,7 +437,7 @@ pub struct Field {
 
 // A cell's row and column, from 0.
 #[repr(C)]
-#[derive(Drop)]
+#[derive(Clone, Copy)]
 pub struct Position {
     pub answer: u8,
     pub row: usize,
@@ -445,7 +446,7 @@ pub struct Position {
 
 // The text of a field or a row: how many bytes were put at the front of the room.
 #[repr(C)]
-#[derive(Drop)]
+#[derive(Clone, Copy)]
 pub struct TextResult {
     pub answer: u8,
     pub size: usize,

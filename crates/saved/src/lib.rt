@@ -1,5 +1,7 @@
 // Saved set-ups: the last eight by number, kept in a lent store of 8,714 bytes as the terminal's own command bytes. No call asks anything of its
 // caller, and each promises all that it gives: the answer, the state, and every byte of the store.
+#![tactic(auto)]
+
 mod bytes; // a set-up as bytes
 mod feeding; // bytes fed to a terminal
 mod store; // the store and its places
@@ -11,7 +13,7 @@ use state::possible::possible;
 use store::{is_restorable, is_store, last_number, restore_from, save_as};
 
 // What a save answers: the number saved, or why it is refused.
-#[derive(Drop)]
+#[derive(Clone, Copy)]
 pub enum SaveAnswer {
     Saved(u16),
     BadState,
@@ -20,7 +22,7 @@ pub enum SaveAnswer {
 }
 
 // What a restore answers.
-#[derive(Drop)]
+#[derive(Clone, Copy)]
 pub enum RestoreAnswer {
     Restored,
     BadState,
@@ -28,7 +30,7 @@ pub enum RestoreAnswer {
     BadNumber,
 }
 
-#[derive(Drop)]
+#[derive(Clone, Copy)]
 pub struct RestoreResult {
     pub answer: RestoreAnswer,
     pub state: State,

@@ -1,4 +1,6 @@
 // The terminal's state as values: power-on, readers and setters, the keys, which states are possible, and what a byte comes to.
+#![tactic(auto)]
+
 pub mod logic; // tests on numbers, and how they are joined
 pub mod width; // the width of a page
 pub mod screen; // the active segment and its cursor

@@ -28,7 +28,7 @@ use state::width::columns;
 
 // What the fast path goes by and does not change: the modes, the width, what the number of a text cell has beside its code, and the segment's cells
 // and rows.
-#[derive(Drop)]
+#[derive(Clone, Copy)]
 pub struct Ground {
     pub protect: bool,
     pub insert: bool,
@@ -42,14 +42,14 @@ pub struct Ground {
 }
 
 // Where text or a move ends: the cursor, and the first byte that it did not take.
-#[derive(Drop)]
+#[derive(Clone, Copy)]
 pub struct Reached {
     pub at: usize,
     pub taken: usize,
 }
 
 // The same of the whole path, and how many bytes it refused.
-#[derive(Drop)]
+#[derive(Clone, Copy)]
 pub struct Passed {
     pub at: usize,
     pub taken: usize,

@@ -1,6 +1,8 @@
 // The terminal: power-on, the single step, the run over many bytes, both with a row list too, the run up to the first event, the bytes that a run
 // did not take, the key press and the conversion to the other width. No call asks anything of its caller, and each promises all that it gives: the
 // answer, every count, and every cell and byte that it was lent.
+#![tactic(auto)]
+
 mod bytes; // the send under way and the loop over host bytes
 mod fast; // the fast path: host bytes without a plan for each
 mod inner; // one byte

@@ -7,7 +7,7 @@ use rules::{Answer, Decoded, Pending};
 use state::decode::decode;
 
 // What is under way behind the awaited bytes, the first byte that is not one, and what it comes to: a byte below 80h alone is decoded.
-#[derive(Drop)]
+#[derive(Clone, Copy)]
 pub struct Waited {
     pub pending: Pending,
     pub decoded: Decoded,

@@ -9,7 +9,7 @@ use rules::{Answer, Screen, State};
 use state::core::with_screen;
 use state::width::{cells, columns};
 
-#[derive(Drop)]
+#[derive(Clone, Copy)]
 pub struct ConvertResult {
     pub answer: Answer,
     pub state: State,

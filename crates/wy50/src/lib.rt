@@ -1,5 +1,7 @@
 // The terminal for C and Rust. A state crosses as numbers, by value both ways. Numbers that name no state are an impossible state: the call
 // answers 7, replies nothing, changes nothing and gives the numbers back. A slice crosses as a pointer and a count.
+#![tactic(auto)]
+
 pub mod raw; // the structs that cross
 mod pack; // the numbers of a state
 mod setups; // the numbers of what a save and a restore answer

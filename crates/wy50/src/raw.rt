@@ -2,7 +2,7 @@
 
 // A function key or a label: the first `len` of `bytes`.
 #[repr(C)]
-#[derive(Drop)]
+#[derive(Clone, Copy)]
 pub struct RawKey {
     pub len: u8,
     pub bytes: [u8; 8],
@@ -10,7 +10,7 @@ pub struct RawKey {
 
 // The host message: the first `len` of `bytes`.
 #[repr(C)]
-#[derive(Drop)]
+#[derive(Clone, Copy)]
 pub struct RawMessage {
     pub len: u8,
     pub bytes: [u8; 46],
@@ -18,7 +18,7 @@ pub struct RawMessage {
 
 // `wide` is 0 or 1, in two bytes, so that nothing is padded.
 #[repr(C)]
-#[derive(Drop)]
+#[derive(Clone, Copy)]
 pub struct RawScreen {
     pub wide: u16,
     pub active: u8,
@@ -29,7 +29,7 @@ pub struct RawScreen {
 
 // Each 0 or 1. `local` is local edit.
 #[repr(C)]
-#[derive(Drop)]
+#[derive(Clone, Copy)]
 pub struct RawModes {
     pub protect: u8,
     pub writeprotect: u8,
@@ -41,7 +41,7 @@ pub struct RawModes {
 
 // The sequence under way: which one it is, and its numbers in their order, 0 where it has fewer than three.
 #[repr(C)]
-#[derive(Drop)]
+#[derive(Clone, Copy)]
 pub struct RawSequence {
     pub kind: u16,
     pub first: u8,
@@ -51,7 +51,7 @@ pub struct RawSequence {
 
 // The send under way: the command that asked for it, what stands at its place, and the number of the place; all 0 where there is none.
 #[repr(C)]
-#[derive(Drop)]
+#[derive(Clone, Copy)]
 pub struct RawSending {
     pub command: u8,
     pub kind: u8,
@@ -61,7 +61,7 @@ pub struct RawSending {
 // A tab stop is 0 or 1, and so are `shifted` and `wish`. The personality is 50 or 60, and `remembered` the attribute that ESC G sets in the 60.
 // `gathered` are the bytes of a text under way; the sequence says how many.
 #[repr(C)]
-#[derive(Drop)]
+#[derive(Clone, Copy)]
 pub struct RawState {
     pub screen: RawScreen,
     pub modes: RawModes,
@@ -82,14 +82,14 @@ pub struct RawState {
 }
 
 #[repr(C)]
-#[derive(Drop)]
+#[derive(Clone, Copy)]
 pub struct RawPowerOn {
     pub answer: u8,
     pub state: RawState,
 }
 
 #[repr(C)]
-#[derive(Drop)]
+#[derive(Clone, Copy)]
 pub struct RawStep {
     pub answer: u8,
     pub taken: u8,
@@ -98,7 +98,7 @@ pub struct RawStep {
 }
 
 #[repr(C)]
-#[derive(Drop)]
+#[derive(Clone, Copy)]
 pub struct RawRun {
     pub answer: u8,
     pub taken: usize,
@@ -109,7 +109,7 @@ pub struct RawRun {
 
 // The command is 0 where there is no reply.
 #[repr(C)]
-#[derive(Drop)]
+#[derive(Clone, Copy)]
 pub struct RawNext {
     pub answer: u8,
     pub command: u8,
@@ -120,28 +120,28 @@ pub struct RawNext {
 }
 
 #[repr(C)]
-#[derive(Drop)]
+#[derive(Clone, Copy)]
 pub struct RawPress {
     pub answer: u8,
     pub replied: usize,
 }
 
 #[repr(C)]
-#[derive(Drop)]
+#[derive(Clone, Copy)]
 pub struct RawSave {
     pub answer: u8,
     pub number: u16,
 }
 
 #[repr(C)]
-#[derive(Drop)]
+#[derive(Clone, Copy)]
 pub struct RawRestore {
     pub answer: u8,
     pub state: RawState,
 }
 
 #[repr(C)]
-#[derive(Drop)]
+#[derive(Clone, Copy)]
 pub struct RawConvert {
     pub answer: u8,
     pub state: RawState,

@@ -1,4 +1,6 @@
 // The alert counter for C and Rust. A slice crosses as a pointer and a count, and a count comes back as numbers.
+#![tactic(auto)]
+
 ghost use Rattle.std.specs.Prelude.{◌≡◌, ◌+◌, ◌*◌};
 ghost use Rattle.counter.specs.Count.{numbers, text_count, count_rule};
 ghost use Rattle.wy50_counter.specs.Raw.{raw as raw_of, billed as billed_of};
@@ -19,7 +21,7 @@ pub extern "C" fn wy50_counter_version() -> u32
 // The units and parts of a text that is counted; else why it is not: 1 no final CR, 2 a bad first number, 3 a bad last one, 4 a byte outside
 // the alphabet, at `place`. What does not apply is 0.
 #[repr(C)]
-#[derive(Drop)]
+#[derive(Clone, Copy)]
 pub struct RawCount {
     pub units: u64,
     pub parts: u64,

@@ -13,7 +13,7 @@ use rules::Write;
 use state::width::{columns, row_of};
 
 // What is written, and the cursor after it; `end` where nothing is.
-#[derive(Drop)]
+#[derive(Clone, Copy)]
 pub struct Act {
     pub write: Write,
     pub at: usize,
