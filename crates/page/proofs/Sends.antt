@@ -19,11 +19,8 @@ use lib.ListN.{length, get_or, set, take, drop, length-set, drop_of_length-le}
 use lib.Seq.{drop-cons, take-nil}
 use borrow.Author.Tests.{eqb-false, eq-eqb, ne_eqb, lt-ltb, le-ltb, ltb-true, ltb-false}
 use Rattle.rules.specs.declared.Short.{Short}
-use Rattle.rules.specs.declared.Short.TheVariants as Short
 use Rattle.rules.specs.declared.Place.{Place}
-use Rattle.rules.specs.declared.Place.TheVariants as Place
 use Rattle.rules.specs.declared.Sending.{Sending}
-use Rattle.rules.specs.declared.Sending.TheVariants as Sending
 use Rattle.rules.specs.Cell.{pick, guarded, sent}
 use Rattle.rules.specs.Row.{Width, column_of, row_end}
 use Rattle.rules.specs.Send.{Spot, spot, open_cell, each, leaves_out, cell_place, follows_left_out, text_at, bytes_of, standing}

@@ -1,7 +1,6 @@
 -- The parts of a text that is sent: what the loops over its rows promise.
 use Rattle.std.specs.Prelude.{◌≡◌, Bool, true, false, List, ℕ, suc, ◌+◌, ◌-◌, ◌<◌, ◌≤◌, eqb, ltb, length, get_or}
 use Rattle.rules.specs.declared.Place.{Place}
-use Rattle.rules.specs.declared.Place.TheVariants as Place
 use Rattle.rules.specs.Cell.{pick}
 use Rattle.rules.specs.Row.{Width, column_of}
 use Rattle.rules.specs.Send.{Spot, leaves_out, left_out, follows_left_out, text_at}
