@@ -1,5 +1,5 @@
 -- What carrying a plan out promises: a result, its page and its room are the effect's.
-use Rattle.core.specs.Prelude.{◌≡◌, ℕ, ◌≤◌, false, List, length, nat_eq}
+use Rattle.std.specs.Prelude.{◌≡◌, ℕ, ◌≤◌, false, List, length, nat_eq}
 use Rattle.rules.specs.declared.CoreResult.{CoreResult}
 use Rattle.rules.specs.State.{number}
 use Rattle.rules.specs.Carry.{Effect}

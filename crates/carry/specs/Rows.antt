@@ -1,5 +1,5 @@
 -- What a byte does to the row list.
-use Rattle.core.specs.Prelude.{ℕ, ◌+◌, ◌-◌, ◌/◌, Bool, true, not, List}
+use Rattle.std.specs.Prelude.{ℕ, ◌+◌, ◌-◌, ◌/◌, Bool, true, not, List}
 use Rattle.rules.specs.declared.Write.{Write}
 use Rattle.rules.specs.declared.Write.TheVariants as Write
 use Rattle.rules.specs.Cell.{guarded}

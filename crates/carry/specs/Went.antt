@@ -1,5 +1,5 @@
 -- What sending promises.
-use Rattle.core.specs.Prelude.{◌≡◌, ℕ, List, length}
+use Rattle.std.specs.Prelude.{◌≡◌, ℕ, List, length}
 use Rattle.rules.specs.declared.Core.{Core}
 use Rattle.rules.specs.declared.Sending.{Sending}
 use Rattle.rules.specs.Send.{sent_from, left_from}

@@ -1,5 +1,5 @@
 // Where a plan's cursor goes.
-ghost use Rattle.core.specs.Prelude.{◌≡◌, true, length};
+ghost use Rattle.std.specs.Prelude.{◌≡◌, true, length};
 ghost use Rattle.rules.specs.Search.{guarded_at, settled};
 ghost use Rattle.rules.specs.RowList.{Beside};
 ghost use Rattle.rules.specs.State.{page_length, width_of, segment_start, segment_end};

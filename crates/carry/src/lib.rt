@@ -2,7 +2,7 @@
 // `terminal::fast`.
 #![tactic(auto)]
 
-ghost use Rattle.core.specs.Prelude.{◌≡◌, true, length};
+ghost use Rattle.std.specs.Prelude.{◌≡◌, true, length};
 ghost use Rattle.rules.specs.State.{page_length, sends};
 ghost use Rattle.rules.specs.Theorems.Good.{GoodPlan};
 ghost use Rattle.rules.specs.Search.{guarded_at};

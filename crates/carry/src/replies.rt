@@ -1,5 +1,5 @@
 // What is sent of a reply from the place where it stands, as much as the room takes.
-ghost use Rattle.core.specs.Prelude.{◌≡◌, ◌+◌, ◌<◌, ◌≤◌, true, [], ◌∷◌, length, drop};
+ghost use Rattle.std.specs.Prelude.{◌≡◌, ◌+◌, ◌<◌, ◌≤◌, true, [], ◌∷◌, length, drop};
 ghost use Rattle.rules.specs.State.{Inside, page_length, cursor_row, cursor_column};
 ghost use Rattle.rules.specs.Possible.{screen_ok, short_length};
 ghost use Rattle.rules.specs.Theorems.Good.{GoodSend};

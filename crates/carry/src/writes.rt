@@ -1,5 +1,5 @@
 // What a plan writes to the page, and the row list after it.
-ghost use Rattle.core.specs.Prelude.{◌≡◌, ◌*◌, true, length};
+ghost use Rattle.std.specs.Prelude.{◌≡◌, ◌*◌, true, length};
 ghost use Rattle.rules.specs.Row.{Width};
 ghost use Rattle.rules.specs.declared.Write.TheVariants as Write;
 ghost use Rattle.rules.specs.Theorems.Good.{GoodWrite};

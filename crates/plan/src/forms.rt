@@ -1,5 +1,5 @@
 // The forms of plans.
-ghost use Rattle.core.specs.Prelude.{◌≡◌};
+ghost use Rattle.std.specs.Prelude.{◌≡◌};
 ghost use Rattle.rules.specs.Plan.{refusing as refusingOf, plain as plain_of, writing_two, writing as writingOf, settling as settlingOf};
 ghost use Rattle.rules.specs.Plan.{replying as replyingOf, changing as changingOf};
 

@@ -1,7 +1,7 @@
 // The plan of each command: what is written, changed and replied, and where the cursor goes, as data.
 #![tactic(auto)]
 
-ghost use Rattle.core.specs.Prelude.{◌≡◌, ◌<◌, true, length};
+ghost use Rattle.std.specs.Prelude.{◌≡◌, ◌<◌, true, length};
 ghost use Rattle.rules.specs.Search.{guarded_at};
 ghost use Rattle.rules.specs.State.{page_length};
 ghost use Rattle.rules.specs.Possible.{screen_ok};

@@ -1,5 +1,5 @@
 // Where the cursor may go.
-ghost use Rattle.core.specs.Prelude.{◌≡◌, ◌+◌, ◌-◌, ◌*◌, ◌<◌, ◌≤◌, length};
+ghost use Rattle.std.specs.Prelude.{◌≡◌, ◌+◌, ◌-◌, ◌*◌, ◌<◌, ◌≤◌, length};
 ghost use Rattle.rules.specs.Row.{columns, wide_cells};
 ghost use Rattle.rules.specs.Cell.{among as amongOf};
 ghost use Rattle.rules.specs.Search.{guarded_at, previous_open};

@@ -1,5 +1,5 @@
 // Settings, replies, and the six commands that demand 3 leaves out.
-ghost use Rattle.core.specs.Prelude.{◌≡◌, true, length};
+ghost use Rattle.std.specs.Prelude.{◌≡◌, true, length};
 ghost use Rattle.rules.specs.Search.{guarded_at};
 ghost use Rattle.rules.specs.State.{page_length};
 ghost use Rattle.rules.specs.Possible.{screen_ok};

@@ -1,5 +1,5 @@
 // Splits and activation.
-ghost use Rattle.core.specs.Prelude.{◌≡◌, ◌≤◌, true};
+ghost use Rattle.std.specs.Prelude.{◌≡◌, ◌≤◌, true};
 ghost use Rattle.rules.specs.Possible.{screen_ok};
 ghost use Rattle.rules.specs.Plan.{unsplit_screen, split_screen, activate as activateOf, is_segment, window_plan};
 

@@ -1,5 +1,5 @@
 // Stores, edits and clears.
-ghost use Rattle.core.specs.Prelude.{◌≡◌, ◌<◌, false, length, slice_index_or};
+ghost use Rattle.std.specs.Prelude.{◌≡◌, ◌<◌, false, length, slice_index_or};
 ghost use Rattle.rules.specs.Row.{wide_cells};
 ghost use Rattle.rules.specs.Search.{guarded_at};
 ghost use Rattle.rules.specs.Cell.{normal, written, space};

@@ -1,6 +1,6 @@
 -- The judge of bytes (document 02, A12): "accepts bytes exactly if the ruled terminal of a named personality, fed them from power-on at the pages'
 -- width with the first page and no reply room, answers 0 to each and ends with the second page".
-use Rattle.core.specs.Prelude.{◌≡◌, ℕ, Bool, List, [], ◌∷◌, length, ◌==◌}
+use Rattle.std.specs.Prelude.{◌≡◌, ℕ, Bool, List, [], ◌∷◌, length, ◌==◌}
 use Rattle.rules.specs.declared.Personality.{Personality}
 use Rattle.rules.specs.declared.State.{State}
 use Rattle.rules.specs.Cell.{both, same}

@@ -1,5 +1,5 @@
 -- Worked pages, by the sentences of request A12 of document 02.
-use Rattle.core.specs.Prelude.{◌≡◌, ℕ, zero, suc, true, false, List, [], ◌∷◌, ◌++◌, replicate}
+use Rattle.std.specs.Prelude.{◌≡◌, ℕ, zero, suc, true, false, List, [], ◌∷◌, ◌++◌, replicate}
 use Rattle.rules.specs.declared.Personality.TheVariants as Personality
 use Rattle.repaint.specs.declared.Span.{Span}
 use Rattle.repaint.specs.Spans.{SpansVerdict}

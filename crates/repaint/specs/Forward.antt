@@ -1,5 +1,5 @@
 -- The stretches read forwards, as the proposer's loop finds them. Only proofs and the contracts of inner functions name these.
-use Rattle.core.specs.Prelude.{◌≡◌, ℕ, suc, ◌+◌, ◌≤◌, List, [], ◌∷◌, length, take, drop, ◌==◌}
+use Rattle.std.specs.Prelude.{◌≡◌, ℕ, suc, ◌+◌, ◌≤◌, List, [], ◌∷◌, length, take, drop, ◌==◌}
 use Rattle.std.proofs.lemmas.List.Edits.{sets}
 use Rattle.rules.specs.Cell.{pick}
 use Rattle.repaint.specs.Proposal.{Stretch, stretch, ends_row, differing, last_shown, stretches, rows_of, columns_of, lengths_of, paint_bytes}

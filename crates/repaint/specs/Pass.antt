@@ -1,6 +1,6 @@
 -- The one pass over the pages by which the judge of spans finds its answer. Only proofs and the contracts of inner functions name it; that it finds
 -- the verdict of Spans.antt is proved.
-use Rattle.core.specs.Prelude.{ℕ, zero, suc, ◌+◌, ◌-◌, Bool, true, List, [], ◌∷◌, length, ◌==◌, nat_le, slice_index}
+use Rattle.std.specs.Prelude.{ℕ, zero, suc, ◌+◌, ◌-◌, Bool, true, List, [], ◌∷◌, length, ◌==◌, nat_le, slice_index}
 use Rattle.rules.specs.Cell.{pick, both}
 use Rattle.rules.specs.Row.{height}
 use Rattle.rules.specs.Fields.{page_width}

@@ -1,7 +1,7 @@
 -- The judge of spans (document 02, A12): "accepts a list of spans only if they are in reading order, don't overlap, lie within their rows, are not
 -- empty and cover every cell that differs, and always accepts such a list". A span is "a row, first column and length", rows and columns counted from
 -- 1. A page has 24 rows of w cells; cells count from 0.
-use Rattle.core.specs.Prelude.{◌≡◌, ℕ, ◌+◌, ◌-◌, ◌*◌, ◌<◌, ◌≤◌, ◌⊎◌, List, [], ◌∷◌, length, ◌≢◌, slice_index, slice_index_or}
+use Rattle.std.specs.Prelude.{◌≡◌, ℕ, ◌+◌, ◌-◌, ◌*◌, ◌<◌, ◌≤◌, ◌⊎◌, List, [], ◌∷◌, length, ◌≢◌, slice_index, slice_index_or}
 use Rattle.rules.specs.Row.{height, narrow_cells, wide_cells}
 use Rattle.repaint.specs.declared.Span.{Span}
 use Rattle.repaint.specs.declared.Verdict.{Verdict}

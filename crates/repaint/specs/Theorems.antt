@@ -1,5 +1,5 @@
 -- What request A12 of document 02 says of the proposer, and of power-on at a width, the statements.
-use Rattle.core.specs.Prelude.{◌≡◌, ℕ, ◌+◌, ◌<◌, ◌≤◌, true, false, ◌⊎◌, List, map, length, ◌≢◌, slice_index, slice_index_or}
+use Rattle.std.specs.Prelude.{◌≡◌, ℕ, ◌+◌, ◌<◌, ◌≤◌, true, false, ◌⊎◌, List, map, length, ◌≢◌, slice_index, slice_index_or}
 use Rattle.rules.specs.declared.Personality.{Personality}
 use Rattle.rules.specs.Row.{addressed, narrow_cells, wide_cells}
 use Rattle.rules.specs.Convert.{convert_rule}

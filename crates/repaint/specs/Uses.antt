@@ -1,5 +1,5 @@
 -- The bounds of the proposer reached, its statements used there, and pages that differ in an attribute alone.
-use Rattle.core.specs.Prelude.{◌≡◌, ℕ, zero, suc, ◌≤◌, true, false, List, [], ◌∷◌, length, replicate}
+use Rattle.std.specs.Prelude.{◌≡◌, ℕ, zero, suc, ◌≤◌, true, false, List, [], ◌∷◌, length, replicate}
 use Rattle.rules.specs.declared.Personality.{Personality}
 use Rattle.rules.specs.declared.Personality.TheVariants as Personality
 use Rattle.repaint.specs.Spans.{Accepts, SpansVerdict}

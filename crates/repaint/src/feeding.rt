@@ -1,5 +1,5 @@
 // The judge of bytes: the ruled terminal is fed them over a scratch page.
-ghost use Rattle.core.specs.Prelude.{◌≡◌, ◌*◌, ◌≤◌, length, ◌==◌};
+ghost use Rattle.std.specs.Prelude.{◌≡◌, ◌*◌, ◌≤◌, length, ◌==◌};
 ghost use Rattle.rules.specs.Cell.{both};
 ghost use Rattle.rules.specs.Row.{columns, wide_cells};
 ghost use Rattle.rules.specs.State.{number};

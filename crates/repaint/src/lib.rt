@@ -4,7 +4,7 @@
 mod feeding; // the judge of bytes
 mod painter; // our own proposer
 
-ghost use Rattle.core.specs.Prelude.{◌≡◌, ◌+◌, ◌<◌, ◌≤◌, length};
+ghost use Rattle.std.specs.Prelude.{◌≡◌, ◌+◌, ◌<◌, ◌≤◌, length};
 ghost use Rattle.repaint.specs.Spans.{verdict_number, SpansVerdict, ListsVerdict};
 ghost use Rattle.repaint.specs.Pass.{pages_width, equal, fits, turned, finished};
 

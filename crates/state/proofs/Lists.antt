@@ -1,6 +1,6 @@
 -- Laws of arrays as lists.
 -- Assumes nothing.
-use Rattle.core.specs.Prelude.{◌≡◌, ℕ, zero, suc, ◌≤◌, List, [], ◌∷◌, length, get_or, take}
+use Rattle.std.specs.Prelude.{◌≡◌, ℕ, zero, suc, ◌≤◌, List, [], ◌∷◌, length, get_or, take}
 use mathlib.Core.Path.{refl, sym, ap}
 use native.Mathlib.Nat.{suc-ne-zero, suc_inj}
 use native.Mathlib.Omega.{arith}

@@ -1,6 +1,6 @@
 -- The rows of a segment, whatever the split row: no product of them with the width overflows.
 -- Assumes nothing.
-use Rattle.core.specs.Prelude.{ℕ, ◌+◌, ◌≤◌, Bool, true, false, eqb}
+use Rattle.std.specs.Prelude.{ℕ, ◌+◌, ◌≤◌, Bool, true, false, eqb}
 use native.Mathlib.Omega.{arith}
 use Rattle.rules.specs.Cell.{pick}
 use Rattle.rules.specs.State.{segment_top, segment_bottom}

@@ -1,5 +1,5 @@
 // Whether a sequence is under way, and setters of the core.
-ghost use Rattle.core.specs.Prelude.{◌≡◌, ◌+◌, ◌%◌};
+ghost use Rattle.std.specs.Prelude.{◌≡◌, ◌+◌, ◌%◌};
 ghost use Rattle.rules.specs.State.{with_screen, with_modes, with_bells, with_attribute, awaiting, idle, is_idle, with_protect, with_mode};
 
 use rules::{Core, Mode, Modes, Pending, Screen};

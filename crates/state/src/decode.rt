@@ -1,5 +1,5 @@
 // What a byte below 80h comes to after the sequence under way.
-ghost use Rattle.core.specs.Prelude.{◌≡◌, ℕ, ◌^◌, ◌<◌, true, List};
+ghost use Rattle.std.specs.Prelude.{◌≡◌, ℕ, ◌^◌, ◌<◌, true, List};
 ghost use Rattle.rules.specs.Decode.{lookup, controls, idle_rule, escape_rule, judged, feature_rule, field_rule, split_rule, decimal_row_rule};
 ghost use Rattle.rules.specs.Decode.{decimal_column_rule, slot_rule, text_rule, spoilt_rule, argument_rule, decode_rule};
 ghost use Rattle.rules.specs.Arguments.{attribute_contents};

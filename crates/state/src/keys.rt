@@ -1,5 +1,5 @@
 // Function keys and key labels, by the values of ESC z.
-ghost use Rattle.core.specs.Prelude.{◌≡◌, true, [], get_or, slice_set};
+ghost use Rattle.std.specs.Prelude.{◌≡◌, true, [], get_or, slice_set};
 ghost use Rattle.rules.specs.State.{key_place, label_place};
 ghost use Rattle.rules.specs.Arguments.{is_key};
 

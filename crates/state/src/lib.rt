@@ -12,7 +12,7 @@ pub mod sending; // the send under way
 pub mod possible; // which states are possible
 pub mod decode; // what a byte comes to after the sequence under way
 
-ghost use Rattle.core.specs.Prelude.{◌≡◌};
+ghost use Rattle.std.specs.Prelude.{◌≡◌};
 ghost use Rattle.rules.specs.State.{number};
 ghost use Rattle.rules.specs.Possible.{power_on};
 

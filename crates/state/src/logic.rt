@@ -1,5 +1,5 @@
 // Tests on numbers, and how they are joined.
-ghost use Rattle.core.specs.Prelude.{◌≡◌, ◌+◌, ◌-◌, ◌<◌};
+ghost use Rattle.std.specs.Prelude.{◌≡◌, ◌+◌, ◌-◌, ◌<◌};
 ghost use Rattle.rules.specs.Cell.{both, either, between, among};
 
 pub fn and(a: bool, b: bool) -> bool

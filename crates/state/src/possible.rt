@@ -1,5 +1,5 @@
 // Which states are possible.
-ghost use Rattle.core.specs.Prelude.{◌≡◌, ◌^◌, ◌≤◌, true, length, take, nat_le, nat_lt};
+ghost use Rattle.std.specs.Prelude.{◌≡◌, ◌^◌, ◌≤◌, true, length, take, nat_le, nat_lt};
 ghost use Rattle.rules.specs.Cell.{both};
 ghost use Rattle.rules.specs.Possible.{unsplit_ok, split_ok, screen_ok, attributes_ok, features_ok, pending_ok, remembered_ok, tabs_ok, core_ok, setup_ok};
 ghost use Rattle.rules.specs.Possible.{possible};

@@ -1,5 +1,5 @@
 // The active segment and its cursor.
-ghost use Rattle.core.specs.Prelude.{◌≡◌};
+ghost use Rattle.std.specs.Prelude.{◌≡◌};
 ghost use Rattle.rules.specs.Row.{row_of, column_of, row_start};
 ghost use Rattle.rules.specs.State.{width_of, segment_top, segment_bottom, segment_start, segment_end, cursor_of, with_cursor, text_start, activated};
 

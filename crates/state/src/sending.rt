@@ -1,5 +1,5 @@
 // The send under way.
-ghost use Rattle.core.specs.Prelude.{◌≡◌};
+ghost use Rattle.std.specs.Prelude.{◌≡◌};
 ghost use Rattle.rules.specs.State.{sends, sending_after};
 ghost use Rattle.rules.specs.Send.{short_command, text_command, command_of};
 ghost use Rattle.rules.specs.Possible.{short_length, narrow_only, replies_on, in_text, place_ok, sending_ok};

@@ -1,5 +1,5 @@
 // The changes of the set-up and of the gathered bytes. A place past the end changes nothing.
-ghost use Rattle.core.specs.Prelude.{◌≡◌, take, set, slice_set};
+ghost use Rattle.std.specs.Prelude.{◌≡◌, take, set, slice_set};
 ghost use Rattle.rules.specs.State.{changed, stored, gathered_after, setup_after};
 
 use crate::keys::{key_place, label_place, set_key, set_label};

@@ -1,5 +1,5 @@
 // Texts: the slots that they go into, the bytes gathered, and the texts kept.
-ghost use Rattle.core.specs.Prelude.{◌≡◌, ℕ, ◌≤◌, List, ◌++◌, length, take, replicate, slice_set};
+ghost use Rattle.std.specs.Prelude.{◌≡◌, ℕ, ◌≤◌, List, ◌++◌, length, take, replicate, slice_set};
 ghost use Rattle.rules.specs.State.{short_text, long_text, no_text, no_long};
 ghost use Rattle.rules.specs.Arguments.{is_key, is_label};
 ghost use Rattle.rules.specs.Slot.{slot_ok, slot_end, slot_most, slot_low, is_text};

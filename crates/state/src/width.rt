@@ -1,5 +1,5 @@
 // The width of a page, wide or not. Each division is by a number that is known when the program is built: these are fast.
-ghost use Rattle.core.specs.Prelude.{◌≡◌, ◌*◌, ◌/◌, ◌%◌, ◌≤◌};
+ghost use Rattle.std.specs.Prelude.{◌≡◌, ◌*◌, ◌/◌, ◌%◌, ◌≤◌};
 ghost use Rattle.rules.specs.Row.{columns as columns_of};
 
 // The cells of a narrow page, and the columns that ESC = and ESC - reach at either width.

@@ -1,6 +1,6 @@
 -- Demand 3 of the code: what calls whose promises hold give is what the rules give, so two such terminals are indistinguishable.
 -- Assumes nothing.
-use Rattle.core.specs.Prelude.{◌≡◌, ℕ, List, length, take}
+use Rattle.std.specs.Prelude.{◌≡◌, ℕ, List, length, take}
 use mathlib.Core.Path.{refl, ap, subst₂}
 use lib.Seq.{take-append_seam}
 use Rattle.rules.specs.declared.State.{State}

@@ -1,6 +1,6 @@
 -- Demand 3 of the code with row lists: what calls whose promises hold give is what the rules give.
 -- Assumes nothing.
-use Rattle.core.specs.Prelude.{◌≡◌, ℕ, List}
+use Rattle.std.specs.Prelude.{◌≡◌, ℕ, List}
 use mathlib.Core.Path.{refl, ap, subst₂}
 use Rattle.rules.specs.Calls.{Given, Called, of_step, of_run}
 use Rattle.rules.specs.RowCalls.{Session, RowCall, row_call_rule, RowPlayed, row_after, row_play}

@@ -1,6 +1,6 @@
 -- The fast path: host bytes that are carried out without a plan for each. It goes on in one segment while nothing is under way, and the cursor lands
 -- on open cells alone. An ESC = out of the segment is refused on the way.
-use Rattle.core.specs.Prelude.{◌≡◌, ℕ, ◌+◌, ◌-◌, ◌*◌, ◌<◌, ◌≤◌, Bool, true, false, ◌⊎◌, List, length, get_or, slice_index, slice_index_or}
+use Rattle.std.specs.Prelude.{◌≡◌, ℕ, ◌+◌, ◌-◌, ◌*◌, ◌<◌, ◌≤◌, Bool, true, false, ◌⊎◌, List, length, get_or, slice_index, slice_index_or}
 use Rattle.rules.specs.declared.Contents.TheVariants as Contents
 use Rattle.rules.specs.declared.Core.{Core}
 use Rattle.rules.specs.declared.Pending.TheVariants as Pending

@@ -1,5 +1,5 @@
 -- What the loop over host bytes promises on a good page and state.
-use Rattle.core.specs.Prelude.{ℕ, Bool, true, false, not, List}
+use Rattle.std.specs.Prelude.{ℕ, Bool, true, false, not, List}
 use Rattle.rules.specs.declared.Core.{Core}
 use Rattle.rules.specs.declared.Setup.{Setup}
 use Rattle.rules.specs.declared.State.{State}

@@ -1,5 +1,5 @@
 -- Demand 3 of the code, the statement: two terminals run by the same calls, whose promises hold, are indistinguishable.
-use Rattle.core.specs.Prelude.{◌≡◌, ℕ, true, false, List, [], ◌∷◌, length, take, drop}
+use Rattle.std.specs.Prelude.{◌≡◌, ℕ, true, false, List, [], ◌∷◌, length, take, drop}
 use Rattle.rules.specs.declared.State.{State}
 use Rattle.rules.specs.declared.StepResult.{StepResult}
 use Rattle.rules.specs.declared.RunResult.{RunResult}

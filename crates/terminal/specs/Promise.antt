@@ -1,5 +1,5 @@
 -- What the public calls promise: every field of the result, every cell of the page and every byte of the room are those of the rules.
-use Rattle.core.specs.Prelude.{◌≡◌, ℕ, ◌≤◌, List, [], length, drop, nat_le}
+use Rattle.std.specs.Prelude.{◌≡◌, ℕ, ◌≤◌, List, [], length, drop, nat_le}
 use Rattle.rules.specs.declared.PowerOn.{PowerOn}
 use Rattle.rules.specs.declared.StepResult.{StepResult}
 use Rattle.rules.specs.declared.RunResult.{RunResult}

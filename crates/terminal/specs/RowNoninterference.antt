@@ -1,5 +1,5 @@
 -- Demand 3 of the code with row lists, the statement: two terminals that start with the same list, run by the same calls, whose promises hold.
-use Rattle.core.specs.Prelude.{◌≡◌, ℕ, Bool, true, false, List, [], ◌∷◌, length}
+use Rattle.std.specs.Prelude.{◌≡◌, ℕ, Bool, true, false, List, [], ◌∷◌, length}
 use Rattle.rules.specs.declared.State.{State}
 use Rattle.rules.specs.declared.Answer.{Answer}
 use Rattle.rules.specs.declared.StepResult.{StepResult}

@@ -1,5 +1,5 @@
 -- The row list beside a run of text.
-use Rattle.core.specs.Prelude.{◌≡◌, ℕ, Bool, true, not, ◌⊎◌, List, length}
+use Rattle.std.specs.Prelude.{◌≡◌, ℕ, Bool, true, not, ◌⊎◌, List, length}
 use Rattle.rules.specs.Cell.{both, either}
 use Rattle.rules.specs.RowList.{row_list}
 

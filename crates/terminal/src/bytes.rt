@@ -1,7 +1,7 @@
 // The send under way and the loop over host bytes, on a good page and state. The core, the gathered bytes and the set-up are three locals: a byte
 // is handed the tab stops alone, and the others are touched only where a byte changes them. They are read from the state first and put into the
 // result last, in one function: the state is long, and each function between would copy it.
-ghost use Rattle.core.specs.Prelude.{◌≡◌, ◌*◌, ◌<◌, true, length, ◌==◌};
+ghost use Rattle.std.specs.Prelude.{◌≡◌, ◌*◌, ◌<◌, true, length, ◌==◌};
 ghost use Rattle.rules.specs.Row.{columns};
 ghost use Rattle.rules.specs.State.{number, width_of, page_length, sends};
 ghost use Rattle.rules.specs.Possible.{screen_ok, good};

@@ -5,7 +5,7 @@ mod edits; // what it edits and clears
 mod moves; // where it moves the cursor
 mod text; // text that it stores
 
-ghost use Rattle.core.specs.Prelude.{◌≡◌, ◌<◌, ◌≤◌, true, length, slice_index};
+ghost use Rattle.std.specs.Prelude.{◌≡◌, ◌<◌, ◌≤◌, true, length, slice_index};
 ghost use Rattle.rules.specs.Cell.{pick};
 ghost use Rattle.rules.specs.Row.{wide_cells};
 ghost use Rattle.rules.specs.Possible.{screen_ok};

@@ -1,6 +1,6 @@
 // One byte on a good page and state. The gathered bytes and the set-up are not handed through: the inner step sees the tab stops and gives the
 // change.
-ghost use Rattle.core.specs.Prelude.{◌≡◌, ℕ, ◌<◌, true, List, [], length};
+ghost use Rattle.std.specs.Prelude.{◌≡◌, ℕ, ◌<◌, true, List, [], length};
 ghost use Rattle.rules.specs.State.{number, width_of, page_length, idle as idleOf};
 ghost use Rattle.rules.specs.RowList.{Beside};
 ghost use Rattle.rules.specs.Search.{guarded_at};

@@ -1,5 +1,5 @@
 // What a key sends.
-ghost use Rattle.core.specs.Prelude.{◌≡◌, ◌≤◌, length, nat_le};
+ghost use Rattle.std.specs.Prelude.{◌≡◌, ◌≤◌, length, nat_le};
 ghost use Rattle.rules.specs.Cell.{pick};
 ghost use Rattle.rules.specs.Calls.{key_sends};
 ghost use Rattle.rules.specs.Room.{over};

@@ -10,7 +10,7 @@ mod key; // what a key sends
 mod sequence; // awaited bytes
 mod width; // the state at the other width
 
-ghost use Rattle.core.specs.Prelude.{◌≡◌, true, length, drop};
+ghost use Rattle.std.specs.Prelude.{◌≡◌, true, length, drop};
 ghost use Rattle.rules.specs.Cell.{both};
 ghost use Rattle.rules.specs.Search.{guarded_at};
 ghost use Rattle.rules.specs.State.{number, width_of};

@@ -1,5 +1,5 @@
 // The awaited bytes of a sequence, without a turn of the loop over host bytes for each.
-ghost use Rattle.core.specs.Prelude.{◌≡◌, ℕ, ◌≤◌, true, List, length};
+ghost use Rattle.std.specs.Prelude.{◌≡◌, ℕ, ◌≤◌, true, List, length};
 ghost use Rattle.rules.specs.Possible.{pending_ok};
 ghost use Rattle.terminal.specs.Sequence.{Waits, Reads};
 

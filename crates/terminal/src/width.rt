@@ -1,5 +1,5 @@
 // The conversion to the other width.
-ghost use Rattle.core.specs.Prelude.{◌≡◌, ◌*◌, length};
+ghost use Rattle.std.specs.Prelude.{◌≡◌, ◌*◌, length};
 ghost use Rattle.rules.specs.Row.{columns as columns_of};
 ghost use Rattle.rules.specs.Search.{guarded_at, settled};
 ghost use Rattle.rules.specs.Convert.{other_width, stops_within, state_on};

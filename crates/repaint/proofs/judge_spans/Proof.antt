@@ -3,7 +3,7 @@
 -- All that the walk knows of the two is that each meets its contract. The pages and the slice are Copy: what each owns is had twice before a call,
 -- and one copy is kept.
 -- Assumes nothing.
-use Rattle.core.specs.Prelude.{◌≡◌, ℕ, ◌+◌, ◌-◌, ◌*◌, ◌^◌, ◌<◌, ◌≤◌, Bool, true, false, ltb, List, [], ◌∷◌, length, drop as dropped}
+use Rattle.std.specs.Prelude.{◌≡◌, ℕ, ◌+◌, ◌-◌, ◌*◌, ◌^◌, ◌<◌, ◌≤◌, Bool, true, false, ltb, List, [], ◌∷◌, length, drop as dropped}
 use mathlib.Core.Path.{refl, sym, ap}
 use Prim.Native.Nat.{zero-le}
 use native.Mathlib.Omega.{arith}

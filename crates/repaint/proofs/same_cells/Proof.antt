@@ -1,5 +1,5 @@
 -- `repaint::same_cells` meets its contract: what is left to compare has the answer of the whole. Assumes nothing.
-use Rattle.core.specs.Prelude.{◌≡◌, ◌-◌, ◌≤◌}
+use Rattle.std.specs.Prelude.{◌≡◌, ◌-◌, ◌≤◌}
 use mathlib.Core.Path.{◌∙◌}
 use native.Mathlib.Omega.{arith}
 use Rattle.repaint.specs.pass.{equal, alike}

@@ -1,5 +1,5 @@
 -- `terminal::convert` meets its contract.
-use Rattle.core.specs.Prelude.{◌≡◌, ℕ, ◌*◌, true, eqb, List, length}
+use Rattle.std.specs.Prelude.{◌≡◌, ℕ, ◌*◌, true, eqb, List, length}
 use mathlib.Core.Path.{sym, ap, ap₂, ◌∙◌}
 use borrow.Author.Rules.{rules}
 use borrow.Author.Tests.{not-true, not-false}

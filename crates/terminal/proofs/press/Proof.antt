@@ -1,5 +1,5 @@
 -- `terminal::press` meets its contract.
-use Rattle.core.specs.Prelude.{◌≡◌, true, false}
+use Rattle.std.specs.Prelude.{◌≡◌, true, false}
 use mathlib.Core.Path.{sym, ◌∙◌}
 use borrow.Author.Tests.{not-true, not-false}
 use Rattle.rules.specs.possible.{good}

@@ -1,5 +1,5 @@
 -- `terminal::rebuild_rows` meets its contract.
-use Rattle.core.specs.Prelude.{◌≡◌, eqb, length}
+use Rattle.std.specs.Prelude.{◌≡◌, eqb, length}
 use mathlib.Core.Path.{sym, ap, ◌∙◌}
 use borrow.Author.Rules.{rules}
 use borrow.Author.Tests.{not-true, not-false}

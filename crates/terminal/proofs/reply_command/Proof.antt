@@ -1,6 +1,6 @@
 -- `terminal::reply_command` meets its contract.
 use mathlib.Core.Path.{sym, ◌∙◌}
-use Rattle.core.specs.Prelude.{◌<◌, ◌≤◌, length}
+use Rattle.std.specs.Prelude.{◌<◌, ◌≤◌, length}
 use native.Mathlib.Omega.{arith}
 use borrow.Author.Rules.{rules}
 use Rattle.terminal.proofs.Calls.{told_nothing, told_send, told_none, told_byte, past}

@@ -1,6 +1,6 @@
 -- `terminal::run` meets its contract.
 use mathlib.Core.Logic.{inl}
-use Rattle.core.specs.Prelude.{false}
+use Rattle.std.specs.Prelude.{false}
 use mathlib.Core.Path.{refl, sym, ◌∙◌}
 use borrow.Author.Tests.{not-true, not-false}
 use Rattle.terminal.proofs.Calls.{run_refused}

@@ -1,6 +1,6 @@
 -- `terminal::step` meets its contract.
 use mathlib.Core.Logic.{inl}
-use Rattle.core.specs.Prelude.{◌≡◌, true}
+use Rattle.std.specs.Prelude.{◌≡◌, true}
 use mathlib.Core.Path.{refl, sym, ◌∙◌}
 use borrow.Author.Tests.{not-true, not-false}
 use Rattle.rules.specs.possible.{good}

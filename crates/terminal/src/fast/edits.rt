@@ -1,5 +1,5 @@
 // What the fast path edits and clears: a plan with no core in it.
-ghost use Rattle.core.specs.Prelude.{◌≡◌, ℕ, ◌<◌, ◌≤◌, Bool, List};
+ghost use Rattle.std.specs.Prelude.{◌≡◌, ℕ, ◌<◌, ◌≤◌, Bool, List};
 ghost use Rattle.rules.specs.Cell.{pick};
 ghost use Rattle.rules.specs.Row.{height, columns as columns_of, wide_cells, row_end};
 ghost use Rattle.rules.specs.declared.Write.TheVariants as Write;

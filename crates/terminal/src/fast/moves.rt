@@ -1,5 +1,5 @@
 // Where the fast path moves the cursor: ESC =, the moves of one byte, and the scrolls of 0Ah and 1Fh.
-ghost use Rattle.core.specs.Prelude.{◌≡◌, ℕ, ◌+◌, ◌-◌, ◌*◌, ◌<◌, ◌≤◌, true, false, List, length, slice_index};
+ghost use Rattle.std.specs.Prelude.{◌≡◌, ℕ, ◌+◌, ◌-◌, ◌*◌, ◌<◌, ◌≤◌, true, false, List, length, slice_index};
 ghost use Rattle.rules.specs.Cell.{both, among as amongOf};
 ghost use Rattle.rules.specs.Row.{height, columns as columns_of, addressed, row_start, wide_cells};
 ghost use Rattle.terminal.specs.FastPath.{Fits, open_at, Addressed, Outside, Goes, Rolled};

@@ -1,5 +1,5 @@
 // Text that the fast path stores, or in insert mode inserts, from the cursor on.
-ghost use Rattle.core.specs.Prelude.{◌≡◌, ℕ, ◌+◌, ◌<◌, ◌≤◌, true, false, length};
+ghost use Rattle.std.specs.Prelude.{◌≡◌, ℕ, ◌+◌, ◌<◌, ◌≤◌, true, false, length};
 ghost use Rattle.terminal.specs.FastPath.{Fits, Stored, Passes};
 
 use crate::fast::{Ground, Reached};

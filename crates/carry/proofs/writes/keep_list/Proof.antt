@@ -1,7 +1,7 @@
 -- `carry::writes::keep_list` meets its contract.
 use mathlib.Core.Logic.{inl, inr}
 use mathlib.Core.Path.{ap}
-use Rattle.core.specs.Prelude.{Bool}
+use Rattle.std.specs.Prelude.{Bool}
 use Rattle.rules.specs.Search.{guarded_at}
 use Rattle.page.proofs.RowList.{listed_length, beside_is}
 use Rattle.carry.proofs.Guards.{same_mode}

@@ -1,6 +1,6 @@
 -- `carry::writes::write_both` meets its contract.
 use mathlib.Core.Logic.{inl, inr}
-use Rattle.core.specs.Prelude.{◌≡◌, ℕ, true, length}
+use Rattle.std.specs.Prelude.{◌≡◌, ℕ, true, length}
 use mathlib.Core.Path.{refl, sym, ap, subst₂, ◌∙◌}
 use mathlib.Core.Bool.{beq}
 use native.Mathlib.Omega.{arith}

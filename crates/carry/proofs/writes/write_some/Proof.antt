@@ -1,5 +1,5 @@
 -- `carry::writes::write_some` meets its contract.
-use Rattle.core.specs.Prelude.{◌≡◌}
+use Rattle.std.specs.Prelude.{◌≡◌}
 use mathlib.Core.Path.{sym, ap}
 use Rattle.rules.specs.declared.write.{Write}
 use Rattle.rules.specs.Carry.{applied}

@@ -1,5 +1,5 @@
 -- `plan::moves::back_tab_cell` meets its contract.
-use Rattle.core.specs.Prelude.{◌≤◌, true}
+use Rattle.std.specs.Prelude.{◌≤◌, true}
 use mathlib.Core.Path.{◌∙◌}
 use native.Mathlib.Omega.{arith}
 use Rattle.rules.specs.Plan.{back_tab_cell}

@@ -1,5 +1,5 @@
 -- `plan::moves::cell_at` meets its contract.
-use Rattle.core.specs.Prelude.{◌+◌, ◌-◌}
+use Rattle.std.specs.Prelude.{◌+◌, ◌-◌}
 use native.Mathlib.Omega.{arith}
 use Rattle.rules.proofs.Rows.{columns_width, width_range, rows_small}
 use borrow.Author.Rules.{rules}

@@ -1,6 +1,6 @@
 -- `plan::windows::split` meets its contract.
 use mathlib.Core.Path.{sym, ◌∙◌}
-use Rattle.core.specs.Prelude.{◌+◌, ◌<◌, ◌≤◌}
+use Rattle.std.specs.Prelude.{◌+◌, ◌<◌, ◌≤◌}
 use native.Mathlib.Omega.{arith}
 use borrow.Author.Rules.{rules}
 use Rattle.rules.specs.Plan.{window_plan}

@@ -1,6 +1,6 @@
 -- `repaint::feeding::is_clean` meets its contract.
 use mathlib.Core.Path.{ap, ap₂, ◌∙◌}
-use Rattle.core.specs.Prelude.{ℕ, eqb}
+use Rattle.std.specs.Prelude.{ℕ, eqb}
 use borrow.Author.Rules.{rules}
 use Rattle.rules.specs.Cell.{both}
 use Rattle.repaint.proofs.feeding.is_clean.Statement.{statement}

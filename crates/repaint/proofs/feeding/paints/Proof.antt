@@ -1,7 +1,7 @@
 -- `repaint::feeding::paints` meets its contract: what the run gives is the rules' own.
 use mathlib.Core.Path.{refl, ap}
 use native.Mathlib.Omega.{arith}
-use Rattle.core.specs.Prelude.{length}
+use Rattle.std.specs.Prelude.{length}
 use borrow.Author.Rules.{rules}
 use Rattle.repaint.proofs.Leading.{over_all, paints_made}
 use Rattle.repaint.proofs.feeding.paints.Statement.{statement}

@@ -1,6 +1,6 @@
 -- `repaint::painter::has_room` meets its contract.
 use mathlib.Core.Path.{ap, ◌∙◌}
-use Rattle.core.specs.Prelude.{Bool, leb}
+use Rattle.std.specs.Prelude.{Bool, leb}
 use borrow.Author.Rules.{rules}
 use Rattle.rules.specs.Cell.{both}
 use Rattle.repaint.proofs.painter.has_room.Statement.{statement}

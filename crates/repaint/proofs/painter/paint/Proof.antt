@@ -1,5 +1,5 @@
 -- `repaint::painter::paint` meets its contract.
-use Rattle.core.specs.Prelude.{◌-◌}
+use Rattle.std.specs.Prelude.{◌-◌}
 use native.Mathlib.Omega.{arith}
 use Rattle.repaint.proofs.Forwards.{Going, going_begin, end_range, nearer, span_fits, span_few, bytes_fit, going_on, going_done}
 use Rattle.repaint.proofs.painter.paint.Statement.{statement}

@@ -1,7 +1,7 @@
 -- `repaint::painter::put_cell` meets its contract.
 use mathlib.Core.Path.{ap}
 use native.Mathlib.Omega.{arith}
-use Rattle.core.specs.Prelude.{length}
+use Rattle.std.specs.Prelude.{length}
 use borrow.Author.Rules.{rules}
 use Rattle.repaint.proofs.Forwards.{cell_same, cell_other, put_same, put_other}
 use Rattle.repaint.proofs.painter.put_cell.Statement.{statement}

@@ -1,5 +1,5 @@
 -- `repaint::painter::put_cells` meets its contract.
-use Rattle.core.specs.Prelude.{◌-◌, length}
+use Rattle.std.specs.Prelude.{◌-◌, length}
 use native.Mathlib.Omega.{arith}
 use borrow.Author.Rules.{rules}
 use Rattle.repaint.proofs.Forwards.{Cells, cells_begin, cells_fit, cells_go, cells_done}

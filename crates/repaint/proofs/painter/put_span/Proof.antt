@@ -1,6 +1,6 @@
 -- `repaint::painter::put_span` meets its contract.
 use mathlib.Core.Path.{refl}
-use Rattle.core.specs.Prelude.{◌+◌, ◌-◌}
+use Rattle.std.specs.Prelude.{◌+◌, ◌-◌}
 use native.Mathlib.Omega.{arith}
 use borrow.Author.Rules.{rules}
 use Rattle.repaint.proofs.Forwards.{span_some, span_none}

@@ -1,5 +1,5 @@
 -- `repaint::painter::put_stretch` meets its contract.
-use Rattle.core.specs.Prelude.{◌-◌, drop}
+use Rattle.std.specs.Prelude.{◌-◌, drop}
 use native.Mathlib.Omega.{arith}
 use lib.ListN.{length-take}
 use borrow.Author.Rules.{rules}

@@ -1,5 +1,5 @@
 -- `state::decode::slot` meets its contract.
-use Rattle.core.specs.Prelude.{◌≡◌}
+use Rattle.std.specs.Prelude.{◌≡◌}
 use mathlib.Core.Path.{sym, ap, ◌∙◌}
 use Rattle.rules.specs.decode.{slot_rule}
 use borrow.Author.Rules.{rules}

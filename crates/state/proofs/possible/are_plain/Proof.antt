@@ -1,5 +1,5 @@
 -- `state::possible::are_plain` meets its contract. The loops: if the first 8 i and j keys are plain, those behind them decide.
-use Rattle.core.specs.Prelude.{◌+◌, ◌-◌, ◌*◌, ◌≤◌}
+use Rattle.std.specs.Prelude.{◌+◌, ◌-◌, ◌*◌, ◌≤◌}
 use native.Mathlib.Omega.{arith}
 use borrow.Author.Rules.{rules}
 use Rattle.state.proofs.plain.{Plain, begin, go, at, finish}

@@ -1,5 +1,5 @@
 -- `state::possible::attributes_ok` meets its contract: the array is its four elements.
-use Rattle.core.specs.Prelude.{◌≡◌, length}
+use Rattle.std.specs.Prelude.{◌≡◌, length}
 use mathlib.Core.Path.{◌∙◌}
 use Rattle.state.proofs.Tests.{both_true}
 use Rattle.state.proofs.Lists.{elements}

@@ -1,5 +1,5 @@
 -- `state::possible::is_plain` meets its contract.
-use Rattle.core.specs.Prelude.{◌≡◌, length}
+use Rattle.std.specs.Prelude.{◌≡◌, length}
 use borrow.Author.Rules.{rules}
 use Rattle.state.proofs.plain.{chained}
 use Rattle.state.proofs.possible.is_plain.Statement.{statement}

@@ -1,5 +1,5 @@
 -- `state::possible::power_of_ten` meets its contract.
-use Rattle.core.specs.Prelude.{◌≡◌, ℕ, ◌^◌}
+use Rattle.std.specs.Prelude.{◌≡◌, ℕ, ◌^◌}
 use mathlib.Core.Path.{sym, ap}
 use native.Mathlib.Omega.{arith}
 use Rattle.state.proofs.possible.power_of_ten.Statement.{statement}

@@ -1,5 +1,5 @@
 -- `state::possible::tabs_ok` meets its contract. The loop: no stop was seen, and the tab stops from i on decide.
-use Rattle.core.specs.Prelude.{◌≡◌, suc, ◌-◌, ◌<◌, ◌≤◌, Bool, true, false, not, length, get_or, drop}
+use Rattle.std.specs.Prelude.{◌≡◌, suc, ◌-◌, ◌<◌, ◌≤◌, Bool, true, false, not, length, get_or, drop}
 use mathlib.Core.Path.{refl, sym, ◌∙◌}
 use native.Mathlib.Omega.{arith}
 use native.Mathlib.Numerals.{add-one}

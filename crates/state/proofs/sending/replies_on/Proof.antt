@@ -1,6 +1,6 @@
 -- `state::sending::replies_on` meets its contract.
 use mathlib.Core.Path.{ap, ◌∙◌}
-use Rattle.core.specs.Prelude.{Bool, not}
+use Rattle.std.specs.Prelude.{Bool, not}
 use Rattle.rules.specs.Cell.{both}
 use borrow.Author.Rules.{rules}
 use Rattle.state.proofs.sending.replies_on.Statement.{statement}

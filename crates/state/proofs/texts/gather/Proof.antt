@@ -1,5 +1,5 @@
 -- `state::texts::gather` meets its contract.
-use Rattle.core.specs.Prelude.{◌≡◌, length, take}
+use Rattle.std.specs.Prelude.{◌≡◌, length, take}
 use mathlib.Core.Path.{sym, ap, ◌∙◌}
 use native.Mathlib.Omega.{arith}
 use lib.Seq.{set_out}

@@ -1,5 +1,5 @@
 -- `state::texts::short_text` meets its contract.
-use Rattle.core.specs.Prelude.{◌≡◌, length, take}
+use Rattle.std.specs.Prelude.{◌≡◌, length, take}
 use mathlib.Core.Path.{sym, ap, ◌∙◌}
 use native.Mathlib.Omega.{arith}
 use Rattle.state.proofs.Gathered.{short_is}

@@ -1,5 +1,5 @@
 -- `state::texts::slot_end` meets its contract.
-use Rattle.core.specs.Prelude.{◌≡◌}
+use Rattle.std.specs.Prelude.{◌≡◌}
 use mathlib.Core.Path.{sym, ap, ◌∙◌}
 use Rattle.rules.specs.slot.{slot_end}
 use borrow.Author.Rules.{rules}

@@ -1,5 +1,5 @@
 -- `state::texts::slot_most` meets its contract.
-use Rattle.core.specs.Prelude.{◌≡◌}
+use Rattle.std.specs.Prelude.{◌≡◌}
 use mathlib.Core.Path.{sym, ap, ◌∙◌}
 use Rattle.rules.specs.slot.{slot_most}
 use borrow.Author.Rules.{rules}

@@ -1,5 +1,5 @@
 -- `state::texts::zeroed` meets its contract. The loop: up to i the bytes are those of the key with zeros behind them.
-use Rattle.core.specs.Prelude.{◌≡◌, ◌-◌, ◌≤◌, length, take, replicate}
+use Rattle.std.specs.Prelude.{◌≡◌, ◌-◌, ◌≤◌, length, take, replicate}
 use mathlib.Core.Path.{sym, ◌∙◌}
 use native.Mathlib.Omega.{arith}
 use lib.ListN.{length-set}

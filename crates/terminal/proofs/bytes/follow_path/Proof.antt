@@ -1,5 +1,5 @@
 -- `terminal::bytes::follow_path` meets its contract.
-use Rattle.core.specs.Prelude.{not}
+use Rattle.std.specs.Prelude.{not}
 use mathlib.Core.Logic.{inl, inr}
 use mathlib.Core.Path.{sym, ap, ◌∙◌}
 use borrow.Author.Rules.{rules}

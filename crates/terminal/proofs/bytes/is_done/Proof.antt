@@ -1,5 +1,5 @@
 -- `terminal::bytes::is_done` meets its contract.
-use Rattle.core.specs.Prelude.{◌≡◌, eqb}
+use Rattle.std.specs.Prelude.{◌≡◌, eqb}
 use mathlib.Core.Path.{sym, ap}
 use Rattle.rules.specs.declared.Answer.{Answer}
 use Rattle.rules.specs.state.{number}

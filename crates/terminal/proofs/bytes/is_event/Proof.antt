@@ -1,6 +1,6 @@
 -- `terminal::bytes::is_event` meets its contract.
 use mathlib.Core.Path.{ap, ◌∙◌}
-use Rattle.core.specs.Prelude.{Bool, not, eqb}
+use Rattle.std.specs.Prelude.{Bool, not, eqb}
 use Rattle.rules.specs.Cell.{both}
 use borrow.Author.Rules.{rules}
 use Rattle.terminal.proofs.bytes.is_event.Statement.{statement}

@@ -1,5 +1,5 @@
 -- `terminal::bytes::refusals` meets its contract.
-use Rattle.core.specs.Prelude.{◌≡◌}
+use Rattle.std.specs.Prelude.{◌≡◌}
 use mathlib.Core.Path.{sym, ap}
 use Rattle.rules.specs.declared.Answer.{Answer}
 use Rattle.rules.specs.state.{number}

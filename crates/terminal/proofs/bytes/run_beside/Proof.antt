@@ -1,6 +1,6 @@
 -- `terminal::bytes::run_beside` meets its contract. The loop: what the send and the bytes taken gave, and the repeated step on the rest, are the
 -- whole run; and a row list beside the page is the page's.
-use Rattle.core.specs.Prelude.{◌≡◌, ℕ, ◌+◌, ◌-◌, ◌<◌, ◌≤◌, Bool, true, eqb, List, length}
+use Rattle.std.specs.Prelude.{◌≡◌, ℕ, ◌+◌, ◌-◌, ◌<◌, ◌≤◌, Bool, true, eqb, List, length}
 use mathlib.Core.Path.{refl, sym, ap, ap₂, ◌∙◌}
 use native.Mathlib.Omega.{arith}
 use Rattle.rules.specs.state.{number, width_of, sends}

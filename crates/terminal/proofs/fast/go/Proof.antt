@@ -1,5 +1,5 @@
 -- `terminal::fast::go` meets its contract.
-use Rattle.core.specs.Prelude.{◌≡◌, ℕ, ◌*◌, false}
+use Rattle.std.specs.Prelude.{◌≡◌, ℕ, ◌*◌, false}
 use mathlib.Core.Path.{refl, sym, ap, ◌∙◌}
 use native.Mathlib.Omega.{arith}
 use Rattle.rules.proofs.Rows.{columns_width}

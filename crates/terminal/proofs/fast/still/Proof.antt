@@ -1,6 +1,6 @@
 -- `terminal::fast::still` meets its contract.
 use mathlib.Core.Path.{ap}
-use Rattle.core.specs.Prelude.{ℕ}
+use Rattle.std.specs.Prelude.{ℕ}
 use Rattle.terminal.specs.declared.fast.Passed.{Passed}
 use borrow.Author.Rules.{rules}
 use Rattle.terminal.proofs.fast.still.Statement.{statement}

@@ -1,5 +1,5 @@
 -- `terminal::sequence::awaited` meets its contract. The loop: the bytes up to i are awaited, and leave q under way.
-use Rattle.core.specs.Prelude.{◌-◌, ◌≤◌, length}
+use Rattle.std.specs.Prelude.{◌-◌, ◌≤◌, length}
 use mathlib.Core.Path.{sym, ◌∙◌}
 use native.Mathlib.Omega.{arith}
 use Rattle.terminal.specs.sequence.{Waits, begun, next}

@@ -1,6 +1,6 @@
 -- `terminal::fast::edits::edit` meets its contract.
 use mathlib.Core.Path.{refl}
-use Rattle.core.specs.Prelude.{true, false}
+use Rattle.std.specs.Prelude.{true, false}
 use native.Mathlib.Omega.{arith}
 use Rattle.rules.proofs.Rows.{columns_width, width_range}
 use Rattle.terminal.specs.fast_path.{clears_row, clears_rest}

@@ -1,5 +1,5 @@
 -- `terminal::fast::edits::line_end` meets its contract.
-use Rattle.core.specs.Prelude.{◌≡◌, ℕ, ◌+◌}
+use Rattle.std.specs.Prelude.{◌≡◌, ℕ, ◌+◌}
 use mathlib.Core.Path.{sym, ap₂, ◌∙◌}
 use native.Mathlib.Omega.{arith}
 use Rattle.rules.proofs.Rows.{columns_width, width_range}

@@ -1,5 +1,5 @@
 -- `terminal::fast::moves::goal` meets its contract.
-use Rattle.core.specs.Prelude.{◌≡◌, ℕ, ◌+◌}
+use Rattle.std.specs.Prelude.{◌≡◌, ℕ, ◌+◌}
 use mathlib.Core.Path.{refl, ap, ap₂}
 use native.Mathlib.Omega.{arith}
 use Rattle.rules.proofs.Rows.{columns_width, width_range}

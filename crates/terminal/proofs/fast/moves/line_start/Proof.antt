@@ -1,5 +1,5 @@
 -- `terminal::fast::moves::line_start` meets its contract.
-use Rattle.core.specs.Prelude.{◌≡◌, ℕ, ◌-◌}
+use Rattle.std.specs.Prelude.{◌≡◌, ℕ, ◌-◌}
 use mathlib.Core.Path.{ap}
 use Rattle.rules.proofs.Rows.{columns_width, column_most}
 use borrow.Author.Rules.{rules}
