@@ -14,7 +14,6 @@ use Rattle.rules.specs.State.{key_place, short_text, long_text}
 use Rattle.rules.specs.Arguments.{is_key}
 use Rattle.rules.specs.Slot.{slot_most}
 use Rattle.rules.specs.declared.Slot.{Slot}
-use Rattle.rules.specs.declared.Slot.TheVariants as Slot
 use Rattle.state.proofs.Tests.{either_cases, between_range}
 
 -- the place of a key's value

@@ -10,7 +10,6 @@ use Rattle.rules.specs.Decode.{lookup}
 use Rattle.rules.specs.declared.Decoded.{Decoded}
 use Rattle.rules.specs.Possible.{pending_ok}
 use Rattle.rules.specs.declared.Pending.{Pending}
-use Rattle.rules.specs.declared.Pending.TheVariants as Pending
 use Rattle.state.proofs.Tests.{pick_false, both_right}
 
 -- what the last arm of a `match` on a number knows: the number is none of the keys, the last key outermost

@@ -1,0 +1,13 @@
+-- `state::possible::text_ok` meets its contract.
+use Rattle.std.specs.Prelude.{◌≡◌, ◌-◌, ◌≤◌}
+use lib.Seq.{slice}
+use Rattle.rules.specs.Slot.{all_text}
+use Rattle.state.proofs.possible.text_ok.Given as goal
+
+abbrev pub invariant-loop-i : goal.invariant-loop-i
+invariant-loop-i l =
+    (l.i ≤ l.n) × (all_text l.low (slice 0 l.n l.bytes) ≡ all_text l.low (slice l.i l.n l.bytes))
+
+abbrev pub decreases-loop-i : goal.decreases-loop-i
+decreases-loop-i l =
+    l.n - l.i

@@ -1,0 +1,15 @@
+-- `state::texts::short_text` meets its contract.
+use Rattle.std.specs.Prelude.{◌≡◌, length}
+use Rattle.state.proofs.Gathered.{short_is}
+use borrow.Author.Rules.{rules}
+use Rattle.state.proofs.texts.short_text.Goals as goal
+
+pub zeroed-requires : goal.zeroed-requires
+zeroed-requires c = c.fewer-m.ensures.0
+
+pub returns : goal.returns
+returns c =
+    let e : length c.args.gathered ≡ 46 = search rules in
+    rw (c.first-t.ensures, c.zeroed.ensures)
+    (short_is c.fewer-m.result c.args.n c.args.gathered e
+    c.fewer-m.ensures.0 (c.fewer-m.ensures.1 c.args.gathered e))
