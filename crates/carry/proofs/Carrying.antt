@@ -15,7 +15,6 @@ use Rattle.rules.specs.Carry.{Effect, quiet, applied, plan_width, landed, done, 
 use Rattle.rules.specs.Room.{over}
 use Rattle.rules.specs.declared.Core.{Core}
 use Rattle.rules.specs.declared.Land.{Land}
-use Rattle.rules.specs.declared.Land.TheVariants as Land
 use Rattle.rules.specs.declared.Modes.{Modes}
 use Rattle.rules.specs.declared.Plan.{Plan}
 use Rattle.rules.specs.declared.Sending.{Sending}

@@ -2,7 +2,7 @@
 --     guards_set         one cell is stored
 --     kept_guards, mode_kept     a write that leaves them; and the mode after it
 -- Assumes nothing.
-use Rattle.std.specs.Prelude.{◌≡◌, ℕ, zero, suc, ◌+◌, ◌-◌, ◌*◌, ◌<◌, ◌≤◌, Bool, true, false, not, List, [], ◌∷◌, ◌++◌, length, get_or, take, drop, set, replicate}
+use Rattle.std.specs.Prelude.{◌≡◌, ℕ, zero, suc, ◌+◌, ◌-◌, ◌*◌, Bool, true, false, List, [], ◌∷◌, ◌++◌, length, get_or, take, drop, set, replicate}
 use mathlib.Core.Path.{refl, sym, ap, ap₂, ◌∙◌}
 use mathlib.Core.Bool.{false≢true, beq}
 use native.Mathlib.Nat.{sub-zero, suc_inj, suc-ne-zero}
@@ -12,7 +12,6 @@ use lib.ListN.{length-replicate, replicate-append-replicate, take-append-drop}
 use lib.Seq.{take-nil}
 use borrow.Author.Tests.{not-true}
 use Rattle.rules.specs.declared.Write.{Write}
-use Rattle.rules.specs.declared.Write.TheVariants as Write
 use Rattle.rules.specs.Cell.{pick, both, guarded}
 use Rattle.rules.specs.Row.{row_end}
 use Rattle.rules.specs.Search.{guarded_at, which_cells, first_true, first_in, edit_end}

@@ -7,7 +7,6 @@ use mathlib.Core.Path.{subst, ◌∙◌}
 use native.Mathlib.Omega.{arith}
 use Rattle.rules.specs.declared.Screen.{Screen}
 use Rattle.rules.specs.declared.Land.{Land}
-use Rattle.rules.specs.declared.Land.TheVariants as Land
 use Rattle.rules.specs.Row.{Width}
 use Rattle.rules.specs.RowList.{row_list}
 use Rattle.rules.specs.Search.{guarded_at, settled}

@@ -3,7 +3,7 @@
 --     row_small         a row, by a cell of it
 --     others_kept       the row list has the numbers of the others
 -- Assumes nothing.
-use Rattle.std.specs.Prelude.{◌≡◌, ℕ, suc, ◌+◌, ◌-◌, ◌*◌, ◌/◌, ◌<◌, ◌≤◌, Bool, false, ◌⊎◌, List, ◌++◌, length, get_or, take, drop}
+use Rattle.std.specs.Prelude.{◌≡◌, ℕ, ◌+◌, ◌-◌, ◌*◌, ◌/◌, ◌<◌, ◌≤◌, Bool, ◌⊎◌, List, ◌++◌, length, get_or, take, drop}
 use mathlib.Core.Path.{refl, sym, ap, ◌∙◌}
 use mathlib.Core.Logic.{inl, inr, ⊎_elim}
 use native.Mathlib.Nat.{zero-mul, suc-mul, mul-le-mul_right}
@@ -12,7 +12,6 @@ use native.Mathlib.Omega.{arith}
 use lib.ListN.{length-take, length-drop, get_or-append}
 use lib.Seq.{length-take-le, get_or-take, get_or-drop, get_or-append-add, ext_get_or}
 use Rattle.rules.specs.declared.Write.{Write}
-use Rattle.rules.specs.declared.Write.TheVariants as Write
 use Rattle.rules.specs.Row.{Width, row_end}
 use Rattle.rules.specs.Search.{guarded_at, edit_end}
 use Rattle.rules.specs.Change.{within, filled, shifted, edit_shifted}
@@ -22,9 +21,9 @@ use Rattle.rules.specs.RowList.{open_count, first_column, row_list}
 use Rattle.rules.proofs.Rows.{by_width}
 use Rattle.rules.proofs.Searching.{length_guards, first_range}
 use Rattle.rules.proofs.Lengths.{length_filled, length_shifted, length_applied}
-use Rattle.page.specs.RowList.{row_at, RowAt, AllBut}
+use Rattle.page.specs.RowList.{row_at, AllBut}
 use Rattle.page.proofs.RowList.{guards_part, numbers_at}
-use Rattle.page.proofs.RowSearch.{Span, row_span}
+use Rattle.page.proofs.RowSearch.{row_span}
 use Rattle.carry.specs.Rows.{touched_top, touched_bottom}
 
 -- a cell's row is no greater than the cell

@@ -12,11 +12,8 @@ use lib.ListN.{length-take}
 use Rattle.rules.specs.declared.Core.{Core}
 use Rattle.rules.specs.declared.Screen.{Screen}
 use Rattle.rules.specs.declared.Short.{Short}
-use Rattle.rules.specs.declared.Short.TheVariants as Short
 use Rattle.rules.specs.declared.Place.{Place}
-use Rattle.rules.specs.declared.Place.TheVariants as Place
 use Rattle.rules.specs.declared.Sending.{Sending}
-use Rattle.rules.specs.declared.Sending.TheVariants as Sending
 use Rattle.rules.specs.Row.{Width}
 use Rattle.rules.specs.State.{width_of, page_length, cursor_of, cursor_row, cursor_column}
 use Rattle.rules.specs.Possible.{screen_ok, short_length}

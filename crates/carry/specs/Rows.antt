@@ -1,7 +1,6 @@
 -- What a byte does to the row list.
 use Rattle.std.specs.Prelude.{ℕ, ◌+◌, ◌-◌, ◌/◌, Bool, true, not, List}
 use Rattle.rules.specs.declared.Write.{Write}
-use Rattle.rules.specs.declared.Write.TheVariants as Write
 use Rattle.rules.specs.Cell.{guarded}
 use Rattle.rules.specs.Row.{height}
 use Rattle.rules.specs.Search.{guarded_at}

@@ -4,7 +4,7 @@
 use mathlib.Core.Path.{◌≡◌, refl, sym, ap, ◌∙◌}
 use mathlib.Core.Bool.{Bool, true, false, not}
 use mathlib.Core.List.{List, [], ◌∷◌, map}
-use mathlib.Core.Logic.{◌⊎◌, ⊎_elim}
+use mathlib.Core.Logic.{⊎_elim}
 use Prim.Native.Nat.{ℕ, zero, suc, ◌+◌, ◌-◌, ◌*◌, ◌/◌, ◌%◌, ◌≤◌, ◌<◌}
 use native.Mathlib.Nat.{eq-or-lt_of_le}
 use native.Mathlib.Numerals.{add-one}
@@ -14,7 +14,6 @@ use lib.ListN.{length, get_or}
 use lib.Seq.{slice, slice-cons, slice_empty}
 use borrow.Author.Tests.{le-ltb, leb-true, eq-eqb, ne_eqb, eqb-true, eqb-false}
 use Rattle.rules.specs.declared.Place.{Place}
-use Rattle.rules.specs.declared.Place.TheVariants as Place
 use Rattle.rules.specs.Cell.{kind, sent}
 use Rattle.rules.specs.Row.{Width, column_of, row_end}
 use Rattle.rules.specs.Send.{left_out, cell_place, text_places, follows_left_out, text_at, bytes_of}

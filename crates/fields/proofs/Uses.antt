@@ -1,13 +1,8 @@
 -- The uses hold, each by the statement it is of.
 -- Assumes nothing.
-use mathlib.Core.Path.{◌≡◌, refl, subst, ◌∙◌}
-use mathlib.Core.Bool.{Bool, true, false}
-use mathlib.Core.List.{List}
+use mathlib.Core.Path.{refl}
 use mathlib.Core.Logic.{inl, inr}
-use Prim.Native.Nat.{ℕ, ◌*◌, ◌<◌}
 use native.Mathlib.Omega.{arith}
-use lib.ListN.{length}
-use Rattle.rules.specs.Row.{Width}
 use Rattle.rules.specs.Search.{which_cells, first_in}
 use Rattle.rules.specs.Fields.{page_width, starts_at, next_field_rule}
 use Rattle.fields.specs.Theorems.{RoundTrip}

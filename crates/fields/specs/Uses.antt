@@ -1,5 +1,5 @@
 -- Each statement used at both widths, and what is told where there is no field, by its numbers.
-use Rattle.std.specs.Prelude.{◌≡◌, Bool, true, false, List, [], ℕ, ◌/◌, ◌%◌, ◌*◌, ◌≤◌, ◌<◌, length, replicate}
+use Rattle.std.specs.Prelude.{◌≡◌, Bool, true, false, List, [], ℕ, ◌/◌, ◌%◌, ◌<◌, length, replicate}
 use Rattle.std.proofs.Math.Seq.{slice}
 use Rattle.rules.specs.declared.Place.TheVariants as Place
 use Rattle.rules.specs.Send.{bytes_of, text_at}

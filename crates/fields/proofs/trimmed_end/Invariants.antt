@@ -1,0 +1,16 @@
+-- `fields::trimmed_end` meets its contract. The loop: what lies behind is dropped.
+use mathlib.Core.Path.{◌≡◌}
+use mathlib.Core.List.{map}
+use Prim.Native.Nat.{◌≤◌}
+use lib.Seq.{slice}
+use Rattle.rules.specs.Cell.{sent}
+use Rattle.rules.specs.Fields.{trimmed}
+use Rattle.fields.proofs.trimmed_end.Given as goal
+
+abbrev pub invariant-loop-to : goal.invariant-loop-to
+invariant-loop-to l =
+    (l.from ≤ l.to) × ((l.to ≤ l.end) × (trimmed (map sent (slice l.from l.to l.page)) ≡ trimmed (map sent (slice l.from l.end l.page))))
+
+abbrev pub decreases-loop-to : goal.decreases-loop-to
+decreases-loop-to l =
+    l.to

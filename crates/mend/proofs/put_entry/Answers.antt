@@ -1,0 +1,17 @@
+-- `mend::put_entry` meets its contract.
+use native.Mathlib.Omega.{arith}
+use lib.ListN.{length-set}
+use Rattle.mend.proofs.Mending.{put_numbers}
+use Rattle.mend.proofs.put_entry.Goals as goal
+
+pub bounds-list-at-2 : goal.bounds-list-at-2
+bounds-list-at-2 c = simp length-set (omega arith)
+
+pub bounds-list-at-3 : goal.bounds-list-at-3
+bounds-list-at-3 c = simp length-set (omega arith)
+
+pub bounds-list-at-4 : goal.bounds-list-at-4
+bounds-list-at-4 c = simp length-set (omega arith)
+
+pub returns : goal.returns
+returns c = put_numbers c.args.list.now c.args.at c.args.row c.args.column c.args.old
