@@ -1,0 +1,11 @@
+-- `plan::moves::scrolls` meets its contract.
+use Rattle.rules.specs.Plan.{scrolls}
+use Rattle.plan.proofs.moves.scrolls.Goals as goal
+
+pub returns-then-m : goal.returns-then-m
+unfolding scrolls
+returns-then-m c = rw c.if-m.true
+
+pub returns-else-m : goal.returns-else-m
+unfolding scrolls
+returns-else-m c = rw c.if-m.false

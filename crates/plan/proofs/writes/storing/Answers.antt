@@ -1,0 +1,11 @@
+-- `plan::writes::storing` meets its contract.
+use Rattle.rules.specs.Plan.{storing}
+use Rattle.plan.proofs.writes.storing.Goals as goal
+
+pub returns-then-insert : goal.returns-then-insert
+unfolding storing
+returns-then-insert c = rw c.if-insert.true
+
+pub returns : goal.returns
+unfolding storing
+returns c = rw c.if-insert.false
