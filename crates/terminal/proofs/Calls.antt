@@ -19,12 +19,10 @@ use lib.ListN.{length-append, length-drop, drop_of_length-le}
 use lib.Seq.{take_all, take-nil, take_at, drop_at, drop-drop, drop-cons, set_at, take-suc, append_snoc, length-take-le}
 use borrow.Author.Tests.{eqb-true, eqb-false, ltb-true, ltb-false, leb-true, ne_eqb}
 use Rattle.rules.specs.declared.Answer.{Answer}
-use Rattle.rules.specs.declared.Answer.TheVariants as Answer
 use Rattle.rules.specs.declared.ShortText.{ShortText}
 use Rattle.rules.specs.declared.State.{State}
 use Rattle.rules.specs.declared.Core.{Core}
 use Rattle.rules.specs.declared.Sending.{Sending}
-use Rattle.rules.specs.declared.Sending.TheVariants as Sending
 use Rattle.rules.specs.declared.Personality.{Personality}
 use Rattle.rules.specs.declared.RunResult.{RunResult}
 use Rattle.rules.specs.declared.PressResult.{PressResult}

@@ -4,8 +4,8 @@
 --     on-screen, on_state     the state at the other width
 --     turns_refused, long_page, long_target, turned_over     the call, refused and done
 -- Assumes nothing.
-use Rattle.std.specs.Prelude.{◌≡◌, ℕ, suc, ◌+◌, ◌-◌, ◌*◌, ◌<◌, ◌≤◌, Bool, true, false, not, eqb, List, [], ◌∷◌, ◌++◌, length, get_or, take, drop, set, replicate}
-use mathlib.Core.Path.{refl, sym, ap, subst, ◌∙◌}
+use Rattle.std.specs.Prelude.{◌≡◌, ℕ, suc, ◌+◌, ◌-◌, ◌*◌, ◌<◌, ◌≤◌, Bool, true, false, not, eqb, List, ◌∷◌, ◌++◌, length, get_or, take, drop, set, replicate}
+use mathlib.Core.Path.{refl, sym, ap, ◌∙◌}
 use mathlib.Core.List.{append-nil, append_assoc}
 use native.Mathlib.Nat.{zero-mul}
 use native.Mathlib.Numerals.{add-one}
@@ -15,27 +15,23 @@ use lib.ListN.{replicate-append-replicate}
 use lib.Seq.{drop-cons, set_at, append_snoc, length-take-le}
 use borrow.Author.Tests.{eqb-true}
 use Rattle.rules.specs.declared.Answer.{Answer}
-use Rattle.rules.specs.declared.Answer.TheVariants as Answer
 use Rattle.rules.specs.declared.Core.{Core}
 use Rattle.rules.specs.declared.State.{State}
-use Rattle.rules.specs.declared.Setup.{Setup}
 use Rattle.rules.specs.declared.Screen.{Screen}
-use Rattle.rules.specs.declared.Land.TheVariants as Land
-use Rattle.rules.specs.Cell.{pick, both}
+use Rattle.rules.specs.Cell.{both}
 use Rattle.rules.specs.Row.{height, columns}
 use Rattle.rules.specs.Search.{guarded_at, settled}
 use Rattle.rules.specs.State.{number, segment_top, segment_bottom, segment_start, segment_end, with_cursor, with_screen, with_tabs, sends}
 use Rattle.rules.specs.Possible.{good}
 use Rattle.rules.specs.Plan.{unsplit_screen}
 use Rattle.rules.specs.Carry.{landed}
-use Rattle.rules.specs.Convert.{other_width, converted, loses, core_on, stops_within, state_on, Turned, unturned, convert_rule}
+use Rattle.rules.specs.Convert.{other_width, converted, loses, core_on, stops_within, state_on, unturned, convert_rule}
 use Rattle.rules.proofs.Tests.{both_parts}
 use Rattle.rules.proofs.Kept.{good_parts}
 use Rattle.rules.proofs.Screens.{unsplit_screen_lem}
 use Rattle.rules.proofs.Convert.{home_lands, converts}
 use Rattle.carry.proofs.Settling.{settle_range}
 use Rattle.terminal.specs.Promise.{Turns}
-use Rattle.terminal.specs.declared.width.ConvertResult.{ConvertResult}
 
 -- ---- tab stops
 

@@ -6,7 +6,7 @@
 --     turn, waited     a byte that changes the core and the page alone
 --     resumed     the loop over host bytes goes on after the fast path as before it
 -- Assumes nothing.
-use Rattle.std.specs.Prelude.{◌≡◌, ℕ, ◌+◌, ◌-◌, ◌*◌, ◌/◌, ◌%◌, ◌<◌, ◌≤◌, Bool, true, false, eqb, List, [], ◌++◌, length, get_or, take, drop, set}
+use Rattle.std.specs.Prelude.{◌≡◌, ℕ, ◌+◌, ◌-◌, ◌*◌, ◌/◌, ◌%◌, ◌<◌, ◌≤◌, Bool, true, false, eqb, List, [], ◌++◌, length, get_or, take, set}
 use mathlib.Core.Path.{refl, sym, ap, ap₂, ◌∙◌}
 use mathlib.Core.Bool.{false≢true}
 use native.Mathlib.Nat.{add-zero}
@@ -19,16 +19,13 @@ use Rattle.rules.specs.declared.Contents.TheVariants as Contents
 use Rattle.rules.specs.declared.Core.{Core}
 use Rattle.rules.specs.declared.Decoded.TheVariants as Decoded
 use Rattle.rules.specs.declared.Pending.{Pending}
-use Rattle.rules.specs.declared.Pending.TheVariants as Pending
 use Rattle.rules.specs.declared.Screen.{Screen}
 use Rattle.rules.specs.declared.Setup.{Setup}
 use Rattle.rules.specs.declared.Write.{Write}
-use Rattle.rules.specs.declared.Write.TheVariants as Write
 use Rattle.rules.specs.Cell.{pick, guarded, written}
 use Rattle.rules.specs.Row.{Width, columns, row_start, row_end}
-use Rattle.rules.specs.Search.{guarded_at}
 use Rattle.rules.specs.Calls.{Ran}
-use Rattle.rules.specs.State.{Inside, page_length, unchanged, segment_start, segment_end, segment_top, segment_bottom, cursor_of, with_cursor, with_screen}
+use Rattle.rules.specs.State.{Inside, page_length, unchanged, segment_end, segment_top, segment_bottom, cursor_of, with_cursor, with_screen}
 use Rattle.rules.specs.State.{awaiting, idle}
 use Rattle.rules.specs.Step.{inner_rule}
 use Rattle.rules.specs.Decode.{argument_rule, decode_rule, idle_rule, escape_rule, lookup}
@@ -42,8 +39,7 @@ use Rattle.rules.proofs.Screens.{screen_inside}
 use Rattle.page.proofs.Changes.{one_filled}
 use Rattle.carry.proofs.Carrying.{carried_is}
 use Rattle.terminal.specs.declared.fast.Ground.{Ground}
-use Rattle.terminal.specs.Loop.{state_of}
-use Rattle.terminal.specs.FastPath.{text_base, ground_of, ground_width, Fits, OpenAt, Outside, Edits, edits_cell, edits_row, reverses, clears_row}
+use Rattle.terminal.specs.FastPath.{ground_of, ground_width, Fits, OpenAt, Outside, Edits, edits_cell, edits_row, reverses, clears_row}
 use Rattle.terminal.specs.FastPath.{clears_rest, clears_all, Acts, stores, inserts, places, goes, rolls, edits, Passes, none, acted, refused}
 use Rattle.terminal.specs.FastPath.{FastPath, still, passing, core_at}
 use Rattle.terminal.proofs.Carrying.{quiet_carried}

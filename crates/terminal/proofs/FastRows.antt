@@ -3,20 +3,19 @@
 --     moved_behind    the core after a path has the modes and the width of the core before it
 --     followed, behind_length     it is right, or has its length
 -- Assumes nothing.
-use Rattle.std.specs.Prelude.{◌≡◌, ℕ, ◌+◌, ◌*◌, ◌/◌, ◌%◌, ◌<◌, ◌≤◌, Bool, true, false, not, eqb, ◌⊎◌, List, [], length, get_or}
+use Rattle.std.specs.Prelude.{◌≡◌, ℕ, ◌+◌, ◌*◌, ◌/◌, ◌%◌, ◌≤◌, Bool, true, false, not, eqb, List, length, get_or}
 use mathlib.Core.Path.{refl, sym, ap, ◌∙◌}
 use mathlib.Core.Bool.{false≢true}
-use mathlib.Core.Logic.{inl, inr, ⊎_elim}
+use mathlib.Core.Logic.{inl, inr}
 use native.Mathlib.Omega.{arith}
 use borrow.Author.Tests.{eqb-true, ne_eqb, not-true}
 use Rattle.rules.specs.declared.Contents.TheVariants as Contents
 use Rattle.rules.specs.declared.Core.{Core}
-use Rattle.rules.specs.Cell.{pick, both, either, guarded, written}
+use Rattle.rules.specs.Cell.{pick, both, guarded, written}
 use Rattle.rules.specs.Search.{guarded_at}
-use Rattle.rules.specs.State.{width_of, page_length, segment_end, cursor_of, with_cursor}
+use Rattle.rules.specs.State.{width_of, with_cursor}
 use Rattle.rules.specs.Possible.{screen_ok}
 use Rattle.rules.specs.RowList.{row_list, Beside}
-use Rattle.rules.proofs.Searching.{guard_at}
 use Rattle.rules.proofs.Screens.{screen_inside}
 use Rattle.rules.proofs.RowSteps.{length_list}
 use Rattle.rules.specs.declared.Write.{Write}

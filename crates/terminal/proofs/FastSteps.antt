@@ -12,25 +12,18 @@ use lib.ListN.{length-set}
 use lib.Seq.{get_or-set_other}
 use borrow.Author.Tests.{lt-ltb, le-ltb, le-leb, not-true}
 use Rattle.rules.specs.declared.Clear.{Clear}
-use Rattle.rules.specs.declared.Clear.TheVariants as Clear
 use Rattle.rules.specs.declared.Contents.TheVariants as Contents
 use Rattle.rules.specs.declared.Core.{Core}
 use Rattle.rules.specs.declared.Command.{Command}
-use Rattle.rules.specs.declared.Command.TheVariants as Command
 use Rattle.rules.specs.declared.Decoded.{Decoded}
-use Rattle.rules.specs.declared.Decoded.TheVariants as Decoded
 use Rattle.rules.specs.declared.Edit.TheVariants as Edit
 use Rattle.rules.specs.declared.Land.{Land}
-use Rattle.rules.specs.declared.Land.TheVariants as Land
 use Rattle.rules.specs.declared.Modes.{Modes}
 use Rattle.rules.specs.declared.Move.{Move}
-use Rattle.rules.specs.declared.Move.TheVariants as Move
 use Rattle.rules.specs.declared.Pending.{Pending}
-use Rattle.rules.specs.declared.Pending.TheVariants as Pending
 use Rattle.rules.specs.declared.Plan.{Plan}
 use Rattle.rules.specs.declared.Screen.{Screen}
 use Rattle.rules.specs.declared.Write.{Write}
-use Rattle.rules.specs.declared.Write.TheVariants as Write
 use Rattle.rules.specs.Cell.{pick, guarded, among, both, written}
 use Rattle.rules.specs.Row.{Width, column_of, row_start}
 use Rattle.rules.specs.Search.{guarded_at, others, settled, last_in, next_field, next_tab}

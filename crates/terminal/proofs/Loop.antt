@@ -22,16 +22,13 @@ use lib.ListN.{length-append, length-drop, take-append-drop, drop_of_length-le}
 use lib.Seq.{take_all, drop-cons, take_at, drop_at, drop-drop, length-take-le}
 use borrow.Author.Tests.{eqb-true, not-true}
 use Rattle.rules.specs.declared.Answer.{Answer}
-use Rattle.rules.specs.declared.Answer.TheVariants as Answer
 use Rattle.rules.specs.declared.Core.{Core}
 use Rattle.rules.specs.declared.CoreResult.{CoreResult}
 use Rattle.rules.specs.declared.Change.{Change}
-use Rattle.rules.specs.declared.Change.TheVariants as Change
 use Rattle.rules.specs.declared.Setup.{Setup}
 use Rattle.rules.specs.declared.State.{State}
 use Rattle.rules.specs.declared.RunResult.{RunResult}
 use Rattle.rules.specs.declared.Sending.{Sending}
-use Rattle.rules.specs.declared.Sending.TheVariants as Sending
 use Rattle.rules.specs.declared.SetupChange.TheVariants as SetupChange
 use Rattle.rules.specs.Cell.{pick, both, either, between}
 use Rattle.rules.specs.Row.{columns}

@@ -12,13 +12,12 @@ use mathlib.Core.Logic.{inl, inr}
 use native.Mathlib.Omega.{arith}
 use borrow.Author.Tests.{eqb-true, ne_eqb}
 use Rattle.rules.specs.declared.Answer.{Answer}
-use Rattle.rules.specs.declared.Answer.TheVariants as Answer
 use Rattle.rules.specs.declared.State.{State}
 use Rattle.rules.specs.declared.StepResult.{StepResult}
 use Rattle.rules.specs.declared.RunResult.{RunResult}
 use Rattle.rules.specs.Cell.{pick, both, either}
 use Rattle.rules.specs.Search.{guarded_at}
-use Rattle.rules.specs.State.{number, width_of, page_length}
+use Rattle.rules.specs.State.{width_of, page_length}
 use Rattle.rules.specs.Possible.{good}
 use Rattle.rules.specs.Step.{unheard, step_rule}
 use Rattle.rules.specs.Calls.{ended, run_rule}

@@ -5,7 +5,6 @@ use Rattle.rules.specs.declared.Contents.TheVariants as Contents
 use Rattle.rules.specs.declared.Core.{Core}
 use Rattle.rules.specs.declared.Pending.TheVariants as Pending
 use Rattle.rules.specs.declared.Write.{Write}
-use Rattle.rules.specs.declared.Write.TheVariants as Write
 use Rattle.rules.specs.Cell.{pick, both, among, guarded, written, space, null}
 use Rattle.rules.specs.Row.{height, columns, addressed, wide_cells, row_of, column_of, row_start, row_end}
 use Rattle.rules.specs.Search.{guarded_at, next_field}

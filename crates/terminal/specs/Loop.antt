@@ -4,11 +4,8 @@ use Rattle.rules.specs.declared.Core.{Core}
 use Rattle.rules.specs.declared.Setup.{Setup}
 use Rattle.rules.specs.declared.State.{State}
 use Rattle.rules.specs.declared.Sending.{Sending}
-use Rattle.rules.specs.declared.Sending.TheVariants as Sending
 use Rattle.rules.specs.declared.Change.{Change}
-use Rattle.rules.specs.declared.Change.TheVariants as Change
 use Rattle.rules.specs.declared.SetupChange.{SetupChange}
-use Rattle.rules.specs.declared.SetupChange.TheVariants as SetupChange
 use Rattle.rules.specs.State.{sends}
 use Rattle.rules.specs.Calls.{Ran, repeated, run_rule}
 use Rattle.rules.specs.Next.{to_event, next_rule}

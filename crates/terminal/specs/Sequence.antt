@@ -1,7 +1,6 @@
 -- Bytes of a sequence that are awaited: below 80h, each of them, and none completes, gathers or refuses anything.
 use Rattle.std.specs.Prelude.{◌≡◌, ℕ, ◌+◌, ◌<◌, List, length, slice_index}
 use Rattle.rules.specs.declared.Decoded.{Decoded}
-use Rattle.rules.specs.declared.Decoded.TheVariants as Decoded
 use Rattle.rules.specs.declared.Pending.{Pending}
 use Rattle.rules.specs.Decode.{decode_rule}
 

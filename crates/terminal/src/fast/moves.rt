@@ -2,7 +2,7 @@
 ghost use Rattle.std.specs.Prelude.{◌≡◌, ℕ, ◌+◌, ◌-◌, ◌*◌, ◌<◌, ◌≤◌, true, false, List, length, slice_index};
 ghost use Rattle.rules.specs.Cell.{both, among as amongOf};
 ghost use Rattle.rules.specs.Row.{height, columns as columns_of, addressed, row_start, wide_cells};
-ghost use Rattle.terminal.specs.FastPath.{Fits, open_at, Addressed, Outside, Goes, Rolled};
+ghost use Rattle.terminal.specs.FastPath.{Fits, OpenAt, Addressed, Outside, Goes, Rolled};
 
 use crate::fast::Ground;
 use page::search::{is_guarded_at, next_field};
@@ -21,7 +21,7 @@ fn cell_at(ground: Ground, row: u8, column: u8) -> usize
 pub(crate) fn address(page: &[u16], ground: Ground, input: &[u8], i: usize) -> usize
     requires { Fits ground page.now × ((i < length input.now) × (slice_index input.now i ≡ 0x1b)) }
     ensures { result < ground.end
-        → (i + 4 ≤ length input.now) × (Addressed ground input.now i result × open_at ground page.now result) }
+        → (i + 4 ≤ length input.now) × (Addressed ground input.now i result × OpenAt ground page.now result) }
 {
     if input.len() <= i + 3 {
         return ground.end;
@@ -165,7 +165,7 @@ fn goal_on(page: &[u16], ground: Ground, at: usize, b: u8) -> usize
 // That cell, if it is an open one of the segment; else `end`.
 pub(crate) fn open_goal(page: &[u16], ground: Ground, at: usize, b: u8) -> usize
     requires { Fits ground page.now × (at < ground.end) }
-    ensures { result < ground.end → Goes ground page.now at b result × open_at ground page.now result }
+    ensures { result < ground.end → Goes ground page.now at b result × OpenAt ground page.now result }
 {
     let k = goal_on(page, ground, at, b);
     if ground.end <= k {
