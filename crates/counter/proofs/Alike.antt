@@ -1,7 +1,7 @@
 -- Alike terminals are told the same count.
 --     labels_uncounted, alike_count     the statements of specs/Ask
 -- Assumes nothing.
-use mathlib.Core.Path.{◌≡◌, refl, subst}
+use mathlib.Core.Path.{refl, subst}
 use mathlib.Core.List.{List}
 use Prim.Native.Nat.{ℕ}
 use Rattle.rules.specs.declared.State.{State}

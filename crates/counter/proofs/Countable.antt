@@ -12,7 +12,6 @@ use lib.Seq.{take-append_seam, get_or-append_seam}
 use borrow.Author.Tests.{eqb-true, not-false, ltb-true}
 use Rattle.rules.specs.Cell.{pick, either, between}
 use Rattle.counter.specs.declared.Counted.{Counted}
-use Rattle.counter.specs.declared.Counted.TheVariants as Counted
 use Rattle.counter.specs.Alphabet.{space, backquote, in_alphabet, units, first_outside}
 use Rattle.counter.specs.Pieces.{returns, before, is_mark, onto, cut_at_marks, pieces, joined, whole}
 use Rattle.rules.specs.Fields.{kept, trimmed}

@@ -17,7 +17,6 @@ use lib.Seq.{length-take-le, take-append-le, drop-append-le}
 use borrow.Author.Tests.{leb-true, le-leb, lt-leb, ne_eqb, eq-eqb, eqb-true, eqb-false}
 use Rattle.rules.proofs.Tests.{both_parts}
 use Rattle.counter.specs.declared.Counted.{Counted}
-use Rattle.counter.specs.declared.Counted.TheVariants as Counted
 use Rattle.counter.specs.Pieces.{returns, before, pieces, piece_of, joined, whole}
 use Rattle.counter.specs.Count.{Numbers, numbers, text_count, in_order, count_rule, OneCount}
 use Rattle.counter.specs.Walk.{remaining, marks_in, past}

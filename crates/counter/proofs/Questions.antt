@@ -8,7 +8,7 @@
 use mathlib.Core.Path.{◌≡◌, refl, sym, ap, ◌∙◌}
 use mathlib.Core.Bool.{Bool, true, false, not}
 use mathlib.Core.List.{List, [], ◌∷◌, ◌++◌}
-use Prim.Native.Nat.{ℕ, zero, suc, ◌+◌, ◌≤◌}
+use Prim.Native.Nat.{ℕ, zero, suc, ◌≤◌}
 use native.Mathlib.Omega.{arith}
 use lib.Dec.{eqb}
 use lib.ListN.{length, take, drop, length-append, take-append-drop}
@@ -24,8 +24,7 @@ use Rattle.rules.specs.Room.{over}
 use Rattle.terminal.specs.Promise.{RunDone}
 use Rattle.counter.specs.declared.Counted.{Counted}
 use Rattle.counter.specs.declared.Told.{Told}
-use Rattle.counter.specs.declared.Told.TheVariants as Told
-use Rattle.counter.specs.Count.{Numbers, numbers, count_rule}
+use Rattle.counter.specs.Count.{numbers, count_rule}
 use Rattle.counter.proofs.Counting.{one_count}
 use Rattle.counter.specs.Ask.{is_ready, question, lent, asking, is_cut, told_rule, ToldNumbers, told_numbers, OneTold, ask_rule, Asks, Silent}
 use Rattle.counter.specs.Ask.{AskingCases}

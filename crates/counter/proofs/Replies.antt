@@ -7,7 +7,7 @@
 --     replies_to_asking             the statement of specs/Ask
 -- Assumes nothing.
 use mathlib.Core.Path.{◌≡◌, refl, sym, ap, ◌∙◌}
-use mathlib.Core.Bool.{Bool, true, false, not, false≢true}
+use mathlib.Core.Bool.{Bool, true, false, false≢true}
 use mathlib.Core.List.{List, [], ◌∷◌, ◌++◌, append-nil, append_assoc}
 use mathlib.Core.Logic.{inr}
 use Prim.Native.Nat.{ℕ, zero, suc, ◌+◌, ◌-◌, ◌*◌, ◌≤◌, ◌<◌}
@@ -20,13 +20,11 @@ use borrow.Author.Tests.{leb-true, lt-ltb, eqb-true, eqb-false, ne_eqb, not-true
 use Rattle.rules.specs.declared.State.{State}
 use Rattle.rules.specs.declared.Core.{Core}
 use Rattle.rules.specs.declared.Pending.{Pending}
-use Rattle.rules.specs.declared.Pending.TheVariants as Pending
 use Rattle.rules.specs.declared.Decoded.TheVariants as Decoded
 use Rattle.rules.specs.declared.Command.TheVariants as Command
 use Rattle.rules.specs.declared.Send.TheVariants as Send
 use Rattle.rules.specs.declared.Place.TheVariants as Place
 use Rattle.rules.specs.declared.Sending.{Sending}
-use Rattle.rules.specs.declared.Sending.TheVariants as Sending
 use Rattle.rules.specs.Cell.{pick, either, between, code, kind, sent}
 use Rattle.rules.specs.State.{width_of, segment_start, awaiting, idle, is_idle, sends, with_sending, changed, sending_after, gathered_after, setup_after}
 use Rattle.rules.specs.State.{Inside}

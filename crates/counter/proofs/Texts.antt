@@ -7,7 +7,7 @@ use mathlib.Core.Path.{◌≡◌, refl, sym, ap, ◌∙◌}
 use mathlib.Core.Bool.{Bool, true, false, not}
 use mathlib.Core.List.{List, [], ◌∷◌, ◌++◌}
 use mathlib.Core.Logic.{◌⊎◌, inl, inr}
-use Prim.Native.Nat.{ℕ, suc, ◌+◌, ◌-◌, ◌≤◌, ◌<◌}
+use Prim.Native.Nat.{ℕ, suc, ◌+◌, ◌≤◌, ◌<◌}
 use native.Mathlib.Nat.{zero-add, add-zero}
 use native.Mathlib.Omega.{arith}
 use lib.Dec.{leb, ltb, eqb, leb-suc-suc}
@@ -16,7 +16,6 @@ use lib.Seq.{take-suc}
 use borrow.Author.Tests.{lt-ltb, le-leb, lt-leb, ne_eqb, leb-true, leb-false, eqb-true, eqb-false}
 use Rattle.rules.specs.Cell.{pick, either}
 use Rattle.counter.specs.declared.Counted.{Counted}
-use Rattle.counter.specs.declared.Counted.TheVariants as Counted
 use Rattle.counter.specs.declared.text.Tally.{Tally}
 use Rattle.counter.specs.Alphabet.{space, in_alphabet, cost, units, first_outside}
 use Rattle.rules.specs.Fields.{kept, trimmed}

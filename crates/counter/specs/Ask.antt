@@ -8,9 +8,7 @@ use Rattle.rules.specs.Calls.{Ran, run_rule}
 use Rattle.rules.specs.Theorems.Noninterference.{Alike}
 use Rattle.rules.specs.Room.{over}
 use Rattle.counter.specs.declared.Counted.{Counted}
-use Rattle.counter.specs.declared.Counted.TheVariants as Counted
 use Rattle.counter.specs.declared.Told.{Told}
-use Rattle.counter.specs.declared.Told.TheVariants as Told
 use Rattle.counter.specs.declared.Asked.{Asked}
 use Rattle.counter.specs.Alphabet.{backquote}
 use Rattle.counter.specs.Pieces.{is_mark, whole}

@@ -1,7 +1,6 @@
 -- Worked texts and replies, by the sentences of request A3 of document 02.
 use Rattle.std.specs.Prelude.{◌≡◌, List, [], ◌∷◌, ◌++◌, ℕ, zero, suc, replicate}
 use Rattle.counter.specs.declared.Counted.{Counted}
-use Rattle.counter.specs.declared.Counted.TheVariants as Counted
 use Rattle.counter.specs.Words.{words}
 use Rattle.counter.specs.Pieces.{pieces, piece_of}
 use Rattle.counter.specs.Count.{text_count, count_rule}

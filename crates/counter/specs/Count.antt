@@ -3,7 +3,6 @@ use Rattle.std.specs.Prelude.{◌≡◌, Bool, List, ℕ, ◌≤◌, ◌<◌, le
 use Rattle.rules.specs.Fields.{trimmed}
 use Rattle.rules.specs.Cell.{pick, both}
 use Rattle.counter.specs.declared.Counted.{Counted}
-use Rattle.counter.specs.declared.Counted.TheVariants as Counted
 use Rattle.counter.specs.Alphabet.{units, first_outside}
 use Rattle.counter.specs.Pieces.{returns, pieces, whole}
 use Rattle.counter.specs.Parts.{parts}

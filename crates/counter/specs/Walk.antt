@@ -2,7 +2,6 @@
 use Rattle.std.specs.Prelude.{Bool, not, List, [], ◌∷◌, ℕ, suc, ◌+◌, ◌-◌, ◌≤◌, leb, eqb}
 use Rattle.rules.specs.Cell.{pick, both, either}
 use Rattle.counter.specs.declared.Counted.{Counted}
-use Rattle.counter.specs.declared.Counted.TheVariants as Counted
 use Rattle.counter.specs.declared.text.Tally.{Tally}
 use Rattle.counter.specs.Alphabet.{space, in_alphabet, cost}
 use Rattle.counter.specs.Pieces.{is_mark}

@@ -17,12 +17,9 @@ use Rattle.rules.specs.declared.Setup.{Setup}
 use Rattle.rules.specs.declared.Slot.{Slot}
 use Rattle.rules.specs.declared.Personality.{Personality}
 use Rattle.rules.specs.declared.Command.{Command}
-use Rattle.rules.specs.declared.Command.TheVariants as Command
 use Rattle.rules.specs.declared.Move.TheVariants as Move
 use Rattle.rules.specs.declared.Decoded.{Decoded}
-use Rattle.rules.specs.declared.Decoded.TheVariants as Decoded
 use Rattle.rules.specs.declared.Pending.{Pending}
-use Rattle.rules.specs.declared.Pending.TheVariants as Pending
 use Rattle.rules.specs.declared.Sending.TheVariants as Sending
 use Rattle.rules.specs.declared.SetupChange.{SetupChange}
 use Rattle.rules.specs.Cell.{among}
@@ -80,7 +77,7 @@ module _ (b : ℕ) (p : List ℕ) (s : State) (room : ℕ) {t : State} (u : send
   next_good : good p s ≡ true → step_rule p s b room ≡ quietly p t → good p t ≡ true
   next_good g e = rw e at (step_good p s b room g)
 
-fed_repeated : {bytes p : List ℕ} {s t : State} (room : ℕ) → good p s ≡ true → Fed p bytes s t → repeated bytes p s room ≡ took (length bytes) p t
+fed_repeated : {p bytes : List ℕ} {s t : State} (room : ℕ) → good p s ≡ true → Fed p bytes s t → repeated bytes p s room ≡ took (length bytes) p t
 unfolding repeated
 fed_repeated room g (none u) = refl
 fed_repeated {p = p} room g (byte {b} {bs} {s} {t} u e x) =

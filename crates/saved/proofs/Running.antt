@@ -29,9 +29,7 @@ use Rattle.saved.specs.Store.{setup_of, after_save, all_zero, is_setup, is_place
 use Rattle.saved.specs.Calls.{saved, save_rule, SaveGives, restorable, restored, restore_rule, RestoreGives, OneSave, OneRestore}
 use Rattle.saved.specs.Put.{Put}
 use Rattle.saved.specs.declared.SaveAnswer.{SaveAnswer}
-use Rattle.saved.specs.declared.SaveAnswer.TheVariants as SaveAnswer
 use Rattle.saved.specs.declared.RestoreAnswer.{RestoreAnswer}
-use Rattle.saved.specs.declared.RestoreAnswer.TheVariants as RestoreAnswer
 use Rattle.saved.proofs.Setups.{fed_fine}
 use Rattle.saved.proofs.Places.{padded_split, cut_length, joined_cut}
 use Rattle.saved.proofs.Stores.{ok_at}

@@ -12,7 +12,7 @@ use borrow.Author.Tests.{le-leb, lt-ltb, le-ltb}
 use Rattle.rules.specs.declared.State.{State}
 use Rattle.rules.specs.declared.Setup.{Setup}
 use Rattle.rules.specs.declared.Personality.{Personality}
-use Rattle.rules.specs.Row.{Width, columns, addressed}
+use Rattle.rules.specs.Row.{Width, columns}
 use Rattle.rules.specs.Possible.{blank, no_stops, possible}
 use Rattle.rules.specs.Calls.{Ran}
 use Rattle.rules.proofs.Tests.{pick_if, both_true}

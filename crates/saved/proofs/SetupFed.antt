@@ -18,15 +18,12 @@ use Rattle.rules.specs.declared.Setup.{Setup}
 use Rattle.rules.specs.declared.ShortText.{ShortText}
 use Rattle.rules.specs.declared.Personality.{Personality}
 use Rattle.rules.specs.declared.Slot.{Slot}
-use Rattle.rules.specs.declared.Slot.TheVariants as Slot
 use Rattle.rules.specs.declared.Command.TheVariants as Command
 use Rattle.rules.specs.declared.Setting.TheVariants as Setting
 use Rattle.rules.specs.declared.SetupChange.TheVariants as SetupChange
 use Rattle.rules.specs.declared.Argument.TheVariants as Argument
 use Rattle.rules.specs.declared.Decoded.{Decoded}
-use Rattle.rules.specs.declared.Decoded.TheVariants as Decoded
 use Rattle.rules.specs.declared.Pending.{Pending}
-use Rattle.rules.specs.declared.Pending.TheVariants as Pending
 use Rattle.rules.specs.Cell.{both, either, between}
 use Rattle.rules.specs.Row.{columns}
 use Rattle.rules.specs.Search.{last_true}

@@ -16,14 +16,9 @@ use Rattle.rules.specs.declared.State.{State}
 use Rattle.rules.specs.declared.Setup.{Setup}
 use Rattle.rules.specs.declared.ShortText.{ShortText}
 use Rattle.rules.specs.declared.Personality.{Personality}
-use Rattle.rules.specs.declared.Personality.TheVariants as Personality
 use Rattle.rules.specs.declared.Slot.{Slot}
-use Rattle.rules.specs.declared.Slot.TheVariants as Slot
 use Rattle.rules.specs.declared.SetupChange.{SetupChange}
-use Rattle.rules.specs.declared.SetupChange.TheVariants as SetupChange
 use Rattle.rules.specs.declared.Change.{Change}
-use Rattle.rules.specs.declared.Change.TheVariants as Change
-use Rattle.rules.specs.Cell.{same}
 use Rattle.rules.specs.Row.{columns}
 use Rattle.rules.specs.State.{short_bytes, changed, stored, sends, setup_after}
 use Rattle.rules.specs.Slot.{text_ok, texts_ok}

@@ -6,7 +6,6 @@ use mathlib.Core.List.{List}
 use Prim.Native.Nat.{ℕ}
 use native.Mathlib.Omega.{arith}
 use lib.ListN.{length}
-use Rattle.rules.specs.declared.State.{State}
 use Rattle.rules.specs.Row.{columns}
 use Rattle.rules.specs.State.{segment_top, cursor_of}
 use Rattle.rules.specs.Arguments.{is_attribute, feature_place}

@@ -5,9 +5,7 @@ use Rattle.rules.specs.declared.State.{State}
 use Rattle.rules.specs.Cell.{pick, both}
 use Rattle.rules.specs.Possible.{possible}
 use Rattle.saved.specs.declared.SaveAnswer.{SaveAnswer}
-use Rattle.saved.specs.declared.SaveAnswer.TheVariants as SaveAnswer
 use Rattle.saved.specs.declared.RestoreAnswer.{RestoreAnswer}
-use Rattle.saved.specs.declared.RestoreAnswer.TheVariants as RestoreAnswer
 use Rattle.saved.specs.declared.RestoreResult.{RestoreResult}
 use Rattle.saved.specs.SetupBytes.{setup_bytes}
 use Rattle.saved.specs.Settings.{fed, with_settings, with_setup}

@@ -1,7 +1,6 @@
 -- Each statement used where a weaker one would not do: at a set-up of the most bytes, of a wide terminal inside a send.
-use Rattle.std.specs.Prelude.{◌≡◌, true, false, List, [], ℕ, ◌≤◌, length}
+use Rattle.std.specs.Prelude.{◌≡◌, true, false, List, ℕ, ◌≤◌, length}
 use Rattle.rules.specs.declared.State.{State}
-use Rattle.rules.specs.declared.Personality.TheVariants as Personality
 use Rattle.rules.specs.declared.Personality.{Personality}
 use Rattle.rules.specs.declared.Place.TheVariants as Place
 use Rattle.rules.specs.declared.Sending.TheVariants as Sending
