@@ -9,7 +9,6 @@ use Rattle.rules.specs.declared.Personality.{Personality}
 use Rattle.rules.specs.Row.{columns}
 use Rattle.repaint.specs.declared.Span.{Span}
 use Rattle.repaint.specs.declared.Verdict.{Verdict}
-use Rattle.repaint.specs.declared.Verdict.TheVariants as Verdict
 use Rattle.repaint.specs.Spans.{Pages, Accepts, verdict_number, SpansVerdict, spans_of, ListsVerdict}
 use Rattle.repaint.specs.Bytes.{AcceptsBytes, BytesVerdict}
 use Rattle.repaint.specs.Proposal.{Stretch, span_of, stretches, rows_of, columns_of, lengths_of, paint_bytes, served}

@@ -28,12 +28,10 @@ use Rattle.rules.proofs.Tests.{either_way, both_parts, both_true}
 use Rattle.rules.specs.Possible.{core_ok, setup_ok, no_stops, screen_ok, unsplit_ok, attributes_ok, features_ok, remembered_ok, pending_ok, sending_ok}
 use Rattle.rules.specs.Slot.{texts_ok, text_ok, all_text}
 use Rattle.rules.specs.Arguments.{is_attribute, feature_place}
-use Rattle.rules.specs.declared.Personality.TheVariants as Personality
 use Rattle.rules.proofs.Kept.{step_good, run_keeps, good_whole}
 use Rattle.rules.proofs.RowSteps.{same_is, same_refl}
 use Rattle.rules.proofs.Left.{step_good_most, step_unused}
 use Rattle.repaint.specs.declared.Verdict.{Verdict}
-use Rattle.repaint.specs.declared.Verdict.TheVariants as Verdict
 use Rattle.repaint.specs.Spans.{Pages, verdict_number}
 use Rattle.repaint.specs.Pass.{pages_width, equal}
 use Rattle.repaint.specs.Bytes.{power_on_at, Leads, end, byte, AcceptsBytes, BytesVerdict, clean, paints}

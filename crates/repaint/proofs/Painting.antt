@@ -18,23 +18,18 @@ use borrow.Author.Tests.{lt-ltb, le-ltb, le-leb, leb-true, ltb-true, ltb-false, 
 use Rattle.rules.specs.declared.Argument.TheVariants as Argument
 use Rattle.rules.specs.declared.Contents.TheVariants as Contents
 use Rattle.rules.specs.declared.Command.{Command}
-use Rattle.rules.specs.declared.Command.TheVariants as Command
 use Rattle.rules.specs.declared.Core.{Core}
 use Rattle.rules.specs.declared.Decoded.{Decoded}
-use Rattle.rules.specs.declared.Decoded.TheVariants as Decoded
 use Rattle.rules.specs.declared.Land.TheVariants as Land
 use Rattle.rules.specs.declared.Modes.{Modes}
 use Rattle.rules.specs.declared.Move.TheVariants as Move
 use Rattle.rules.specs.declared.Pending.{Pending}
-use Rattle.rules.specs.declared.Pending.TheVariants as Pending
 use Rattle.rules.specs.declared.Personality.{Personality}
-use Rattle.rules.specs.declared.Personality.TheVariants as Personality
 use Rattle.rules.specs.declared.Screen.{Screen}
 use Rattle.rules.specs.declared.Sending.TheVariants as Sending
 use Rattle.rules.specs.declared.Setup.{Setup}
 use Rattle.rules.specs.declared.State.{State}
 use Rattle.rules.specs.declared.Write.{Write}
-use Rattle.rules.specs.declared.Write.TheVariants as Write
 use Rattle.rules.specs.Cell.{pick, both, either, among, between, code, written}
 use Rattle.rules.specs.Row.{columns, row_of, column_of}
 use Rattle.rules.specs.State.{segment_top, segment_bottom, cursor_of, with_cursor, changed, sends, sending_after, gathered_after, setup_after}

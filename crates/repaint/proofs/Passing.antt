@@ -11,7 +11,6 @@ use Rattle.rules.specs.Fields.{page_width}
 use Rattle.rules.proofs.Tests.{both_parts}
 use Rattle.repaint.specs.declared.Span.{Span}
 use Rattle.repaint.specs.declared.Verdict.{Verdict}
-use Rattle.repaint.specs.declared.Verdict.TheVariants as Verdict
 use Rattle.repaint.specs.Spans.{first, after, Pages}
 use Rattle.repaint.specs.Pass.{pages_width, alike, equal, fits, turned, finished}
 

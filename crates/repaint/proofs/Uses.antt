@@ -1,12 +1,11 @@
 -- The bounds are reached and the uses hold, each by the statement it is of.
 -- Assumes nothing.
-use Rattle.std.specs.Prelude.{◌≡◌, ℕ, ◌≤◌, true, false, List, [], ◌∷◌, length}
+use Rattle.std.specs.Prelude.{◌≡◌, ℕ, ◌≤◌, true, length}
 use mathlib.Core.Path.{refl, sym, ◌∙◌}
 use mathlib.Core.Logic.{inr}
 use native.Mathlib.Omega.{arith}
 use lib.ListN.{length-replicate}
 use Rattle.rules.specs.declared.Personality.{Personality}
-use Rattle.rules.specs.declared.Personality.TheVariants as Personality
 use Rattle.rules.specs.Cell.{same}
 use Rattle.rules.specs.Row.{columns, row_end}
 use Rattle.rules.specs.Search.{which_cells, others, starts_from, first_in, last_in, around, around_back}

@@ -11,7 +11,6 @@ use borrow.Author.Tests.{leb-true, leb-false, eqb-true, eq-eqb, le-leb}
 use Rattle.rules.proofs.Tests.{either_way, both_parts}
 use Rattle.repaint.specs.declared.Span.{Span}
 use Rattle.repaint.specs.declared.Verdict.{Verdict}
-use Rattle.repaint.specs.declared.Verdict.TheVariants as Verdict
 use Rattle.repaint.specs.Spans.{first, after, none, span_at, Covers, Within, Accepts, Pages, verdict_number, SpansVerdict, spans_of, ListsVerdict}
 use Rattle.repaint.specs.Pass.{pages_width, alike, equal, fits, turned, passed, finished, beyond}
 use Rattle.repaint.proofs.Passing.{Fits, lies, fits_parts, fits_whole, eq_or_not, widths, same_beyond, turn_misfit, turn_differs, turn_moves}

@@ -6,7 +6,6 @@ use Rattle.rules.specs.Row.{height}
 use Rattle.rules.specs.Fields.{page_width}
 use Rattle.repaint.specs.declared.Span.{Span}
 use Rattle.repaint.specs.declared.Verdict.{Verdict}
-use Rattle.repaint.specs.declared.Verdict.TheVariants as Verdict
 use Rattle.repaint.specs.Spans.{first, after}
 
 -- the width of two pages of one length; 0 where they are none

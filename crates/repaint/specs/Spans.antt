@@ -5,7 +5,6 @@ use Rattle.std.specs.Prelude.{◌≡◌, ℕ, ◌+◌, ◌-◌, ◌*◌, ◌<◌
 use Rattle.rules.specs.Row.{height, narrow_cells, wide_cells}
 use Rattle.repaint.specs.declared.Span.{Span}
 use Rattle.repaint.specs.declared.Verdict.{Verdict}
-use Rattle.repaint.specs.declared.Verdict.TheVariants as Verdict
 
 -- a span's first cell, and the cell after its last
 abbrev pub first : ℕ → Span → ℕ

@@ -1,7 +1,6 @@
 -- The bounds of the proposer reached, its statements used there, and pages that differ in an attribute alone.
-use Rattle.std.specs.Prelude.{◌≡◌, ℕ, zero, suc, ◌≤◌, true, false, List, [], ◌∷◌, length, replicate}
+use Rattle.std.specs.Prelude.{◌≡◌, ℕ, zero, suc, ◌≤◌, true, false, List, [], ◌∷◌, length}
 use Rattle.rules.specs.declared.Personality.{Personality}
-use Rattle.rules.specs.declared.Personality.TheVariants as Personality
 use Rattle.repaint.specs.Spans.{Accepts, SpansVerdict}
 use Rattle.repaint.specs.Bytes.{AcceptsBytes, paints}
 use Rattle.repaint.specs.Proposal.{stretches, paint_bytes, served, refused_with, propose_rule}

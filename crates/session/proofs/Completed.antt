@@ -97,6 +97,7 @@ row_counted x (ListStep b room) (list_step e k) = taken_counted _ (Step b room) 
 row_counted x (ListRun bytes room) (list_run e k) = taken_counted _ (Run bytes room) x.page x.state e (in_run x.page x.state bytes room k)
 row_counted x (Next with bytes room) (next e k) =
     taken_counted _ (run_of x bytes room) x.page x.state e (in_run x.page x.state _ room k)
+row_counted x Rebuild k = elim k [ ]
 
 -- ---- the session
 

@@ -3,16 +3,14 @@
 --     letters_kept     what is said of the pages after calls, read out
 -- Assumes nothing.
 use mathlib.Core.Path.{◌≡◌, refl, sym, ap}
-use mathlib.Core.Bool.{Bool, true, false, false≢true}
+use mathlib.Core.Bool.{Bool, false, false≢true}
 use mathlib.Core.List.{List, [], ◌∷◌}
 use Prim.Native.Nat.{ℕ, zero, suc, ◌<◌}
 use native.Mathlib.Omega.{arith}
 use lib.ListN.{length, get_or, replicate, length-replicate}
 use Rattle.rules.specs.declared.State.{State}
 use Rattle.rules.specs.declared.Personality.{Personality}
-use Rattle.rules.specs.declared.Personality.TheVariants as Personality
 use Rattle.rules.specs.declared.Sending.{Sending}
-use Rattle.rules.specs.declared.Sending.TheVariants as Sending
 use Rattle.rules.specs.Cell.{protected}
 use Rattle.rules.specs.Theorems.Noninterference.{AlikePages, KeptPages, revealing}
 use Rattle.rules.specs.RowList.{agrees}

@@ -2,10 +2,8 @@
 use Rattle.std.specs.Prelude.{◌≡◌, Bool, true, false, List, [], ◌∷◌, ℕ, suc, length, get_or, replicate}
 use Rattle.rules.specs.declared.State.{State}
 use Rattle.rules.specs.declared.Personality.{Personality}
-use Rattle.rules.specs.declared.Personality.TheVariants as Personality
 use Rattle.rules.specs.declared.Place.TheVariants as Place
 use Rattle.rules.specs.declared.Sending.{Sending}
-use Rattle.rules.specs.declared.Sending.TheVariants as Sending
 use Rattle.rules.specs.State.{with_screen, with_modes, with_protect}
 use Rattle.rules.specs.Possible.{power_on}
 use Rattle.rules.specs.RowCalls.{ListStep}
