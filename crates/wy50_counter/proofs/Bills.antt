@@ -9,7 +9,6 @@ use lib.Dec.{ltb}
 use lib.ListN.{length}
 use Rattle.rules.specs.Cell.{pick}
 use Rattle.counter.specs.declared.Counted.{Counted}
-use Rattle.counter.specs.declared.Counted.TheVariants as Counted
 use Rattle.counter.specs.Alphabet.{in_alphabet, cost, units, first_outside}
 use Rattle.rules.specs.Fields.{kept, trimmed}
 use Rattle.counter.specs.Pieces.{onto}
