@@ -20,7 +20,6 @@ use Rattle.rules.specs.declared.State.{State}
 use Rattle.rules.specs.declared.PowerOn.{PowerOn}
 use Rattle.rules.specs.declared.Position.{Position}
 use Rattle.rules.specs.declared.Personality.{Personality}
-use Rattle.rules.specs.declared.Personality.TheVariants as Personality
 use Rattle.rules.specs.declared.StepResult.{StepResult}
 use Rattle.rules.specs.declared.RunResult.{RunResult}
 use Rattle.rules.specs.declared.PressResult.{PressResult}

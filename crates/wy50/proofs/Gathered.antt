@@ -15,7 +15,6 @@ use borrow.Author.Tests.{ltb-true, ltb-false}
 use Rattle.rules.specs.Cell.{pick}
 use Rattle.rules.specs.declared.Slot.TheVariants as Slot
 use Rattle.rules.specs.declared.Pending.{Pending}
-use Rattle.rules.specs.declared.Pending.TheVariants as Pending
 use Rattle.rules.specs.Slot.{text_ok}
 use Rattle.rules.specs.Possible.{pending_ok}
 use Rattle.state.proofs.Tests.{both_right}

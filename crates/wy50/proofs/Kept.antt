@@ -1,7 +1,7 @@
 -- The calls over numbers: a bad call gives back what it was handed, and a good page and state stay good.
 --     bad_step_lem, bad_run_lem, bad_press     a bad call
 --     as_they_came     the statement of specs/Promise
---     power_on_good_lem, step_kept, run_kept, convert_kept     the page and the numbers after power-on, after a good call and after a conversion are good
+--     fresh_good, step_kept, run_kept, convert_kept     the page and the numbers after power-on, after a good call and after a conversion are good
 -- Assumes nothing.
 use mathlib.Core.Path.{◌≡◌, refl, sym, ap, ◌∙◌}
 use mathlib.Core.Bool.{Bool, true, false}
@@ -69,8 +69,8 @@ pending_good p s h = (possible_parts s (good_parts p s h).1).core.pending
 pub packed_good : (x : RawState) (p : List ℕ) (s : State) → good p s ≡ true → raw_good p (packed x s) ≡ true
 packed_good x p s h = numbers_good (gathered_back x s) p s h (laid_possible s.core.pending s.gathered _ (pending_good p s h))
 
-pub power_on_good_lem : (m : Personality) (p : List ℕ) → length p ≡ 1920 → raw_good (power_on_rule m p).page (fresh_numbers (power_on_rule m p).state) ≡ true
-power_on_good_lem m p h =
+pub fresh_good : (m : Personality) (p : List ℕ) → length p ≡ 1920 → raw_good (power_on_rule m p).page (fresh_numbers (power_on_rule m p).state) ≡ true
+fresh_good m p h =
     let s = (power_on_rule m p).state in
     let g = power_on_good_lem m p h in
     numbers_good s.gathered (power_on_rule m p).page s g (pending_good (power_on_rule m p).page s g)

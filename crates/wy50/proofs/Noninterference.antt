@@ -14,9 +14,7 @@ use lib.Dec.{eqb}
 use lib.ListN.{length}
 use Rattle.rules.specs.declared.Short.TheVariants as Short
 use Rattle.rules.specs.declared.Place.{Place}
-use Rattle.rules.specs.declared.Place.TheVariants as Place
 use Rattle.rules.specs.declared.Sending.{Sending}
-use Rattle.rules.specs.declared.Sending.TheVariants as Sending
 use Rattle.rules.specs.declared.State.{State}
 use Rattle.rules.specs.Calls.{Call, Step, Run, Press, of_step, of_run, of_press, Given, Called, call_rule}
 use Rattle.rules.proofs.Related.{Related, related_length}

@@ -5,29 +5,22 @@
 --     packed_unpacked     numbers that name a state are what goes back to C, if the state is left
 -- Assumes nothing.
 use mathlib.Core.Path.{◌≡◌, refl, sym, ap, ap₂, ◌∙◌}
-use mathlib.Core.Bool.{Bool, true, false, not, false≢true}
-use mathlib.Core.List.{List, [], ◌∷◌, ◌++◌, map}
-use Prim.Native.Nat.{ℕ, zero, suc, ◌-◌, ◌<◌, ◌≤◌}
+use mathlib.Core.Bool.{Bool, true, false, false≢true}
+use mathlib.Core.List.{List, [], ◌∷◌, map}
+use Prim.Native.Nat.{ℕ, ◌<◌}
 use native.Mathlib.Omega.{arith}
 use borrow.Author.Tests.{lt-ltb, ltb-true, eq-eqb, eqb-true, eqb-false}
 use lib.Dec.{ltb, leb, eqb}
-use lib.ListN.{length, take, drop, replicate, length-append, length-replicate}
-use lib.Seq.{take-append_seam}
 use Rattle.rules.specs.declared.Argument.TheVariants as Argument
 use Rattle.rules.specs.declared.Slot.TheVariants as Slot
 use Rattle.rules.specs.declared.Pending.{Pending}
-use Rattle.rules.specs.declared.Pending.TheVariants as Pending
 use Rattle.rules.specs.declared.Modes.{Modes}
 use Rattle.rules.specs.declared.Short.{Short}
-use Rattle.rules.specs.declared.Short.TheVariants as Short
 use Rattle.rules.specs.declared.Place.{Place}
-use Rattle.rules.specs.declared.Place.TheVariants as Place
 use Rattle.rules.specs.declared.Screen.{Screen}
 use Rattle.rules.specs.declared.Sending.{Sending}
-use Rattle.rules.specs.declared.Sending.TheVariants as Sending
 use Rattle.rules.specs.declared.State.{State}
 use Rattle.rules.specs.declared.Personality.{Personality}
-use Rattle.rules.specs.declared.Personality.TheVariants as Personality
 use Rattle.rules.specs.Cell.{pick, both, either}
 use Rattle.rules.specs.State.{is_idle}
 use Rattle.rules.specs.Possible.{short_length, replies_on, sending_ok}
@@ -39,7 +32,7 @@ use Rattle.wy50.specs.declared.raw.RawSending.{RawSending}
 use Rattle.wy50.specs.declared.raw.RawState.{RawState}
 use Rattle.wy50.specs.Raw.{all_below, flag, is_on, personality_number, is_personality, personality_at, sequence_of, find, pending_of, same_sequence}
 use Rattle.wy50.specs.Raw.{is_sequence, raw_modes, modes_of, are_flags}
-use Rattle.wy50.specs.Raw.{small, raw_sending, sending_of, same_sending, is_sending}
+use Rattle.wy50.specs.Raw.{raw_sending, sending_of, same_sending, is_sending}
 use Rattle.wy50.proofs.Gathered.{laid_back}
 use Rattle.wy50.specs.Raw.{raw_key, key_of, gathered_in, blanked, laid_over, numbers, packed, unpacked, named}
 

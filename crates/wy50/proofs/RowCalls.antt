@@ -13,14 +13,14 @@ use lib.ListN.{length}
 use Rattle.rules.specs.declared.State.{State}
 use Rattle.rules.specs.declared.StepResult.{StepResult}
 use Rattle.rules.specs.declared.RunResult.{RunResult}
-use Rattle.rules.specs.Cell.{pick, both}
+use Rattle.rules.specs.Cell.{both}
 use Rattle.rules.specs.State.{number}
 use Rattle.rules.specs.Room.{over}
 use Rattle.rules.specs.Possible.{good}
 use Rattle.rules.specs.Step.{step_rule}
 use Rattle.rules.specs.Calls.{run_rule}
 use Rattle.rules.specs.RowList.{rows_of, agrees}
-use Rattle.rules.specs.RowCalls.{step_rows_rule, run_rows_rule, rows_after, can_rebuild, rebuild_answer, rebuilt}
+use Rattle.rules.specs.RowCalls.{step_rows_rule, run_rows_rule, rows_after, rebuild_answer, rebuilt}
 use Rattle.rules.proofs.Kept.{possible_parts, good_parts, step_good, run_good}
 use Rattle.rules.proofs.RowSteps.{equal_results, disagreeing}
 use Rattle.state.proofs.Tests.{both_right}

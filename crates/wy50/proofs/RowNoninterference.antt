@@ -6,7 +6,7 @@ use mathlib.Core.Bool.{Bool, true, false}
 use mathlib.Core.List.{List, [], ◌∷◌, ◌++◌}
 use Prim.Native.Nat.{ℕ}
 use lib.ListN.{get_or, take}
-use Rattle.rules.specs.Cell.{pick, both}
+use Rattle.rules.specs.Cell.{pick}
 use Rattle.rules.specs.State.{width_of}
 use Rattle.rules.specs.Possible.{good}
 use Rattle.rules.specs.Calls.{Call, Step, Run, of_run, Given}
@@ -19,7 +19,7 @@ use Rattle.rules.proofs.Next.{next_run_lem}
 use Rattle.rules.proofs.Noninterference.{guards_agree, next_call_agrees, start_related, related_kept}
 use Rattle.terminal.proofs.Noninterference.{front}
 use Rattle.wy50.specs.declared.raw.RawState.{RawState}
-use Rattle.wy50.specs.Raw.{packed, unpacked, named}
+use Rattle.wy50.specs.Raw.{packed, unpacked}
 use Rattle.wy50.specs.Promise.{raw_good, raw_step, raw_ran, raw_run, bad_step, bad_run}
 use Rattle.wy50.specs.Rows.{raw_listed, raw_step_rows, raw_run_rows, raw_suited, raw_next, raw_rows_after, raw_can_rebuild}
 use Rattle.wy50.specs.Noninterference.{RawGiven, RawCalled, of_raw_step, of_raw_run, raw_call, RawCompleted, first, later}
@@ -203,6 +203,7 @@ rest_free x Rebuild free k = free k
 
 -- nor does its first call
 append_completed : (ds cs : List Call) {p : List ℕ} {x : RawState} → RawCompleted ds p x → RawCompleted (ds ++ cs) p x
+append_completed [] cs k = elim k [ ]
 append_completed (c ∷ ds) cs (first e k) = first e k
 append_completed (c ∷ ds) cs (later k) = later (append_completed ds cs k)
 

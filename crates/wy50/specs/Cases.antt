@@ -4,11 +4,9 @@ use Rattle.rules.specs.declared.Argument.TheVariants as Argument
 use Rattle.rules.specs.declared.Slot.TheVariants as Slot
 use Rattle.rules.specs.declared.Modes.{Modes}
 use Rattle.rules.specs.declared.Pending.{Pending}
-use Rattle.rules.specs.declared.Pending.TheVariants as Pending
 use Rattle.rules.specs.declared.Short.TheVariants as Short
 use Rattle.rules.specs.declared.Place.TheVariants as Place
 use Rattle.rules.specs.declared.Sending.{Sending}
-use Rattle.rules.specs.declared.Sending.TheVariants as Sending
 use Rattle.rules.specs.declared.State.{State}
 use Rattle.rules.specs.declared.Personality.TheVariants as Personality
 use Rattle.rules.specs.State.{short_text, long_text, no_text}

@@ -2,7 +2,6 @@
 -- possible state, and a page of another length, answer 7, and the numbers come back as they were.
 use Rattle.std.specs.Prelude.{◌≡◌, Bool, true, List, [], ◌⊎◌, ℕ, ◌≤◌, length, drop}
 use Rattle.rules.specs.declared.Personality.{Personality}
-use Rattle.rules.specs.declared.Personality.TheVariants as Personality
 use Rattle.rules.specs.declared.State.{State}
 use Rattle.rules.specs.declared.Position.{Position}
 use Rattle.rules.specs.Cell.{pick, both}

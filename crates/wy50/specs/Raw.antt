@@ -1,23 +1,16 @@
 -- A state as C holds it, in numbers: the numbers of a state, and the state that numbers name.
 use Rattle.std.specs.Prelude.{Bool, true, false, List, [], ◌∷◌, map, ℕ, zero, suc, ltb, eqb}
 use Rattle.rules.specs.declared.Argument.{Argument}
-use Rattle.rules.specs.declared.Argument.TheVariants as Argument
 use Rattle.rules.specs.declared.Slot.{Slot}
-use Rattle.rules.specs.declared.Slot.TheVariants as Slot
 use Rattle.rules.specs.declared.ShortText.{ShortText}
 use Rattle.rules.specs.declared.LongText.{LongText}
 use Rattle.rules.specs.declared.Modes.{Modes}
 use Rattle.rules.specs.declared.Pending.{Pending}
-use Rattle.rules.specs.declared.Pending.TheVariants as Pending
 use Rattle.rules.specs.declared.Short.{Short}
-use Rattle.rules.specs.declared.Short.TheVariants as Short
 use Rattle.rules.specs.declared.Place.{Place}
-use Rattle.rules.specs.declared.Place.TheVariants as Place
 use Rattle.rules.specs.declared.Sending.{Sending}
-use Rattle.rules.specs.declared.Sending.TheVariants as Sending
 use Rattle.rules.specs.declared.State.{State}
 use Rattle.rules.specs.declared.Personality.{Personality}
-use Rattle.rules.specs.declared.Personality.TheVariants as Personality
 use Rattle.rules.specs.Cell.{pick, both, either}
 use Rattle.rules.specs.Send.{short_command, text_command}
 use Rattle.wy50.specs.declared.raw.RawKey.{RawKey}

@@ -1,6 +1,6 @@
 -- Demand 3 of the exported calls with row lists, the statement: two terminals that start with the same numbers and the same list, right or
 -- wrong, run by the same calls, whose promises hold, are indistinguishable.
-use Rattle.std.specs.Prelude.{◌≡◌, Bool, true, List, [], ◌∷◌, ◌++◌, ℕ, length, take, drop}
+use Rattle.std.specs.Prelude.{◌≡◌, Bool, List, [], ◌∷◌, ◌++◌, ℕ, length, take, drop}
 use Rattle.rules.specs.Cell.{pick}
 use Rattle.rules.specs.Calls.{Call, Step, Run}
 use Rattle.rules.specs.Theorems.Noninterference.{AlikePages, KeptPages}
