@@ -16,7 +16,7 @@ RUST := wy50 wy50-counter
 TABLE := $(if $(SAVE),docs,target)/BENCHMARKS.md
 PICTURES := $(dir $(TABLE))pictures
 TERMINAL := $(addprefix crates/,rules page state plan carry terminal)
-sources = crates.txt $(shell find $(1) -name '*.rt' -o -name '*.antt')
+sources = crates.txt $(shell find $(1) -name out -prune -o '(' -name '*.rt' -o -name '*.antt' ')' -print)
 
 help: ## these lines
 	@awk -F ':.*## ' '/^[a-z-]+:.*## / { printf "    make %-10s %s\n", $$1, $$2 }' $(MAKEFILE_LIST)
@@ -25,7 +25,7 @@ demo: ## plays two host streams: page, refusals, what members are sent with its 
 	@tools/need rt
 	@examples/demo
 
-test: ## the gate: proves every crate, tries the must-fail edits, runs the tests; about 25 minutes on two cores
+test: ## the gate: proves every crate, tries the must-fail edits, runs the tests
 	@tools/need rt cargo
 	@tests/gate
 
@@ -36,21 +36,22 @@ edits: ## tries all wrong programs, and says in tests/edits/RECORD where each is
 lib: $(LIB) $(COUNTER) ## libwy50.a and libwy50_counter.a, in target/staticlib
 
 $(LIB): $(call sources,$(TERMINAL) crates/fields crates/saved crates/mend crates/repaint crates/session crates/wy50)
-	@tools/prove staticlib wy50
-	@touch $@
+	@tools/prove wy50
+	@mkdir -p $(@D) && cp crates/wy50/out/libwy50.a $@
 
-$(COUNTER): $(call sources,$(TERMINAL) crates/counter crates/wy50_counter)
-	@tools/prove staticlib wy50_counter
-	@touch $@
+# the crate of the calls from C stands on the library of the same calls, wy50_counter
+$(COUNTER): $(call sources,$(TERMINAL) crates/counter crates/wy50_counter crates/wy50_counter_c)
+	@tools/prove wy50_counter_c
+	@mkdir -p $(@D) && cp crates/wy50_counter_c/out/libwy50_counter_c.a $@
 
 test-face: lib ## tests of the libraries from C and Rust, the examples and the pages
 	@tests/face/run
 
-# over the replay that make test or rt check has built
+# over the replay that make test or tools/prove has built
 fuzz: ## random scripts against the independent implementation; SECONDS=60 SEED=1
 	@tools/need cargo
-	@test -x target/bin/replay || tools/prove check replay
-	@$$(tests/build-independent) compare target/bin/replay $(SEED) --seconds $(SECONDS)
+	@test -x crates/replay/out/replay || tools/prove replay
+	@$$(tests/build-independent) compare crates/replay/out/replay $(SEED) --seconds $(SECONDS)
 
 fuzz-face: $(LIB) ## random calls from C under the sanitizers; SECONDS=60
 	@mkdir -p target/face
@@ -89,4 +90,4 @@ uninstall: ## takes out what install put there; the same PREFIX
 	rm -rf $(TO)/share/wy50
 
 clean: ## removes all that was built, the proofs too
-	rm -rf target
+	rm -rf target crates/*/out

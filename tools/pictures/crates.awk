@@ -8,7 +8,8 @@ BEGIN {
 /^#/ { next }
 
 {
-    crate[++crates] = $1
+    outward[++crates] = sub(/ .*/, "", $1) # a word after the name: a static library
+    crate[crates] = $1
     place[$1] = crates
     rests[crates] = $2
 }
@@ -205,7 +206,7 @@ function draw(    k, e, least, most, a, b, from, to, kind) {
     }
     print "</g>"
     for (k = 1; k <= crates; k++) {
-        kind = program[k] ? "fill=\"#6b4a12\"" : crate[k] ~ /^wy50/ ? "fill=\"#155a43\"" : "fill=\"#24303c\""
+        kind = program[k] ? "fill=\"#6b4a12\"" : outward[k] ? "fill=\"#155a43\"" : "fill=\"#24303c\""
         box(x[k] - wide[k] / 2, at(level[k]), wide[k], HIGH, 7, kind " stroke=\"#6f8092\"")
         centred(x[k], at(level[k]) + 22, SIZE, "loud", crate[k])
     }

@@ -636,7 +636,7 @@ fn introduction(out: &mut String) {
     let rows = [
         ("date", said("date", &["+%Y-%m-%d"])),
         ("machine", machine()),
-        ("proved", "`rt staticlib wy50`: LLVM at -O3 for x86-64, called through `rust/wy50`".to_string()),
+        ("proved", "`rt lib` in `crates/wy50`: LLVM at -O3 for x86-64, called through `rust/wy50`".to_string()),
         ("independent", format!("`tests/independent`, {}, opt-level 3", said("rustc", &["--version"]))),
         (
             "libvterm",
