@@ -11,8 +11,7 @@ use counter::{Counted, count, count_text};
 // it here and in the contract.
 const VERSION: u32 = 13000;
 
-#[unsafe(no_mangle)]
-pub extern "C" fn wy50_counter_version() -> u32
+pub fn wy50_counter_version() -> u32
     ensures { result ≡ 1000000 * 0 + 1000 * 13 + 0 }
 {
     VERSION
@@ -79,8 +78,7 @@ fn billed(c: Counted) -> u64
 }
 
 // The billing job's count of its own bytes: their parts, or the largest number for a byte outside the alphabet.
-#[unsafe(no_mangle)]
-pub extern "C" fn wy50_count_parts(text: &[u8]) -> u64
+pub fn wy50_count_parts(text: &[u8]) -> u64
     ensures { result ≡ billed_of (numbers (text_count text.now)) }
 {
     let c = count_text(text);
@@ -88,8 +86,7 @@ pub extern "C" fn wy50_count_parts(text: &[u8]) -> u64
 }
 
 // The same count, with its units and the place of a refused byte.
-#[unsafe(no_mangle)]
-pub extern "C" fn wy50_count_text(text: &[u8]) -> RawCount
+pub fn wy50_count_text(text: &[u8]) -> RawCount
     ensures { result ≡ raw_of (numbers (text_count text.now)) }
 {
     let c = count_text(text);
@@ -97,8 +94,7 @@ pub extern "C" fn wy50_count_text(text: &[u8]) -> RawCount
 }
 
 // The pieces of a reply to ESC 5, from number `first` to number `last`.
-#[unsafe(no_mangle)]
-pub extern "C" fn wy50_count_reply(reply: &[u8], first: usize, last: usize) -> RawCount
+pub fn wy50_count_reply(reply: &[u8], first: usize, last: usize) -> RawCount
     ensures { result ≡ raw_of (numbers (count_rule reply.now first last)) }
 {
     let c = count(reply, first, last);
