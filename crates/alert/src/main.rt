@@ -16,40 +16,61 @@ ghost use Rattle.rules.specs.Row.{height, columns as columns_of};
 ghost use Rattle.rules.specs.State.{page_length};
 ghost use Rattle.alert.specs.Watch.{Came};
 
-use libc::{STDERR_FILENO, STDIN_FILENO};
 use options::Options;
 use print::{attributes, out, picture, report};
 use rules::{Personality, State};
 use state::width::columns;
+use std::env::FillError;
+use std::fmt::InlineText;
+use std::io::{ErrorKind, Read};
+use std::rt::{Env, Files};
+use std::{fs, io, str};
 use stream::Played;
 
-// What stopped the reading, with the system's reason.
-fn unreadable(name: &[u8]) {
-    io::write_all(STDERR_FILENO, b"alert: cannot read ");
-    os::fail(name);
+// The system's words for an error, without its number.
+fn without_number(text: &str) -> &str {
+    match text.split_once(" (os error ") {
+        Some((words, _)) => words,
+        None => text,
+    }
+}
+
+// What stopped the reading, with the reason.
+fn unreadable(rt: &impl Eprint, name: &str, why: io::Error) -> io::Result<()> {
+    let text = InlineText::<256>::of(why);
+    let reason = without_number(text.as_str());
+    eprintln!(rt; "alert: cannot read {name}: {reason}")
 }
 
 // Prints what is told of the guarded cells.
-fn show_guarded(page: &[u16], drawn: &[u16], state: State)
+fn show_guarded(rt: &impl Print, page: &[u16], drawn: &[u16], state: State) -> io::Result<()>
     requires { (length page.now ≡ page_length state.core.screen)
         × ((length page.now ≡ length drawn.now) × Came page.now drawn.now state) }
 {
     let mut room = [0u8; 256];
     let width = columns(state.core.screen.wide) as usize;
     let n = guarded::line(&mut room, page, drawn, width, state.core.modes.protect);
-    out::text(&room[..n]);
+    out::text(rt, &room[..n])
 }
 
 // Prints what members are sent. Its room is 211 bytes and 17 for each of the longest reply: no message is longer.
-fn show_message(page: &mut [u16], state: State, o: Options)
+fn show_message(rt: &impl Print, page: &mut [u16], state: State, o: Options) -> io::Result<()>
     requires { (drawn : List ℕ) × Came page.old drawn state }
 {
     let mut room = [0u8; 54475];
     let n = message::message(&mut room, page, state, o.first, o.all, o.last);
-    out::text(&room[..n]);
+    out::text(rt, &room[..n])
 }
 
-fn show(name: &[u8], page: &mut [u16], drawn: &[u16], p: Played, log: &[u8], o: Options)
+fn show(
+    rt: &impl Print,
+    name: &str,
+    page: &mut [u16],
+    drawn: &[u16],
+    p: Played,
+    log: &[u8],
+    o: Options,
+) -> io::Result<()>
     requires { (length page.old ≡ page_length p.state.core.screen)
         × ((length page.old ≡ length drawn.now) × Came page.old drawn.now p.state) }
 {
@@ -62,18 +83,25 @@ fn show(name: &[u8], page: &mut [u16], drawn: &[u16], p: Played, log: &[u8], o: 
     let wide = screen.wide;
     let pending = core.pending;
     let refusals = p.refusals;
-    report::heading(name, p.bytes);
-    picture::show(page, wide, protect, report::cursor_of(screen), setup);
-    report::place(page, protect, screen);
-    report::modes(modes);
-    attributes::remembered(core.attribute);
-    attributes::show(page, wide);
-    report::wish(wide, setup.wish);
-    report::sequence(pending);
-    show_guarded(page, drawn, state);
-    report::refused(refusals, p.bytes, p.clean);
-    show_message(page, state, o);
-    report::replies(p, log);
+    report::heading(rt, name, p.bytes)?;
+    picture::show(
+        rt,
+        page,
+        wide,
+        protect,
+        report::cursor_of(screen),
+        setup,
+    )?;
+    report::place(rt, page, protect, screen)?;
+    report::modes(rt, modes)?;
+    attributes::remembered(rt, core.attribute)?;
+    attributes::show(rt, page, wide)?;
+    report::wish(rt, wide, setup.wish)?;
+    report::sequence(rt, pending)?;
+    show_guarded(rt, page, drawn, state)?;
+    report::refused(rt, refusals, p.bytes, p.clean)?;
+    show_message(rt, page, state, o)?;
+    report::replies(rt, p, log)
 }
 
 fn personality(wy60: bool) -> Personality {
@@ -85,21 +113,22 @@ fn personality(wy60: bool) -> Personality {
 
 // Plays the stream on these pages, wide or narrow, and shows what came of it.
 fn play_on(
-    fd: i32,
-    name: &[u8],
+    rt: &(impl Print + Eprint),
+    host: &mut impl Read,
+    name: &str,
     wide: bool,
     page: &mut [u16],
     before: &mut [u16],
     drawn: &mut [u16],
     o: Options,
-)
+) -> io::Result<()>
     requires { (length page.old ≡ height * columns_of wide)
         × ((length page.old ≡ length before.old) × (length page.old ≡ length drawn.old)) }
 {
     let mut room = [0u8; 64];
-    let mut log = io::buffer();
-    let p = stream::play(
-        fd,
+    let mut log = [0u8; 4096];
+    let played = stream::play(
+        host,
         wide,
         personality(o.wy60),
         page,
@@ -108,63 +137,101 @@ fn play_on(
         &mut room,
         &mut log,
     );
-    if p.failed {
-        unreadable(name);
-        return;
+    match played {
+        Ok(p) => show(rt, name, page, drawn, p, &log, o),
+        Err(why) => unreadable(rt, name, why),
     }
-    show(name, page, drawn, p, &log, o);
 }
 
-fn play_wide(fd: i32, name: &[u8], o: Options) {
+fn play_wide(
+    rt: &(impl Print + Eprint),
+    host: &mut impl Read,
+    name: &str,
+    o: Options,
+) -> io::Result<()> {
     let mut page = [0u16; 3168];
     let mut before = [0u16; 3168];
     let mut drawn = [0u16; 3168];
-    play_on(fd, name, true, &mut page, &mut before, &mut drawn, o);
+    play_on(
+        rt,
+        host,
+        name,
+        true,
+        &mut page,
+        &mut before,
+        &mut drawn,
+        o,
+    )
 }
 
-fn play_narrow(fd: i32, name: &[u8], o: Options) {
+fn play_narrow(
+    rt: &(impl Print + Eprint),
+    host: &mut impl Read,
+    name: &str,
+    o: Options,
+) -> io::Result<()> {
     let mut page = [0u16; 1920];
     let mut before = [0u16; 1920];
     let mut drawn = [0u16; 1920];
-    play_on(fd, name, false, &mut page, &mut before, &mut drawn, o);
+    play_on(
+        rt,
+        host,
+        name,
+        false,
+        &mut page,
+        &mut before,
+        &mut drawn,
+        o,
+    )
 }
 
-fn play(fd: i32, name: &[u8], o: Options) {
+fn play(
+    rt: &(impl Print + Eprint),
+    host: &mut impl Read,
+    name: &str,
+    o: Options,
+) -> io::Result<()> {
     if o.wide {
-        play_wide(fd, name, o);
-        return;
+        return play_wide(rt, host, name, o);
     }
-    play_narrow(fd, name, o);
+    play_narrow(rt, host, name, o)
 }
 
-fn play_file(o: Options) {
-    let mut path = io::buffer();
-    let n = os::arg(o.file, &mut path);
-    if os::errno() != 0 {
-        unreadable(b"the file that is named");
-        return;
+// Why an argument is not there to be read.
+fn unfilled(e: FillError) -> io::Error {
+    match e {
+        FillError::NotPresent => io::Error::new(ErrorKind::InvalidInput, "Invalid argument"),
+        FillError::TooLong => io::Error::new(ErrorKind::InvalidFilename, "File name too long"),
     }
-    let fd = os::open_read(&path[..n]);
-    if fd < 0 {
-        unreadable(&path[..n]);
-        return;
-    }
-    play(fd, &path[..n], o);
-    libc::close(fd);
 }
 
-fn main() {
-    let o = options::read();
+// A file is opened by a name in UTF-8.
+fn open_and_play<R: Files + Print + Eprint>(rt: &R, path: &[u8], o: Options) -> io::Result<()> {
+    let Ok(name) = str::from_utf8(path) else {
+        let why = io::Error::new(ErrorKind::InvalidFilename, "its name is not UTF-8");
+        return unreadable(rt, "the file that is named", why);
+    };
+    match fs::open(rt, name) {
+        Ok(mut file) => play(rt, &mut file, name, o),
+        Err(why) => unreadable(rt, name, why),
+    }
+}
+
+fn play_file<R: Env + Files + Print + Eprint>(rt: &R, o: Options) -> io::Result<()> {
+    let mut path = [0u8; 4096];
+    match rt.arg(o.file, &mut path) {
+        Ok(n) => open_and_play(rt, &path[..n], o),
+        Err(e) => unreadable(rt, "the file that is named", unfilled(e)),
+    }
+}
+
+fn main(rt: HostRuntime) -> io::Result<()> {
+    let o = options::read(&rt);
     if o.bad {
-        io::write_all(
-            STDERR_FILENO,
-            b"usage: alert [-6] [-w] [--first PIECE] [--last PIECE] [FILE]\n",
-        );
-        return;
+        return eprintln!(rt; "usage: alert [-6] [-w] [--first PIECE] [--last PIECE] [FILE]");
     }
     if o.file == 0 {
-        play(STDIN_FILENO, b"standard input", o);
-        return;
+        return play(&rt, &mut rt.reader(), "standard input", o);
     }
-    play_file(o);
+    play_file(&rt, o)
 }

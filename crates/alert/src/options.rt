@@ -1,5 +1,6 @@
 // The command line: alert [-6] [-w] [--first N] [--last N] [FILE].
-use check::same;
+use std::env::FillError;
+use std::rt::Env;
 
 // What the next argument is: anything, or the number of an option.
 const ANYTHING: u8 = 0;
@@ -97,46 +98,47 @@ fn take(o: Options, i: usize, word: &[u8]) -> Options {
         return with_number(o, number(word));
     }
     let mut t = o;
-    if same(word, b"-6") {
+    if word == b"-6".as_slice() {
         t.wy60 = true;
         return t;
     }
-    if same(word, b"-w") {
+    if word == b"-w".as_slice() {
         t.wide = true;
         return t;
     }
-    if same(word, b"--first") {
+    if word == b"--first".as_slice() {
         t.awaits = FIRST;
         return t;
     }
-    if same(word, b"--last") {
+    if word == b"--last".as_slice() {
         t.awaits = LAST;
         return t;
     }
     with_file(o, i)
 }
 
-fn argument(o: Options, i: usize) -> Options {
-    let mut word = io::buffer();
-    let n = os::arg(i, &mut word);
-    if os::errno() != 0 {
-        return spoilt(o);
+// Argument i, or nothing past the last.
+fn argument(rt: &impl Env, o: Options, i: usize) -> Option<Options> {
+    let mut word = [0u8; 4096];
+    match rt.arg(i, &mut word) {
+        Ok(n) => Some(take(o, i, &word[..n])),
+        Err(FillError::TooLong) => Some(spoilt(o)),
+        Err(FillError::NotPresent) => None,
     }
-    take(o, i, &word[..n])
 }
 
-fn all_of(o: Options, count: usize) -> Options {
+fn all_of(rt: &impl Env, o: Options) -> Options {
     let mut t = o;
-    let mut i = 1;
-    while i < count {
-        let u = argument(t, i);
+    for i in 1..usize::MAX {
+        let Some(u) = argument(rt, t, i) else {
+            break;
+        };
         t = u;
-        i += 1;
     }
     t
 }
 
-pub fn read() -> Options {
+pub fn read(rt: &impl Env) -> Options {
     let none = Options {
         wy60: false,
         wide: false,
@@ -147,7 +149,7 @@ pub fn read() -> Options {
         awaits: ANYTHING,
         bad: false,
     };
-    let o = all_of(none, os::arg_count());
+    let o = all_of(rt, none);
     if o.awaits != ANYTHING {
         return spoilt(o);
     }

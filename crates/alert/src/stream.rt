@@ -1,6 +1,6 @@
 // The bytes of the host, one by one to the terminal, and what came of them. A reply that does not fit the room begins, and goes on before the next
 // byte.
-ghost use Rattle.std.specs.Prelude.{◌≡◌, ℕ, ◌*◌, true, List, [], length};
+ghost use Rattle.std.specs.Prelude.{◌≡◌, ℕ, ◌*◌, true, List, [], length, IfOk, OnErr};
 ghost use Rattle.rules.specs.Cell.{pick};
 ghost use Rattle.rules.specs.Row.{height, columns, narrow_cells, wide_cells};
 ghost use Rattle.rules.specs.State.{sends as sending};
@@ -12,6 +12,8 @@ ghost use Rattle.alert.specs.Watch.{start_on, Took, Ended, goes_on, watch, finis
 use crate::cells::{copy, same};
 use rules::{Answer, Personality, State};
 use state::sending::is_sending;
+use std::io;
+use std::io::Read;
 use std::num::wrapping_add_u64;
 
 // No reply is longer: that of a wide page.
@@ -37,9 +39,8 @@ pub struct Played {
     pub kept: usize,
     // no byte above 7Fh has changed the page
     pub clean: bool,
-    // the stream may go on; reading it failed
+    // the stream may go on
     pub going: bool,
-    pub failed: bool,
 }
 
 // Power-on, on a narrow page.
@@ -91,7 +92,6 @@ fn begun(state: State) -> Played
         kept: 0,
         clean: true,
         going: true,
-        failed: false,
     }
 }
 
@@ -153,7 +153,6 @@ fn step(page: &mut [u16], p: Played, byte: u8, room: &mut [u8], log: &mut [u8]) 
         kept: keep(log, p.kept, &room[..n]),
         clean: p.clean,
         going: true,
-        failed: false,
     }
 }
 
@@ -174,7 +173,6 @@ fn resume(page: &mut [u16], p: Played, room: &mut [u8], log: &mut [u8]) -> Playe
         kept: keep(log, p.kept, &room[..n]),
         clean: p.clean,
         going: true,
-        failed: false,
     }
 }
 
@@ -310,70 +308,73 @@ fn feed(
     t
 }
 
-fn ended(p: Played, failed: bool) -> Played
+fn ended(p: Played) -> Played
     ensures { result.state ≡ p.state }
 {
     let mut t = p;
     t.going = false;
-    t.failed = failed;
     t
 }
 
-// One piece of the stream, of any size.
+// One piece of the stream, of any size. Where reading fails nothing is played.
 fn piece(
-    fd: i32,
+    host: &mut impl Read,
     page: &mut [u16],
     before: &mut [u16],
     drawn: &mut [u16],
     p: Played,
     room: &mut [u8],
     log: &mut [u8],
-) -> Played
+) -> io::Result<Played>
     requires { (length page.old ≡ length before.old) × (length page.old ≡ length drawn.old) }
-    ensures { Fed (length room.old) (watch page.old drawn.old p.state)
-        (watch page.new drawn.new result.state) }
+    ensures fed { IfOk result (λ r. Fed (length room.old) (watch page.old drawn.old p.state)
+        (watch page.new drawn.new r.state)) }
+    ensures err { OnErr result ((page.new ≡ page.old) × (drawn.new ≡ drawn.old)) }
 {
-    let mut input = io::buffer();
-    let got = libc::read(fd, &mut input);
-    if got <= 0 {
-        return ended(p, got < 0);
+    let mut input = [0u8; 4096];
+    let n = host.read(&mut input)?;
+    if n == 0 {
+        return Ok(ended(p));
     }
-    let n = io::count(got, &input);
-    feed(page, before, drawn, p, &input[..n], room, log)
+    Ok(feed(page, before, drawn, p, &input[..n], room, log))
 }
 
 // All pieces. A proved loop has to end, and nothing says that a stream does: the count falls from a number that no stream uses up.
+// Where reading fails, the pages are as the pieces before left them.
 fn pieces(
-    fd: i32,
+    host: &mut impl Read,
     page: &mut [u16],
     before: &mut [u16],
     drawn: &mut [u16],
     start: Played,
     room: &mut [u8],
     log: &mut [u8],
-) -> Played
+) -> io::Result<Played>
     requires { (length page.old ≡ length before.old) × (length page.old ≡ length drawn.old) }
-    ensures { Fed (length room.old) (watch page.old drawn.old start.state)
-        (watch page.new drawn.new result.state) }
+    ensures fed { IfOk result (λ r. Fed (length room.old) (watch page.old drawn.old start.state)
+        (watch page.new drawn.new r.state)) }
+    ensures err { OnErr result ((s : State) × Fed (length room.old) (watch page.old drawn.old start.state)
+        (watch page.new drawn.new s)) }
 {
     let mut p = start;
     let mut left = u64::MAX;
     while 0 < left {
-        let t = piece(fd, page, before, drawn, p, room, log);
+        let t = piece(host, page, before, drawn, p, room, log)?;
         p = t;
         if !p.going {
             break;
         }
         left -= 1;
     }
-    p
+    Ok(p)
 }
 
 // The whole stream, from the power-on of a personality, on a wide page or a narrow one. `before` is for the comparison of pages, and `drawn` comes
 // back
-// as the page was when protect mode last went on; the log comes back with the first bytes of the replies.
+// as the page was when protect mode last went on; the log comes back with the first bytes of the replies. Where reading fails, the pages are as the
+// bytes before left them.
 pub fn play(
-    fd: i32,
+    host: &mut impl Read,
     wide: bool,
     personality: Personality,
     page: &mut [u16],
@@ -381,12 +382,13 @@ pub fn play(
     drawn: &mut [u16],
     room: &mut [u8],
     log: &mut [u8],
-) -> Played
+) -> io::Result<Played>
     requires { (length page.old ≡ height * columns wide)
         × ((length page.old ≡ length before.old) × (length page.old ≡ length drawn.old)) }
-    ensures { Came page.new drawn.new result.state }
+    ensures came { IfOk result (λ r. Came page.new drawn.new r.state) }
+    ensures err { OnErr result ((s : State) × Came page.new drawn.new s) }
 {
     let state = start(page, wide, personality);
     let p = begun(state);
-    pieces(fd, page, before, drawn, p, room, log)
+    pieces(host, page, before, drawn, p, room, log)
 }

@@ -8,25 +8,26 @@ use crate::print::out;
 use crate::print::report::least;
 use crate::put;
 use rules::{LongText, ShortText};
+use std::io;
 
 // A line above or below the frame, in the columns of the page.
-fn show_line(text: &[u8]) {
-    out::text(b"    ");
-    out::text(text);
-    out::text(b"\n");
+fn show_line(rt: &impl Print, text: &[u8]) -> io::Result<()> {
+    out::text(rt, b"    ")?;
+    out::text(rt, text)?;
+    out::text(rt, b"\n")
 }
 
-fn show_message(bytes: [u8; 46], len: usize) {
+fn show_message(rt: &impl Print, bytes: [u8; 46], len: usize) -> io::Result<()> {
     let n = least(len, 46);
-    show_line(&bytes[..n]);
+    show_line(rt, &bytes[..n])
 }
 
-pub fn message(m: LongText) {
+pub fn message(rt: &impl Print, m: LongText) -> io::Result<()> {
     if m.len == 0 {
-        return;
+        return Ok(());
     }
     let bytes = m.bytes;
-    show_message(bytes, m.len as usize);
+    show_message(rt, bytes, m.len as usize)
 }
 
 // Label i of the shown line, from 0: of the fields from 50h while the shifted line is on, from 30h while it is off.
@@ -67,12 +68,12 @@ fn draw_labels(line: &mut [u8], all: [ShortText; 16], shifted: bool) {
     }
 }
 
-pub fn labels(all: [ShortText; 16], shifted: bool) {
+pub fn labels(rt: &impl Print, all: [ShortText; 16], shifted: bool) -> io::Result<()> {
     let mut line = [b' '; 80];
     draw_labels(&mut line, all, shifted);
     let n = trimmed(&line);
     if n == 0 {
-        return;
+        return Ok(());
     }
-    show_line(&line[..n]);
+    show_line(rt, &line[..n])
 }

@@ -8,6 +8,7 @@ use crate::print::{lines, out};
 use page::cell::{is_open, kind_of, sent_code};
 use rules::Setup;
 use state::width::{column_of, row_of};
+use std::io;
 
 // What is seen of a cell: a graphic as #, any other as a send gives it.
 fn seen(v: u16) -> u8 {
@@ -72,25 +73,26 @@ fn is_empty(cells: &[u16], protect: bool, cursor: usize) -> bool
     trimmed(&line) == 0
 }
 
-fn framed(line: &[u8]) {
-    out::text(b" |");
-    out::text(line);
-    out::text(b"|\n");
+fn framed(rt: &impl Print, line: &[u8]) -> io::Result<()> {
+    out::text(rt, b" |")?;
+    out::text(rt, line)?;
+    out::text(rt, b"|\n")
 }
 
-fn show_row(cells: &[u16], protect: bool, number: u64, cursor: usize)
+fn show_row(rt: &impl Print, cells: &[u16], protect: bool, number: u64, cursor: usize) -> io::Result<()>
     requires { length cells.now ≤ 132 }
 {
     let mut line = [b' '; 132];
     let n = cells.len();
     draw(cells, &mut line);
-    out::aligned(number);
-    framed(&line[..n]);
+    out::aligned(rt, number)?;
+    framed(rt, &line[..n])?;
     draw_marks(cells, protect, cursor, &mut line);
     if trimmed(&line) != 0 {
-        out::text(b"  ");
-        framed(&line[..n]);
+        out::text(rt, b"  ")?;
+        framed(rt, &line[..n])?;
     }
+    Ok(())
 }
 
 // How many rows there are up to the last that is not empty.
@@ -109,74 +111,81 @@ fn rows_used(page: &[u16], wide: bool, protect: bool, cursor: u16) -> usize
     n
 }
 
-fn show_rows(page: &[u16], wide: bool, protect: bool, cursor: u16, n: usize)
+fn show_rows(rt: &impl Print, page: &[u16], wide: bool, protect: bool, cursor: u16, n: usize) -> io::Result<()>
     requires page_len { length page.now ≡ height * columns wide }
     requires n_bound { n ≤ 24 }
 {
     let mut r = 0;
     while r < n {
         show_row(
+            rt,
             row(page, wide, r),
             protect,
             r as u64 + 1,
             cursor_in(r, wide, cursor),
-        );
+        )?;
         r += 1;
     }
+    Ok(())
 }
 
 // The rows that are left out.
-fn folded(n: usize) {
+fn folded(rt: &impl Print, n: usize) -> io::Result<()> {
     if n < 23 {
-        out::text(b"    rows ");
-        out::number(n as u64 + 1);
-        out::text(b" to 24 are empty\n");
+        out::text(rt, b"    rows ")?;
+        out::number(rt, n as u64 + 1)?;
+        out::text(rt, b" to 24 are empty\n")?;
     }
     if n == 23 {
-        out::text(b"    row 24 is empty\n");
+        out::text(rt, b"    row 24 is empty\n")?;
     }
+    Ok(())
 }
 
-fn legend(protect: bool) {
+fn legend(rt: &impl Print, protect: bool) -> io::Result<()> {
     if protect {
-        out::text(b"    - open cell   ^ cursor   every other cell is guarded\n");
-        return;
+        return out::text(
+            rt,
+            b"    - open cell   ^ cursor   every other cell is guarded\n",
+        );
     }
-    out::text(b"    ^ cursor\n");
+    out::text(rt, b"    ^ cursor\n")
 }
 
 // The frame's upper edge counts the columns.
-fn upper_edge(wide: bool) {
+fn upper_edge(rt: &impl Print, wide: bool) -> io::Result<()> {
     out::text(
+        rt,
         b"   +---------1---------2---------3---------4---------5---------6---------7---------8",
-    );
+    )?;
     if wide {
-        out::text(b"---------9--------10--------11--------12--------13--");
+        out::text(rt, b"---------9--------10--------11--------12--------13--")?;
     }
-    out::text(b"+\n");
+    out::text(rt, b"+\n")
 }
 
-fn lower_edge(wide: bool) {
+fn lower_edge(rt: &impl Print, wide: bool) -> io::Result<()> {
     out::text(
+        rt,
         b"   +--------------------------------------------------------------------------------",
-    );
+    )?;
     if wide {
-        out::text(b"----------------------------------------------------");
+        out::text(rt, b"----------------------------------------------------")?;
     }
-    out::text(b"+\n");
+    out::text(rt, b"+\n")
 }
 
-pub fn show(page: &[u16], wide: bool, protect: bool, cursor: u16, setup: Setup)
+pub fn show(rt: &impl Print, page: &[u16], wide: bool, protect: bool, cursor: u16, setup: Setup) -> io::Result<()>
     requires { length page.now ≡ height * columns wide }
 {
     let message = setup.message;
     let labels = setup.labels;
     let n = rows_used(page, wide, protect, cursor);
-    lines::message(message);
-    upper_edge(wide);
-    show_rows(page, wide, protect, cursor, n);
-    lower_edge(wide);
-    lines::labels(labels, setup.shifted);
-    folded(n);
-    legend(protect);
+    lines::message(rt, message)?;
+    upper_edge(rt, wide)?;
+    show_rows(rt, page, wide, protect, cursor, n)?;
+    lower_edge(rt, wide)?;
+    lines::labels(rt, labels, setup.shifted)?;
+    folded(rt, n)?;
+    legend(rt, protect)
 }

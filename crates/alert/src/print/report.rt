@@ -7,13 +7,14 @@ use crate::stream::{Played, Refusals};
 use page::cell::is_guarded;
 use rules::{Modes, Pending, Screen};
 use state::width::{column_of, row_of};
+use std::io;
 use std::num::wrapping_add_u64;
 
-pub fn heading(name: &[u8], bytes: u64) {
-    out::text(name);
-    out::text(b": ");
-    out::count(bytes, b"byte");
-    out::text(b" from the host\n\n");
+pub fn heading(rt: &impl Print, name: &str, bytes: u64) -> io::Result<()> {
+    out::text(rt, name.as_bytes())?;
+    out::text(rt, b": ")?;
+    out::count(rt, bytes, b"byte")?;
+    out::text(rt, b" from the host\n\n")
 }
 
 // The active cursor, a cell of the page.
@@ -26,18 +27,18 @@ pub fn cursor_of(screen: Screen) -> u16
     screen.cursor1
 }
 
-fn split(screen: Screen) {
+fn split(rt: &impl Print, screen: Screen) -> io::Result<()> {
     let s = screen.split as u64;
     if s == 0 {
-        return;
+        return Ok(());
     }
-    out::text(b"Split     segment 0 is rows 1 to ");
-    out::number(s - 1);
-    out::text(b", segment 1 rows ");
-    out::number(s);
-    out::text(b" to 24; segment ");
-    out::number(screen.active as u64);
-    out::text(b" is active\n");
+    out::text(rt, b"Split     segment 0 is rows 1 to ")?;
+    out::number(rt, s - 1)?;
+    out::text(rt, b", segment 1 rows ")?;
+    out::number(rt, s)?;
+    out::text(rt, b" to 24; segment ")?;
+    out::number(rt, screen.active as u64)?;
+    out::text(rt, b" is active\n")
 }
 
 fn is_guarded_at(page: &[u16], protect: bool, at: usize) -> bool {
@@ -48,93 +49,97 @@ fn is_guarded_at(page: &[u16], protect: bool, at: usize) -> bool {
 }
 
 // A cell of the page by its row and column.
-fn cell_place(wide: bool, at: u16) {
-    out::place(row_of(wide, at) as u64 + 1, column_of(wide, at) as u64 + 1);
+fn cell_place(rt: &impl Print, wide: bool, at: u16) -> io::Result<()> {
+    out::place(
+        rt,
+        row_of(wide, at) as u64 + 1,
+        column_of(wide, at) as u64 + 1,
+    )
 }
 
-pub fn place(page: &[u16], protect: bool, screen: Screen) {
+pub fn place(rt: &impl Print, page: &[u16], protect: bool, screen: Screen) -> io::Result<()> {
     let at = cursor_of(screen);
-    out::text(b"\nCursor    ");
-    cell_place(screen.wide, at);
+    out::text(rt, b"\nCursor    ")?;
+    cell_place(rt, screen.wide, at)?;
     if is_guarded_at(page, protect, at as usize) {
-        out::text(b", on a guarded cell");
+        out::text(rt, b", on a guarded cell")?;
     }
-    out::text(b"\n");
-    split(screen);
+    out::text(rt, b"\n")?;
+    split(rt, screen)
 }
 
 // A mode's name, where the mode is on; answers whether a name has been told.
-fn mode(told: bool, on: bool, name: &[u8]) -> bool {
+fn mode(rt: &impl Print, told: bool, on: bool, name: &[u8]) -> io::Result<bool> {
     if !on {
-        return told;
+        return Ok(told);
     }
     if told {
-        out::text(b", ");
+        out::text(rt, b", ")?;
     }
-    out::text(name);
-    true
+    out::text(rt, name)?;
+    Ok(true)
 }
 
-pub fn modes(m: Modes) {
-    out::text(b"Modes     ");
-    let a = mode(false, m.protect, b"protect");
-    let b = mode(a, m.writeprotect, b"write-protect");
-    let c = mode(b, m.insert, b"insert");
-    let d = mode(c, m.autoscroll, b"autoscroll");
-    let e = mode(d, m.locked, b"keyboard locked");
-    let f = mode(e, m.local, b"local edit");
+pub fn modes(rt: &impl Print, m: Modes) -> io::Result<()> {
+    out::text(rt, b"Modes     ")?;
+    let a = mode(rt, false, m.protect, b"protect")?;
+    let b = mode(rt, a, m.writeprotect, b"write-protect")?;
+    let c = mode(rt, b, m.insert, b"insert")?;
+    let d = mode(rt, c, m.autoscroll, b"autoscroll")?;
+    let e = mode(rt, d, m.locked, b"keyboard locked")?;
+    let f = mode(rt, e, m.local, b"local edit")?;
     if !f {
-        out::text(b"none is on");
+        out::text(rt, b"none is on")?;
     }
-    out::text(b"\n");
+    out::text(rt, b"\n")
 }
 
 // The wish, where it is not for a page of this width.
-pub fn wish(wide: bool, wished: bool) {
+pub fn wish(rt: &impl Print, wide: bool, wished: bool) -> io::Result<()> {
     if wide == wished {
-        return;
+        return Ok(());
     }
     if wished {
-        out::text(b"Wish      a wide page: alert -w shows one\n");
-        return;
+        return out::text(rt, b"Wish      a wide page: alert -w shows one\n");
     }
-    out::text(b"Wish      a narrow page: alert without -w shows one\n");
+    out::text(rt, b"Wish      a narrow page: alert without -w shows one\n")
 }
 
 // A sequence that the stream leaves unfinished.
-pub fn sequence(q: Pending) {
+pub fn sequence(rt: &impl Print, q: Pending) -> io::Result<()> {
     if let Pending::Idle = q {
-        return;
+        return Ok(());
     }
-    out::text(b"Sequence  the stream ends within one\n");
+    out::text(rt, b"Sequence  the stream ends within one\n")
 }
 
 // A kind of refusal, where there was one: how many, of what, and why.
-fn kind(n: u64, word: &[u8], why: &[u8]) {
+fn kind(rt: &impl Print, n: u64, word: &[u8], why: &[u8]) -> io::Result<()> {
     if n == 0 {
-        return;
+        return Ok(());
     }
-    out::text(b"          ");
-    out::count(n, word);
-    out::text(why);
-    out::text(b"\n");
+    out::text(rt, b"          ")?;
+    out::count(rt, n, word)?;
+    out::text(rt, why)?;
+    out::text(rt, b"\n")
 }
 
 // The bytes above 7Fh: the page was compared cell by cell before and after each.
-fn high(n: u64, clean: bool) {
+fn high(rt: &impl Print, n: u64, clean: bool) -> io::Result<()> {
     if clean {
-        kind(
+        return kind(
+            rt,
             n,
             b"byte",
             b" above 7Fh (answer 1): the page is the same before and after, cell by cell",
         );
-        return;
     }
     kind(
+        rt,
         n,
         b"byte",
         b" above 7Fh (answer 1): THE PAGE IS NOT THE SAME before and after",
-    );
+    )
 }
 
 fn total(r: Refusals) -> u64 {
@@ -144,41 +149,44 @@ fn total(r: Refusals) -> u64 {
 }
 
 // A number, or the word for none.
-fn amount(n: u64) {
+fn amount(rt: &impl Print, n: u64) -> io::Result<()> {
     if n == 0 {
-        out::text(b"none");
-        return;
+        return out::text(rt, b"none");
     }
-    out::number(n);
+    out::number(rt, n)
 }
 
-pub fn refused(r: Refusals, bytes: u64, clean: bool) {
-    out::text(b"Refused   ");
-    amount(total(r));
-    out::text(b" of ");
-    out::count(bytes, b"byte");
-    out::text(b"\n");
-    high(r.high, clean);
+pub fn refused(rt: &impl Print, r: Refusals, bytes: u64, clean: bool) -> io::Result<()> {
+    out::text(rt, b"Refused   ")?;
+    amount(rt, total(r))?;
+    out::text(rt, b" of ")?;
+    out::count(rt, bytes, b"byte")?;
+    out::text(rt, b"\n")?;
+    high(rt, r.high, clean)?;
     kind(
+        rt,
         r.unknown,
         b"byte",
         b" after ESC that no rule has (answer 2)",
-    );
+    )?;
     kind(
+        rt,
         r.argument,
         b"argument",
         b" outside its range or its form (answer 3)",
-    );
+    )?;
     kind(
+        rt,
         r.barred,
         b"byte",
         b" barred by a guarded cell or by protect mode (answer 4)",
-    );
+    )?;
     kind(
+        rt,
         r.other,
         b"byte",
         b" that the terminal did not take (answer 6, 7 or 8)",
-    );
+    )
 }
 
 fn is_text(b: u8) -> bool {
@@ -189,36 +197,36 @@ fn is_text(b: u8) -> bool {
 }
 
 // A control code by its name, or by its number.
-fn control(b: u8) {
+fn control(rt: &impl Print, b: u8) -> io::Result<()> {
     match b {
-        0x06 => out::text(b"<ACK>"),
-        0x0d => out::text(b"<CR>"),
-        0x1c => out::text(b"<FS>"),
-        0x1f => out::text(b"<US>"),
-        _ => out::hex(b),
+        0x06 => out::text(rt, b"<ACK>"),
+        0x0d => out::text(rt, b"<CR>"),
+        0x1c => out::text(rt, b"<FS>"),
+        0x1f => out::text(rt, b"<US>"),
+        _ => out::hex(rt, b),
     }
 }
 
 // A reply byte; a text after a control code starts a line.
-fn reply_byte(last: u8, b: u8) {
+fn reply_byte(rt: &impl Print, last: u8, b: u8) -> io::Result<()> {
     if !is_text(b) {
-        control(b);
-        return;
+        return control(rt, b);
     }
     if !is_text(last) {
-        out::text(b"\n  ");
+        out::text(rt, b"\n  ")?;
     }
-    out::text(&[b]);
+    out::text(rt, &[b])
 }
 
-fn reply_bytes(bytes: &[u8]) {
+fn reply_bytes(rt: &impl Print, bytes: &[u8]) -> io::Result<()> {
     let mut last = b' ';
     let mut i = 0;
     while i < bytes.len() {
-        reply_byte(last, bytes[i]);
+        reply_byte(rt, last, bytes[i])?;
         last = bytes[i];
         i += 1;
     }
+    Ok(())
 }
 
 pub fn least(a: usize, b: usize) -> usize
@@ -228,17 +236,17 @@ pub fn least(a: usize, b: usize) -> usize
 }
 
 // The replies, joined; the log holds the first of their bytes.
-pub fn replies(p: Played, log: &[u8]) {
+pub fn replies(rt: &impl Print, p: Played, log: &[u8]) -> io::Result<()> {
     if p.replied == 0 {
-        return;
+        return Ok(());
     }
     let n = least(p.kept, log.len());
-    out::text(b"\nReplies to the host, ");
-    out::count(p.replied, b"byte");
-    out::text(b"\n  ");
-    reply_bytes(&log[..n]);
+    out::text(rt, b"\nReplies to the host, ")?;
+    out::count(rt, p.replied, b"byte")?;
+    out::text(rt, b"\n  ")?;
+    reply_bytes(rt, &log[..n])?;
     if (n as u64) < p.replied {
-        out::text(b" ..");
+        out::text(rt, b" ..")?;
     }
-    out::text(b"\n");
+    out::text(rt, b"\n")
 }
