@@ -84,14 +84,7 @@ fn show(
     let pending = core.pending;
     let refusals = p.refusals;
     report::heading(rt, name, p.bytes)?;
-    picture::show(
-        rt,
-        page,
-        wide,
-        protect,
-        report::cursor_of(screen),
-        setup,
-    )?;
+    picture::show(rt, page, wide, protect, report::cursor_of(screen), setup)?;
     report::place(rt, page, protect, screen)?;
     report::modes(rt, modes)?;
     attributes::remembered(rt, core.attribute)?;
@@ -152,16 +145,7 @@ fn play_wide(
     let mut page = [0u16; 3168];
     let mut before = [0u16; 3168];
     let mut drawn = [0u16; 3168];
-    play_on(
-        rt,
-        host,
-        name,
-        true,
-        &mut page,
-        &mut before,
-        &mut drawn,
-        o,
-    )
+    play_on(rt, host, name, true, &mut page, &mut before, &mut drawn, o)
 }
 
 fn play_narrow(
@@ -173,16 +157,7 @@ fn play_narrow(
     let mut page = [0u16; 1920];
     let mut before = [0u16; 1920];
     let mut drawn = [0u16; 1920];
-    play_on(
-        rt,
-        host,
-        name,
-        false,
-        &mut page,
-        &mut before,
-        &mut drawn,
-        o,
-    )
+    play_on(rt, host, name, false, &mut page, &mut before, &mut drawn, o)
 }
 
 fn play(

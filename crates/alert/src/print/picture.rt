@@ -79,7 +79,13 @@ fn framed(rt: &impl Print, line: &[u8]) -> io::Result<()> {
     out::text(rt, b"|\n")
 }
 
-fn show_row(rt: &impl Print, cells: &[u16], protect: bool, number: u64, cursor: usize) -> io::Result<()>
+fn show_row(
+    rt: &impl Print,
+    cells: &[u16],
+    protect: bool,
+    number: u64,
+    cursor: usize,
+) -> io::Result<()>
     requires { length cells.now ≤ 132 }
 {
     let mut line = [b' '; 132];
@@ -111,7 +117,14 @@ fn rows_used(page: &[u16], wide: bool, protect: bool, cursor: u16) -> usize
     n
 }
 
-fn show_rows(rt: &impl Print, page: &[u16], wide: bool, protect: bool, cursor: u16, n: usize) -> io::Result<()>
+fn show_rows(
+    rt: &impl Print,
+    page: &[u16],
+    wide: bool,
+    protect: bool,
+    cursor: u16,
+    n: usize,
+) -> io::Result<()>
     requires page_len { length page.now ≡ height * columns wide }
     requires n_bound { n ≤ 24 }
 {
@@ -175,7 +188,14 @@ fn lower_edge(rt: &impl Print, wide: bool) -> io::Result<()> {
     out::text(rt, b"+\n")
 }
 
-pub fn show(rt: &impl Print, page: &[u16], wide: bool, protect: bool, cursor: u16, setup: Setup) -> io::Result<()>
+pub fn show(
+    rt: &impl Print,
+    page: &[u16],
+    wide: bool,
+    protect: bool,
+    cursor: u16,
+    setup: Setup,
+) -> io::Result<()>
     requires { length page.now ≡ height * columns wide }
 {
     let message = setup.message;

@@ -1,0 +1,12 @@
+-- `alert::cells::same` meets its contract. The loop: the cells below i are the same.
+use Rattle.std.proofs.Common.{◌≡◌, ℕ, ◌-◌, ◌<◌, ◌≤◌, length, get_or, ap, rules, below_more}
+use Rattle.alert.proofs.Loops.{apart, alike}
+use Rattle.alert.proofs.cells.same.Given as goal
+
+abbrev pub invariant-loop-i : goal.invariant-loop-i
+invariant-loop-i l =
+    (l.i ≤ length l.a) × ((k : ℕ) → k < l.i → get_or l.a k 0 ≡ get_or l.b k 0)
+
+abbrev pub decreases-loop-i : goal.decreases-loop-i
+decreases-loop-i l =
+    length l.a - l.i
