@@ -7,9 +7,7 @@ use Rattle.rules.specs.declared.State.{State}
 use Rattle.rules.specs.Cell.{pick}
 use Rattle.rules.specs.Send.{digit}
 use Rattle.counter.specs.declared.Counted.{Counted}
-use Rattle.counter.specs.declared.Counted.TheVariants as Counted
 use Rattle.counter.specs.declared.Told.{Told}
-use Rattle.counter.specs.declared.Told.TheVariants as Told
 use Rattle.counter.specs.Words.{words}
 use Rattle.counter.specs.Pieces.{returns, before, is_mark, onto, cut_at_marks, pieces, joined}
 use Rattle.counter.specs.Ask.{ask_rule}

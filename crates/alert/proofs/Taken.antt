@@ -2,11 +2,9 @@
 --     came_good, came_length     page and state are good, and the page has the length of its width
 --     each_taken                 the statement of specs/Watch
 -- Assumes nothing.
-use Rattle.std.proofs.Common.{◌≡◌, ℕ, zero, suc, ◌+◌, ◌-◌, ◌*◌, ◌<◌, ◌≤◌, Bool, true, false, eqb, ltb, List, [], ◌∷◌, length, sym, refl, ap, ◌∙◌, subst, arith, length-drop, length-take, lt-ltb, ne_eqb}
-use mathlib.Core.Bool.{false≢true}
+use Rattle.std.proofs.Common.{◌≡◌, ℕ, zero, suc, ◌<◌, ◌≤◌, Bool, true, false, ltb, List, [], ◌∷◌, length, sym, refl, ap, ◌∙◌, subst, arith, length-drop, length-take, lt-ltb, ne_eqb}
 use borrow.Author.Tests.{eqb-false}
 use Rattle.rules.specs.declared.State.{State}
-use Rattle.rules.specs.declared.Sending.{Sending}
 use Rattle.rules.specs.Cell.{pick}
 use Rattle.rules.specs.State.{page_length, sends, with_sending}
 use Rattle.rules.specs.Possible.{good}
@@ -19,7 +17,7 @@ use Rattle.rules.proofs.Sends.{places_small, bytes_beyond, places_left, some_lef
 use Rattle.rules.proofs.Kept.{good_parts, possible_parts, step_good, run_good}
 use Rattle.rules.proofs.Bound.{step_taken}
 use Rattle.rules.proofs.Left.{step_good_most}
-use Rattle.alert.specs.Watch.{Watch, watch, stepped, resumed, finished, most_times, watched, watched_all, starting, Came, EachTaken}
+use Rattle.alert.specs.Watch.{Watch, stepped, resumed, finished, most_times, watched, watched_all, starting, Came, EachTaken}
 use Rattle.alert.proofs.Starting.{starts}
 use Rattle.alert.proofs.Watching.{finish_step, over_still}
 

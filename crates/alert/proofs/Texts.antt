@@ -3,7 +3,7 @@
 --     guarded_on, guarded_off             the line
 --     one_at_most, more_cells, no_cells, keeps, changes, none_changes     the loops over the cells
 -- Assumes nothing.
-use Rattle.std.proofs.Common.{◌≡◌, ℕ, suc, ◌+◌, ◌-◌, ◌*◌, ◌/◌, ◌%◌, ◌<◌, ◌≤◌, Bool, true, false, List, length, get_or, drop, add-one, arith, drop_of_length-le, drop-cons}
+use Rattle.std.proofs.Common.{◌≡◌, ℕ, suc, ◌+◌, ◌*◌, ◌/◌, ◌%◌, ◌<◌, ◌≤◌, Bool, true, false, List, length, get_or, drop, add-one, arith, drop_of_length-le, drop-cons}
 use Rattle.rules.specs.Cell.{pick, guarded}
 use Rattle.rules.specs.Row.{Width}
 use Rattle.rules.proofs.Rows.{by_width}

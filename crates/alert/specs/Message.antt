@@ -5,9 +5,7 @@ use Rattle.rules.specs.Cell.{pick, both}
 use Rattle.rules.specs.Possible.{good}
 use Rattle.rules.specs.Theorems.Noninterference.{Alike}
 use Rattle.counter.specs.declared.Counted.{Counted}
-use Rattle.counter.specs.declared.Counted.TheVariants as Counted
 use Rattle.counter.specs.declared.Told.{Told}
-use Rattle.counter.specs.declared.Told.TheVariants as Told
 use Rattle.counter.specs.Words.{words}
 use Rattle.counter.specs.Pieces.{pieces}
 use Rattle.counter.specs.Ask.{is_ready, asking, is_cut, ask_rule}

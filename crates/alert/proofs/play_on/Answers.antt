@@ -1,5 +1,5 @@
 -- `alert::play_on` is safe and ends.
-use Rattle.std.proofs.Common.{arith, rules}
+use Rattle.std.proofs.Common.{arith}
 use Rattle.alert.proofs.Taken.{came_length}
 use Rattle.alert.proofs.play_on.Goals as goal
 

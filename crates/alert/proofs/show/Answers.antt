@@ -1,5 +1,4 @@
 -- `alert::show` is safe and ends.
-use Rattle.std.proofs.Common.{rules}
 use Rattle.alert.proofs.show.Goals as goal
 
 pub show-requires : goal.show-requires

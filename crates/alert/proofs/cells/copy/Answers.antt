@@ -1,6 +1,6 @@
 -- `alert::cells::copy` meets its contract. The loop: the cells below i are copied.
-use Rattle.std.proofs.Common.{◌≡◌, ◌-◌, ◌≤◌, length, get_or, refl, arith, rules}
-use Rattle.alert.proofs.Loops.{Written, written_none, written_more, written_all}
+use Rattle.std.proofs.Common.{get_or, refl, arith, rules}
+use Rattle.alert.proofs.Loops.{written_none, written_more, written_all}
 use Rattle.alert.proofs.cells.copy.Goals as goal
 
 pub loop-i-init : goal.loop-i-init

@@ -1,6 +1,5 @@
 -- `alert::cells::same` meets its contract. The loop: the cells below i are the same.
-use Rattle.std.proofs.Common.{◌≡◌, ℕ, ◌-◌, ◌<◌, ◌≤◌, length, get_or, ap, rules, below_more}
-use Rattle.alert.proofs.Loops.{apart, alike}
+use Rattle.std.proofs.Common.{◌≡◌, ℕ, ◌-◌, ◌<◌, ◌≤◌, length, get_or}
 use Rattle.alert.proofs.cells.same.Given as goal
 
 abbrev pub invariant-loop-i : goal.invariant-loop-i

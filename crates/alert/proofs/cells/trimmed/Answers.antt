@@ -1,5 +1,5 @@
 -- `alert::cells::trimmed` meets its contract. The loop: from n on there are spaces.
-use Rattle.std.proofs.Common.{◌≡◌, ℕ, ◌<◌, ◌≤◌, length, get_or, arith, rules}
+use Rattle.std.proofs.Common.{arith, rules}
 use Rattle.alert.proofs.Loops.{spaces_more, no_space}
 use Rattle.alert.proofs.cells.trimmed.Goals as goal
 

@@ -1,6 +1,5 @@
 -- `alert::cells::trimmed` meets its contract. The loop: from n on there are spaces.
-use Rattle.std.proofs.Common.{◌≡◌, ℕ, ◌<◌, ◌≤◌, length, get_or, arith, rules}
-use Rattle.alert.proofs.Loops.{spaces_more, no_space}
+use Rattle.std.proofs.Common.{◌≡◌, ℕ, ◌<◌, ◌≤◌, length, get_or}
 use Rattle.alert.proofs.cells.trimmed.Given as goal
 
 abbrev pub invariant-loop-n : goal.invariant-loop-n

@@ -1,7 +1,6 @@
 -- `alert::guarded::cells` meets its contract. The loop: the cells counted, and those to come, are all.
-use Rattle.std.proofs.Common.{◌≡◌, ◌+◌, ◌-◌, ◌≤◌, length, get_or, drop, arith, rules}
+use Rattle.std.proofs.Common.{get_or, arith}
 use Rattle.rules.specs.Cell.{guarded}
-use Rattle.alert.specs.Guarded.{guarded_cells}
 use Rattle.alert.proofs.Texts.{one_at_most, more_cells, no_cells}
 use Rattle.alert.proofs.guarded.cells.Goals as goal
 

@@ -1,5 +1,5 @@
 -- `alert::guarded::change` meets its contract.
-use Rattle.std.proofs.Common.{arith, rules, eq-eqb, ne_eqb}
+use Rattle.std.proofs.Common.{arith, eq-eqb, ne_eqb}
 use Rattle.alert.specs.Guarded.{change_of}
 use Rattle.alert.proofs.Puts.{and}
 use Rattle.alert.proofs.guarded.change.Goals as goal

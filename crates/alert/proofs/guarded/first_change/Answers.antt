@@ -1,7 +1,5 @@
 -- `alert::guarded::first_change` meets its contract. The loop: the first change from here on is the first of all.
-use Rattle.std.proofs.Common.{◌≡◌, ◌-◌, ◌≤◌, length, drop, sym, refl, ◌∙◌, arith, rules}
-use borrow.Author.Tests.{not-true, not-false}
-use Rattle.alert.specs.Guarded.{first_change}
+use Rattle.std.proofs.Common.{sym, refl, ◌∙◌, arith, rules}
 use Rattle.alert.proofs.Texts.{keeps, changes, none_changes}
 use Rattle.alert.proofs.guarded.first_change.Goals as goal
 

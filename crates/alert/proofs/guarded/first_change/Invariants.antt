@@ -1,8 +1,6 @@
 -- `alert::guarded::first_change` meets its contract. The loop: the first change from here on is the first of all.
-use Rattle.std.proofs.Common.{◌≡◌, ◌-◌, ◌≤◌, length, drop, sym, refl, ◌∙◌, arith, rules}
-use borrow.Author.Tests.{not-true, not-false}
+use Rattle.std.proofs.Common.{◌≡◌, ◌-◌, ◌≤◌, length, drop}
 use Rattle.alert.specs.Guarded.{first_change}
-use Rattle.alert.proofs.Texts.{keeps, changes, none_changes}
 use Rattle.alert.proofs.guarded.first_change.Given as goal
 
 abbrev pub invariant-loop-i : goal.invariant-loop-i

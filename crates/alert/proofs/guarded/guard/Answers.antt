@@ -1,5 +1,5 @@
 -- `alert::guarded::guard` meets its contract.
-use Rattle.std.proofs.Common.{sym, refl, ◌∙◌, rules}
+use Rattle.std.proofs.Common.{sym, refl, ◌∙◌}
 use Rattle.alert.proofs.guarded.guard.Goals as goal
 
 pub returns-then-is_guarded : goal.returns-then-is_guarded

@@ -1,5 +1,5 @@
 -- `alert::guarded::is_kept` meets its contract.
-use Rattle.std.proofs.Common.{sym, refl, ◌∙◌, rules}
+use Rattle.std.proofs.Common.{sym, refl, ◌∙◌}
 use Rattle.alert.proofs.guarded.is_kept.Goals as goal
 
 pub returns-then-is_guarded : goal.returns-then-is_guarded

@@ -1,7 +1,7 @@
 -- `alert::guarded::line` meets its contract.
 use Rattle.rules.proofs.Rows.{page_small}
 use Rattle.alert.proofs.Texts.{guarded_on, guarded_off}
-use Rattle.std.proofs.Common.{arith, rules}
+use Rattle.std.proofs.Common.{arith}
 use Rattle.alert.proofs.guarded.line.Goals as goal
 
 pub returns-then-not-protect : goal.returns-then-not-protect

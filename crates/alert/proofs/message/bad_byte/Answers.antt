@@ -1,5 +1,5 @@
 -- `alert::message::bad_byte` meets its contract.
-use Rattle.std.proofs.Common.{◌∙◌, rules}
+use Rattle.std.proofs.Common.{◌∙◌}
 use Rattle.alert.specs.Message.{count_line}
 use Rattle.alert.proofs.Puts.{and}
 use Rattle.alert.proofs.message.bad_byte.Goals as goal

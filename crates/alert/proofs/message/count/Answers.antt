@@ -1,6 +1,5 @@
 -- `alert::message::count` meets its contract.
 use Rattle.alert.specs.Message.{count_line}
-use Rattle.std.proofs.Common.{rules}
 use Rattle.alert.proofs.message.count.Goals as goal
 
 pub returns-in-Text : goal.returns-in-Text

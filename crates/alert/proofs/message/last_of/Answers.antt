@@ -1,5 +1,5 @@
 -- `alert::message::last_of` meets its contract.
-use Rattle.std.proofs.Common.{◌∙◌, rules}
+use Rattle.std.proofs.Common.{◌∙◌}
 use Rattle.alert.specs.Message.{last_of}
 use Rattle.alert.proofs.message.last_of.Goals as goal
 

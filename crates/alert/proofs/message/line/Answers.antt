@@ -1,6 +1,5 @@
 -- `alert::message::line` meets its contract.
-use Rattle.std.proofs.Common.{◌∙◌, rules}
-use borrow.Author.Tests.{not-true, not-false}
+use Rattle.std.proofs.Common.{◌∙◌}
 use Rattle.alert.proofs.Messages.{shown, not_shown}
 use Rattle.alert.proofs.message.line.Goals as goal
 

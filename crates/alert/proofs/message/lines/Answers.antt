@@ -1,9 +1,6 @@
 -- `alert::message::lines` meets its contract. The loop: the lines to come make of the room what all of them make of the first.
-use Rattle.std.proofs.Common.{◌≡◌, ◌-◌, ◌≤◌, length, ◌∙◌, arith, rules}
-use Rattle.counter.specs.Pieces.{pieces}
-use Rattle.alert.specs.Message.{piece_lines}
-use Rattle.alert.proofs.Puts.{Left}
-use Rattle.alert.proofs.Messages.{lines_left, lines_begin, lines_on, lines_done}
+use Rattle.std.proofs.Common.{◌∙◌, arith, rules}
+use Rattle.alert.proofs.Messages.{lines_begin, lines_on, lines_done}
 use Rattle.alert.proofs.message.lines.Goals as goal
 
 pub loop-i-init : goal.loop-i-init

@@ -1,9 +1,9 @@
 -- `alert::message::lines` meets its contract. The loop: the lines to come make of the room what all of them make of the first.
-use Rattle.std.proofs.Common.{◌≡◌, ◌-◌, ◌≤◌, length, ◌∙◌, arith, rules}
+use Rattle.std.proofs.Common.{◌≡◌, ◌-◌, ◌≤◌, length}
 use Rattle.counter.specs.Pieces.{pieces}
 use Rattle.alert.specs.Message.{piece_lines}
 use Rattle.alert.proofs.Puts.{Left}
-use Rattle.alert.proofs.Messages.{lines_left, lines_begin, lines_on, lines_done}
+use Rattle.alert.proofs.Messages.{lines_left}
 use Rattle.alert.proofs.message.lines.Given as goal
 
 abbrev pub invariant-loop-i : goal.invariant-loop-i

@@ -1,6 +1,5 @@
 -- `alert::message::mode_note` meets its contract.
 use Rattle.alert.proofs.Messages.{note_on, note_off}
-use Rattle.std.proofs.Common.{rules}
 use Rattle.alert.proofs.message.mode_note.Goals as goal
 
 pub returns-then-protect : goal.returns-then-protect

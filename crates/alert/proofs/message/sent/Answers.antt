@@ -1,5 +1,5 @@
 -- `alert::message::sent` meets its contract.
-use Rattle.std.proofs.Common.{◌∙◌, rules}
+use Rattle.std.proofs.Common.{◌∙◌}
 use Rattle.alert.specs.Message.{sent}
 use Rattle.alert.proofs.Puts.{and}
 use Rattle.alert.proofs.message.sent.Goals as goal

@@ -1,5 +1,5 @@
 -- `alert::message::size` meets its contract.
-use Rattle.std.proofs.Common.{◌∙◌, rules}
+use Rattle.std.proofs.Common.{◌∙◌}
 use Rattle.alert.specs.Message.{count_line}
 use Rattle.alert.proofs.Puts.{and}
 use Rattle.alert.proofs.message.size.Goals as goal

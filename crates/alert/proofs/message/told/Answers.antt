@@ -1,6 +1,5 @@
 -- `alert::message::told` meets its contract.
 use Rattle.alert.specs.Message.{told_line}
-use Rattle.std.proofs.Common.{rules}
 use Rattle.alert.proofs.message.told.Goals as goal
 
 pub returns-in-Counted : goal.returns-in-Counted

@@ -1,5 +1,5 @@
 -- `alert::options::number` is safe and ends.
-use Rattle.std.proofs.Common.{◌-◌, ◌<◌, ◌≤◌, length, rules}
+use Rattle.std.proofs.Common.{◌-◌, ◌<◌, ◌≤◌, length}
 use Rattle.alert.proofs.options.number.Given as goal
 
 abbrev pub invariant-loop-i : goal.invariant-loop-i

@@ -1,6 +1,5 @@
 -- `alert::put::byte` meets its contract.
 use Rattle.alert.proofs.Puts.{one, full}
-use Rattle.std.proofs.Common.{rules}
 use Rattle.alert.proofs.put.byte.Goals as goal
 
 pub returns-then-n-room : goal.returns-then-n-room

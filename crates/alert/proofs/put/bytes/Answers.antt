@@ -1,6 +1,6 @@
 -- `alert::put::bytes` meets its contract. The loop: to put the bytes to come makes of the room what all of them make of the first.
-use Rattle.std.proofs.Common.{◌≡◌, ◌-◌, ◌≤◌, length, drop, ◌∙◌, arith, rules}
-use Rattle.alert.proofs.Puts.{Left, begin, byte_on, text_done}
+use Rattle.std.proofs.Common.{◌∙◌, arith, rules}
+use Rattle.alert.proofs.Puts.{begin, byte_on, text_done}
 use Rattle.alert.proofs.put.bytes.Goals as goal
 
 pub loop-i-init : goal.loop-i-init

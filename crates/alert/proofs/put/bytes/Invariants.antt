@@ -1,6 +1,6 @@
 -- `alert::put::bytes` meets its contract. The loop: to put the bytes to come makes of the room what all of them make of the first.
-use Rattle.std.proofs.Common.{◌≡◌, ◌-◌, ◌≤◌, length, drop, ◌∙◌, arith, rules}
-use Rattle.alert.proofs.Puts.{Left, begin, byte_on, text_done}
+use Rattle.std.proofs.Common.{◌≡◌, ◌-◌, ◌≤◌, length, drop}
+use Rattle.alert.proofs.Puts.{Left}
 use Rattle.alert.proofs.put.bytes.Given as goal
 
 abbrev pub invariant-loop-i : goal.invariant-loop-i

@@ -1,5 +1,5 @@
 -- `alert::put::count` meets its contract.
-use Rattle.std.proofs.Common.{rules, eq-eqb, ne_eqb}
+use Rattle.std.proofs.Common.{eq-eqb, ne_eqb}
 use Rattle.alert.specs.Room.{count_of}
 use Rattle.alert.proofs.Puts.{none, and}
 use Rattle.alert.proofs.put.count.Goals as goal

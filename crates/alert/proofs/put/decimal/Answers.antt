@@ -1,6 +1,5 @@
 -- `alert::put::decimal` meets its contract.
 use Rattle.alert.proofs.Puts.{decimal_put}
-use Rattle.std.proofs.Common.{rules}
 use Rattle.alert.proofs.put.decimal.Goals as goal
 
 pub returns : goal.returns

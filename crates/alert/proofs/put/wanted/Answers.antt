@@ -1,6 +1,5 @@
 -- `alert::put::wanted` meets its contract.
 use Rattle.alert.proofs.Puts.{none}
-use Rattle.std.proofs.Common.{rules}
 use Rattle.alert.proofs.put.wanted.Goals as goal
 
 pub returns-then-is : goal.returns-then-is

@@ -1,7 +1,7 @@
 -- `alert::stream::feed` meets its contract. The loop: the bytes to come bring about what all of them do; what is lent keeps its length.
-use Rattle.std.proofs.Common.{◌≡◌, ◌-◌, ◌≤◌, length, drop, arith, rules}
-use Rattle.alert.specs.Watch.{watch, watched_all}
-use Rattle.alert.proofs.Watching.{Watching, watch_begin, watch_on, watch_done}
+use Rattle.std.proofs.Common.{length, arith, rules}
+use Rattle.alert.specs.Watch.{watch}
+use Rattle.alert.proofs.Watching.{watch_begin, watch_on, watch_done}
 use Rattle.alert.proofs.stream.feed.Goals as goal
 
 pub loop-i-init : goal.loop-i-init

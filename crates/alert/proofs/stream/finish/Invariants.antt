@@ -1,7 +1,6 @@
 -- `alert::stream::finish` meets its contract. The loop: the times that are left come to what all of them do; what is lent keeps its length.
-use Rattle.std.proofs.Common.{◌≡◌, length, arith, rules}
-use borrow.Author.Tests.{not-true, not-false}
-use Rattle.alert.proofs.Watching.{Finishing, finish_begin, finish_on, finish_over, finish_none}
+use Rattle.std.proofs.Common.{◌≡◌, length}
+use Rattle.alert.proofs.Watching.{Finishing}
 use Rattle.alert.proofs.stream.finish.Given as goal
 
 abbrev pub invariant-loop-left : goal.invariant-loop-left

@@ -1,5 +1,5 @@
 -- `alert::stream::obey` meets its contract.
-use Rattle.std.proofs.Common.{length, arith, rules}
+use Rattle.std.proofs.Common.{length, arith}
 use Rattle.alert.proofs.Watching.{obeyed}
 use Rattle.alert.proofs.stream.obey.Goals as goal
 

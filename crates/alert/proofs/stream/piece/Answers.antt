@@ -1,5 +1,5 @@
 -- `alert::stream::piece` meets its contract.
-use Rattle.std.proofs.Common.{ap, rules}
+use Rattle.std.proofs.Common.{ap}
 use Rattle.alert.specs.Watch.{watch}
 use Rattle.alert.proofs.Watching.{fed_none}
 use Rattle.alert.proofs.stream.piece.Goals as goal

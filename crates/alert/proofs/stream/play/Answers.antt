@@ -1,6 +1,5 @@
 -- `alert::stream::play` meets its contract.
-use Rattle.std.proofs.Common.{◌∙◌, arith, rules}
-use Rattle.alert.proofs.Watching.{came}
+use Rattle.std.proofs.Common.{arith}
 use Rattle.alert.proofs.stream.play.Goals as goal
 
 pub start-state-requires : goal.start-state-requires

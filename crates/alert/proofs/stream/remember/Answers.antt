@@ -1,5 +1,5 @@
 -- `alert::stream::remember` meets its contract.
-use Rattle.std.proofs.Common.{refl, rules}
+use Rattle.std.proofs.Common.{refl}
 use Rattle.alert.proofs.stream.remember.Goals as goal
 
 pub returns-then-was : goal.returns-then-was

@@ -1,5 +1,5 @@
 -- `alert::stream::resume` meets its contract. Of the terminal it uses what its run gives, and that a reply fits its room.
-use Rattle.std.proofs.Common.{sym, arith, length-take-le, rules}
+use Rattle.std.proofs.Common.{sym, arith, length-take-le}
 use Rattle.alert.proofs.stream.resume.Goals as goal
 
 pub slice_bounds-keep-end : goal.slice_bounds-keep-end

@@ -1,6 +1,5 @@
 -- `alert::stream::start` meets its contract.
 use Rattle.alert.proofs.Starting.{narrow_on, at_width, wide_length, narrow_length}
-use Rattle.std.proofs.Common.{rules}
 use Rattle.alert.proofs.stream.start.Goals as goal
 
 pub start_wide-requires : goal.start_wide-requires

@@ -1,5 +1,5 @@
 -- `alert::stream::start_narrow` meets its contract.
-use Rattle.std.proofs.Common.{◌∙◌, rules}
+use Rattle.std.proofs.Common.{◌∙◌}
 use Rattle.alert.proofs.Starting.{on_state, on_page}
 use Rattle.alert.proofs.stream.start_narrow.Goals as goal
 

@@ -1,6 +1,5 @@
 -- `alert::stream::start_wide` meets its contract.
 use Rattle.alert.proofs.Starting.{turned}
-use Rattle.std.proofs.Common.{rules}
 use Rattle.alert.proofs.stream.start_wide.Goals as goal
 
 pub returns : goal.returns

@@ -1,5 +1,5 @@
 -- `alert::stream::step_high` meets its contract.
-use Rattle.std.proofs.Common.{◌∙◌, arith, rules}
+use Rattle.std.proofs.Common.{◌∙◌, arith}
 use Rattle.alert.proofs.stream.step_high.Goals as goal
 
 pub shape_of-page : goal.shape_of-page

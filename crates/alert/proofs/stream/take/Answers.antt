@@ -1,5 +1,4 @@
 -- `alert::stream::take` meets its contract.
-use Rattle.std.proofs.Common.{rules}
 use Rattle.alert.proofs.stream.take.Goals as goal
 
 pub returns-then-byte-lt128 : goal.returns-then-byte-lt128

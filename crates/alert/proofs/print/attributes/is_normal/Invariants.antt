@@ -1,5 +1,5 @@
 -- `alert::print::attributes::is_normal` is safe and ends.
-use Rattle.std.proofs.Common.{◌-◌, ◌<◌, ◌≤◌, length, rules}
+use Rattle.std.proofs.Common.{◌-◌, ◌≤◌, length}
 use Rattle.alert.proofs.print.attributes.is_normal.Given as goal
 
 abbrev pub invariant-loop-i : goal.invariant-loop-i

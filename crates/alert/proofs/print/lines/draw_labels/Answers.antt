@@ -1,5 +1,5 @@
 -- `alert::print::lines::draw_labels` is safe and ends.
-use Rattle.std.proofs.Common.{◌≡◌, ◌-◌, ◌≤◌, length, arith, rules}
+use Rattle.std.proofs.Common.{arith}
 use Rattle.alert.proofs.print.lines.draw_labels.Goals as goal
 
 pub loop-i-init : goal.loop-i-init

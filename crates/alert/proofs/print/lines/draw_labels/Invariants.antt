@@ -1,5 +1,5 @@
 -- `alert::print::lines::draw_labels` is safe and ends.
-use Rattle.std.proofs.Common.{◌≡◌, ◌-◌, ◌≤◌, length, arith, rules}
+use Rattle.std.proofs.Common.{◌≡◌, ◌-◌, ◌≤◌, length}
 use Rattle.alert.proofs.print.lines.draw_labels.Given as goal
 
 abbrev pub invariant-loop-i : goal.invariant-loop-i

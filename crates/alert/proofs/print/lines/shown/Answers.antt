@@ -1,6 +1,5 @@
 -- `alert::print::lines::shown` meets its contract.
 use Rattle.alert.proofs.Labels.{shown_on, shown_off}
-use Rattle.std.proofs.Common.{rules}
 use Rattle.alert.proofs.print.lines.shown.Goals as goal
 
 pub returns-then-shifted : goal.returns-then-shifted

@@ -1,5 +1,5 @@
 -- `alert::print::picture::rows_used` is safe and ends.
-use Rattle.std.proofs.Common.{◌≤◌, rules}
+use Rattle.std.proofs.Common.{◌≤◌}
 use Rattle.alert.proofs.print.picture.rows_used.Given as goal
 
 abbrev pub invariant-loop-n : goal.invariant-loop-n
