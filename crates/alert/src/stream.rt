@@ -370,9 +370,8 @@ fn pieces(
 }
 
 // The whole stream, from the power-on of a personality, on a wide page or a narrow one. `before` is for the comparison of pages, and `drawn` comes
-// back
-// as the page was when protect mode last went on; the log comes back with the first bytes of the replies. Where reading fails, the pages are as the
-// bytes before left them.
+// back as the page was when protect mode last went on; the log comes back with the first bytes of the replies. Where reading fails, the pages are
+// as the bytes before left them.
 pub fn play(
     host: &mut impl Read,
     wide: bool,
