@@ -8,12 +8,14 @@ use replay_text::bounds::{within, within_list};
 use replay_text::rooms::front;
 use replay_text::words::later;
 use rules::{Personality, State};
+use std::io;
 
 fn kept(s: State, at: usize) -> Called {
     Called { state: s, at: at }
 }
 
 fn step(
+    to: &impl Print,
     s: State,
     is_listed: bool,
     byte: u8,
@@ -22,13 +24,14 @@ fn step(
     rows: &mut [u16],
     out: &mut [u8],
     at: usize,
-) -> Called {
+) -> io::Result<Called> {
     let mut reply = [0xeeu8; CELLS];
     let k = within(room, &reply);
-    calls::step(s, byte, is_listed, page, rows, &mut reply[..k], out, at)
+    calls::step(to, s, byte, is_listed, page, rows, &mut reply[..k], out, at)
 }
 
 fn run(
+    to: &impl Print,
     s: State,
     is_next: bool,
     is_listed: bool,
@@ -38,10 +41,11 @@ fn run(
     rows: &mut [u16],
     out: &mut [u8],
     at: usize,
-) -> Called {
+) -> io::Result<Called> {
     let mut reply = [0xeeu8; CELLS];
     let k = within(room, &reply);
     calls::run(
+        to,
         s,
         is_next,
         is_listed,
@@ -54,13 +58,22 @@ fn run(
     )
 }
 
-fn press(s: State, key: u8, room: usize, page: &[u16], out: &mut [u8], at: usize) -> usize {
+fn press(
+    to: &impl Print,
+    s: State,
+    key: u8,
+    room: usize,
+    page: &[u16],
+    out: &mut [u8],
+    at: usize,
+) -> io::Result<usize> {
     let mut reply = [0xeeu8; CELLS];
     let k = within(room, &reply);
-    calls::press(s, key, page, &mut reply[..k], out, at)
+    calls::press(to, s, key, page, &mut reply[..k], out, at)
 }
 
 fn of_terminal(
+    to: &impl Print,
     s: State,
     x: TerminalLine,
     input: &[u8],
@@ -68,13 +81,14 @@ fn of_terminal(
     rows: &mut [u16],
     out: &mut [u8],
     at: usize,
-) -> Called {
+) -> io::Result<Called> {
     match x {
-        TerminalLine::On(m) => calls::on(m, page, out, at),
+        TerminalLine::On(m) => calls::on(to, m, page, out, at),
         TerminalLine::Step(is_listed, b, room) => {
-            step(s, is_listed, b, room, page, rows, out, at)
+            step(to, s, is_listed, b, room, page, rows, out, at)
         }
         TerminalLine::Run(is_next, is_listed, n, room) => run(
+            to,
             s,
             is_next,
             is_listed,
@@ -85,64 +99,101 @@ fn of_terminal(
             out,
             at,
         ),
-        TerminalLine::Press(key, room) => kept(s, press(s, key, room, page, out, at)),
-        TerminalLine::Rebuild => kept(s, calls::rebuild(s, page, rows, out, at)),
+        TerminalLine::Press(key, room) => Ok(kept(s, press(to, s, key, room, page, out, at)?)),
+        TerminalLine::Rebuild => Ok(kept(s, calls::rebuild(to, s, page, rows, out, at)?)),
     }
 }
 
 fn field_text(
+    to: &impl Print,
     start: usize,
     trim: bool,
     room: usize,
     page: &[u16],
     out: &mut [u8],
     at: usize,
-) -> usize {
+) -> io::Result<usize> {
     let mut text = [0xeeu8; CELLS];
     let k = within(room, &text);
-    reading::field_text(start, trim, page, &mut text[..k], out, at)
+    reading::field_text(to, start, trim, page, &mut text[..k], out, at)
 }
 
-fn row_text(row: usize, trim: bool, room: usize, page: &[u16], out: &mut [u8], at: usize) -> usize {
+fn row_text(
+    to: &impl Print,
+    row: usize,
+    trim: bool,
+    room: usize,
+    page: &[u16],
+    out: &mut [u8],
+    at: usize,
+) -> io::Result<usize> {
     let mut text = [0xeeu8; CELLS];
     let k = within(room, &text);
-    reading::row_text(row, trim, page, &mut text[..k], out, at)
+    reading::row_text(to, row, trim, page, &mut text[..k], out, at)
 }
 
-fn of_page(x: PageLine, page: &[u16], out: &mut [u8], at: usize) -> usize {
+fn of_page(
+    to: &impl Print,
+    x: PageLine,
+    page: &[u16],
+    out: &mut [u8],
+    at: usize,
+) -> io::Result<usize> {
     match x {
-        PageLine::Show => calls::show(page, out, at),
-        PageLine::Field(n) => reading::field(n, page, out, at),
-        PageLine::FieldText(n, trim, room) => field_text(n, trim, room, page, out, at),
-        PageLine::RowText(n, trim, room) => row_text(n, trim, room, page, out, at),
-        PageLine::Position(n) => reading::position(n, page, out, at),
-        PageLine::Place(row, column) => reading::place(row, column, page, out, at),
+        PageLine::Show => calls::show(to, page, out, at),
+        PageLine::Field(n) => reading::field(to, n, page, out, at),
+        PageLine::FieldText(n, trim, room) => field_text(to, n, trim, room, page, out, at),
+        PageLine::RowText(n, trim, room) => row_text(to, n, trim, room, page, out, at),
+        PageLine::Position(n) => reading::position(to, n, page, out, at),
+        PageLine::Place(row, column) => reading::place(to, row, column, page, out, at),
     }
 }
 
-fn restore(s: State, n: u16, store: &[u8], out: &mut [u8], at: usize) -> Called {
-    let r = store::restore(s, n, store, out, at);
+fn restore(
+    to: &impl Print,
+    s: State,
+    n: u16,
+    store: &[u8],
+    out: &mut [u8],
+    at: usize,
+) -> io::Result<Called> {
+    let r = store::restore(to, s, n, store, out, at)?;
     let next = r.state;
-    Called {
+    Ok(Called {
         state: next,
         at: r.at,
-    }
+    })
 }
 
-fn of_store(s: State, x: StoreLine, store: &mut [u8], out: &mut [u8], at: usize) -> Called {
+fn of_store(
+    to: &impl Print,
+    s: State,
+    x: StoreLine,
+    store: &mut [u8],
+    out: &mut [u8],
+    at: usize,
+) -> io::Result<Called> {
     match x {
-        StoreLine::Save => kept(s, store::save(s, store, out, at)),
-        StoreLine::Restore(n) => restore(s, n, store, out, at),
+        StoreLine::Save => Ok(kept(s, store::save(to, s, store, out, at)?)),
+        StoreLine::Restore(n) => restore(to, s, n, store, out, at),
     }
 }
 
-fn mend(m: Personality, n: usize, page: &mut [u16], out: &mut [u8], at: usize) -> usize {
+fn mend(
+    to: &impl Print,
+    m: Personality,
+    n: usize,
+    page: &mut [u16],
+    out: &mut [u8],
+    at: usize,
+) -> io::Result<usize> {
     let mut list = [0xeeeeu16; NUMBERS];
     let k = within_list(n, &list);
-    mending::mend(m, page, &mut list[..k], out, at)
+    mending::mend(to, m, page, &mut list[..k], out, at)
 }
 
 fn propose(
+    to: &impl Print,
     m: Personality,
     spans: usize,
     bytes: usize,
@@ -150,7 +201,7 @@ fn propose(
     display: &[u16],
     out: &mut [u8],
     at: usize,
-) -> usize {
+) -> io::Result<usize> {
     let mut rows = [0xeeeeu16; CELLS];
     let mut columns = [0xeeeeu16; CELLS];
     let mut lengths = [0xeeeeu16; CELLS];
@@ -160,6 +211,7 @@ fn propose(
     let l = within_list(spans, &lengths);
     let k = within(bytes, &room);
     repainting::propose(
+        to,
         m,
         display,
         page,
@@ -173,6 +225,7 @@ fn propose(
 }
 
 fn of_above(
+    to: &impl Print,
     x: AboveLine,
     line: &[u8],
     input: &[u8],
@@ -180,20 +233,23 @@ fn of_above(
     display: &[u16],
     out: &mut [u8],
     at: usize,
-) -> usize {
+) -> io::Result<usize> {
     match x {
         AboveLine::Count(n, first, last) => {
-            counting::count(front(input, n), first, last, out, at)
+            counting::count(to, front(input, n), first, last, out, at)
         }
-        AboveLine::Entry(n) => counting::entry(front(input, n), out, at),
-        AboveLine::Mend(m, n) => mend(m, n, page, out, at),
-        AboveLine::Spans => repainting::spans(later(line), display, page, out, at),
-        AboveLine::Bytes(m, n) => repainting::bytes(m, front(input, n), display, page, out, at),
-        AboveLine::Propose(m, spans, bytes) => { propose(m, spans, bytes, page, display, out, at) }
+        AboveLine::Entry(n) => counting::entry(to, front(input, n), out, at),
+        AboveLine::Mend(m, n) => mend(to, m, n, page, out, at),
+        AboveLine::Spans => repainting::spans(to, later(line), display, page, out, at),
+        AboveLine::Bytes(m, n) => repainting::bytes(to, m, front(input, n), display, page, out, at),
+        AboveLine::Propose(m, spans, bytes) => {
+            propose(to, m, spans, bytes, page, display, out, at)
+        }
     }
 }
 
 pub fn call(
+    to: &impl Print,
     s: State,
     x: Call,
     line: &[u8],
@@ -204,11 +260,11 @@ pub fn call(
     display: &[u16],
     out: &mut [u8],
     at: usize,
-) -> Called {
+) -> io::Result<Called> {
     match x {
-        Call::Terminal(t) => of_terminal(s, t, input, page, rows, out, at),
-        Call::Page(p) => kept(s, of_page(p, page, out, at)),
-        Call::Store(t) => of_store(s, t, store, out, at),
-        Call::Above(a) => kept(s, of_above(a, line, input, page, display, out, at)),
+        Call::Terminal(t) => of_terminal(to, s, t, input, page, rows, out, at),
+        Call::Page(p) => Ok(kept(s, of_page(to, p, page, out, at)?)),
+        Call::Store(t) => of_store(to, s, t, store, out, at),
+        Call::Above(a) => Ok(kept(s, of_above(to, a, line, input, page, display, out, at)?)),
     }
 }

@@ -10,22 +10,23 @@ mod source; // the lines of the input
 
 ghost use Rattle.std.specs.Prelude.{◌<◌};
 
-use libc::STDERR_FILENO;
 use progress::obey;
 use replay_text::rooms::{front, part};
 use replay_text::trace::flush;
-use sizes::{BYTES, CELLS, INPUT};
+use sizes::{BUFFER, BYTES, CELLS, INPUT};
+use std::io;
+use std::io::Read;
 
-// A line that fits none of the forms is named on standard error, and the run ends there. (A Rattle program has no exit status to set.)
-fn tell(going: bool, number: usize, line: &[u8]) {
+// A line that fits none of the forms is named on standard error, and the run ends there.
+fn tell(said: &impl Print, going: bool, number: usize, line: &[u8]) -> io::Result<()> {
     if going {
-        return;
+        return Ok(());
     }
-    io::write_all(STDERR_FILENO, b"replay: line ");
-    io::print_decimal(STDERR_FILENO, number as u64);
-    io::write_all(STDERR_FILENO, b" fits none of the forms: ");
-    io::write_all(STDERR_FILENO, front(line, 200));
-    io::write_all(STDERR_FILENO, b"\n");
+    said.write_all(b"replay: line ")?;
+    said.print(number)?;
+    said.write_all(b" fits none of the forms: ")?;
+    said.write_all(front(line, 200))?;
+    said.write_all(b"\n")
 }
 
 // How many lines may follow.
@@ -43,7 +44,11 @@ fn left(lines: u64, going: bool, is_last: bool) -> u64
 }
 
 // A proved loop has to end, and nothing says that the input does: the count of lines falls from a number that no script uses up.
+// Where the input fails, the trace up to there is still written.
 fn replay(
+    from: &mut impl Read,
+    to: &impl Print,
+    said: &impl Print,
     text: &mut [u8],
     input: &mut [u8],
     page: &mut [u16],
@@ -51,14 +56,21 @@ fn replay(
     store: &mut [u8],
     display: &mut [u16],
     out: &mut [u8],
-) {
+) -> io::Result<()> {
     let mut s = progress::start();
     let mut x = source::start();
     let mut lines = u64::MAX;
     while 0 < lines {
-        let y = source::next(x, text);
-        x = y;
+        let y = source::next(from, said, x, text);
+        match y {
+            Err(e) => {
+                flush(to, out, s.at)?;
+                return Err(e);
+            }
+            Ok(z) => x = z,
+        }
         let t = obey(
+            to,
             s,
             part(text, x.from, x.end),
             input,
@@ -67,23 +79,29 @@ fn replay(
             store,
             display,
             out,
-        );
+        )?;
         s = t;
         lines = left(lines, s.going, x.is_last);
     }
-    tell(s.going, x.number, part(text, x.from, x.end));
-    flush(out, s.at);
+    let told = tell(said, s.going, x.number, part(text, x.from, x.end));
+    flush(to, out, s.at)?;
+    told
 }
 
-fn main() {
-    let mut text = io::large_buffer();
-    let mut out = io::large_buffer();
+fn main(rt: HostRuntime) -> io::Result<()> {
+    let mut from = rt.stdin();
+    let said = rt.stderr();
+    let mut text = [0u8; BUFFER];
+    let mut out = [0u8; BUFFER];
     let mut input = [0u8; INPUT];
     let mut page = [0u16; CELLS];
     let mut rows = [0u16; CELLS];
     let mut store = [0u8; BYTES];
     let mut display = [0u16; CELLS];
     replay(
+        &mut from,
+        &rt,
+        &said,
         &mut text,
         &mut input,
         &mut page,
@@ -91,5 +109,5 @@ fn main() {
         &mut store,
         &mut display,
         &mut out,
-    );
+    )
 }

@@ -12,6 +12,7 @@ use replay_text::rooms::copy;
 use replay_text::trace::{form, named_digest, put, text};
 use replay_text::words::first;
 use rules::{Personality, State};
+use std::io;
 use std::num::wrapping_add_usize;
 
 #[derive(Clone, Copy)]
@@ -77,21 +78,28 @@ fn change(
 }
 
 // A line's number and its word.
-fn heading(out: &mut [u8], at: usize, count: usize, word: &[u8]) -> usize {
+fn heading(
+    to: &impl Print,
+    out: &mut [u8],
+    at: usize,
+    count: usize,
+    word: &[u8],
+) -> io::Result<usize> {
     let numbers = [count];
-    let n = form(out, at, b"# ", &numbers);
-    text(out, n, word)
+    let n = form(to, out, at, b"# ", &numbers)?;
+    text(to, out, n, word)
 }
 
 // The state, the page's digest, the end of the line.
-fn ending(out: &mut [u8], at: usize, s: State, page: &[u16]) -> usize {
-    let n = state_text::state(out, at, s);
-    let n1 = named_digest(out, n, b" page=", digest::of(page));
-    put(out, n1, b'\n')
+fn ending(to: &impl Print, out: &mut [u8], at: usize, s: State, page: &[u16]) -> io::Result<usize> {
+    let n = state_text::state(to, out, at, s)?;
+    let n1 = named_digest(to, out, n, b" page=", digest::of(page))?;
+    put(to, out, n1, b'\n')
 }
 
 // A call over what is lent to it.
 fn lent(
+    to: &impl Print,
     s: State,
     z: Lengths,
     x: Call,
@@ -103,12 +111,13 @@ fn lent(
     display: &[u16],
     out: &mut [u8],
     at: usize,
-) -> Called {
+) -> io::Result<Called> {
     let cells = within_list(z.cells, page);
     let numbers = within_list(z.rows, rows);
     let bytes = within(z.store, store);
     let shown = within_list(z.display, display);
     calls::call(
+        to,
         s,
         x,
         line,
@@ -123,16 +132,24 @@ fn lent(
 }
 
 // The line that a call wrote is ended.
-fn ended(s: Progress, state: State, at: usize, page: &[u16], out: &mut [u8]) -> Progress {
+fn ended(
+    to: &impl Print,
+    s: Progress,
+    state: State,
+    at: usize,
+    page: &[u16],
+    out: &mut [u8],
+) -> io::Result<Progress> {
     let k = within_list(s.lengths.cells, page);
     let mut t = s;
     t.state = state;
     t.written = wrapping_add_usize(s.written, 1);
-    t.at = ending(out, at, state, &page[..k]);
-    t
+    t.at = ending(to, out, at, state, &page[..k])?;
+    Ok(t)
 }
 
 fn call(
+    to: &impl Print,
     s: Progress,
     x: Call,
     line: &[u8],
@@ -142,36 +159,45 @@ fn call(
     store: &mut [u8],
     display: &[u16],
     out: &mut [u8],
-) -> Progress {
-    let n = heading(out, s.at, wrapping_add_usize(s.written, 1), first(line));
+) -> io::Result<Progress> {
+    let n = heading(to, out, s.at, wrapping_add_usize(s.written, 1), first(line))?;
     let state = s.state;
     let z = s.lengths;
-    let r = lent(state, z, x, line, input, page, rows, store, display, out, n);
+    let r = lent(
+        to, state, z, x, line, input, page, rows, store, display, out, n,
+    )?;
     let next = r.state;
-    ended(s, next, r.at, page, out)
+    ended(to, s, next, r.at, page, out)
 }
 
 // The target is all EEEEh before the call; done, it is the page from then on.
-fn convert_line(s: Progress, size: usize, page: &mut [u16], out: &mut [u8]) -> Progress {
+fn convert_line(
+    to: &impl Print,
+    s: Progress,
+    size: usize,
+    page: &mut [u16],
+    out: &mut [u8],
+) -> io::Result<Progress> {
     let mut target = [0xeeeeu16; CELLS];
     let k = within_list(size, &target);
-    let n = heading(out, s.at, wrapping_add_usize(s.written, 1), b"convert");
-    convert_into(s, page, &mut target[..k], out, n)
+    let n = heading(to, out, s.at, wrapping_add_usize(s.written, 1), b"convert")?;
+    convert_into(to, s, page, &mut target[..k], out, n)
 }
 
 fn convert_into(
+    to: &impl Print,
     s: Progress,
     page: &mut [u16],
     target: &mut [u16],
     out: &mut [u8],
     at: usize,
-) -> Progress {
+) -> io::Result<Progress> {
     let cells = within_list(s.lengths.cells, page);
     let state = s.state;
-    let r = convert(state, &page[..cells], target, out, at);
+    let r = convert(to, state, &page[..cells], target, out, at)?;
     let next = r.state;
     let t = turned(s, r.done, target, page);
-    ended(t, next, r.at, page, out)
+    ended(to, t, next, r.at, page, out)
 }
 
 fn turned(s: Progress, done: bool, target: &[u16], page: &mut [u16]) -> Progress {
@@ -186,6 +212,7 @@ fn turned(s: Progress, done: bool, target: &[u16], page: &mut [u16]) -> Progress
 
 // One line. Bad ones end the run.
 pub fn obey(
+    to: &impl Print,
     s: Progress,
     line: &[u8],
     input: &mut [u8],
@@ -194,14 +221,14 @@ pub fn obey(
     store: &mut [u8],
     display: &mut [u16],
     out: &mut [u8],
-) -> Progress {
+) -> io::Result<Progress> {
     let c = read(line, input);
     match c {
-        Command::Bad => stopped(s),
-        Command::Skip => s,
-        Command::Set => set(s, line),
-        Command::List(x) => change(s, x, page, rows, store, display),
-        Command::Convert(n) => convert_line(s, n, page, out),
-        Command::Call(x) => call(s, x, line, input, page, rows, store, display, out),
+        Command::Bad => Ok(stopped(s)),
+        Command::Skip => Ok(s),
+        Command::Set => Ok(set(s, line)),
+        Command::List(x) => Ok(change(s, x, page, rows, store, display)),
+        Command::Convert(n) => convert_line(to, s, n, page, out),
+        Command::Call(x) => call(to, s, x, line, input, page, rows, store, display, out),
     }
 }

@@ -13,3 +13,6 @@ pub const NUMBERS: usize = 65536;
 
 // The longest byte string that a line can have.
 pub const INPUT: usize = 32768;
+
+// The buffers of the input and of the trace: a line with its line end fits into one.
+pub const BUFFER: usize = 65536;

@@ -1,10 +1,11 @@
-// The lines of standard input, one after the other through a buffer.
-ghost use Rattle.std.specs.Prelude.{◌≤◌, length};
+// The lines of an input, one after the other through a buffer.
+ghost use Rattle.std.specs.Prelude.{◌≤◌, length, IfOk};
 
-use libc::{STDERR_FILENO, STDIN_FILENO};
 use replay_text::bounds::least;
 use replay_text::rooms::front;
 use replay_text::words::find_from;
+use std::io;
+use std::io::Read;
 use std::num::wrapping_add_usize;
 
 // A line: its number, where it begins and ends in the buffer, where the next begins, and how many bytes the buffer holds.
@@ -31,14 +32,10 @@ pub fn start() -> Line {
 }
 
 // Reads once, and answers how many bytes came; 0 at the end.
-fn read(input: &mut [u8]) -> usize
-    ensures { result ≤ length input.new }
+fn read(from: &mut impl Read, input: &mut [u8]) -> io::Result<usize>
+    ensures { IfOk result (λ n. n ≤ length input.new) }
 {
-    let got = libc::read(STDIN_FILENO, input);
-    if got < 0 {
-        os::fail(b"replay: standard input");
-    }
-    io::count(got, input)
+    from.read(input)
 }
 
 // Moves the bytes from `from` up to `to` to the front, and answers how many there are.
@@ -79,38 +76,49 @@ fn last(number: usize, held: usize) -> Line {
 }
 
 // A line has to fit into the buffer with its line end.
-fn too_long(number: usize) -> Line {
-    io::write_all(STDERR_FILENO, b"replay: line ");
-    io::print_decimal(STDERR_FILENO, number as u64);
-    io::write_all(STDERR_FILENO, b" is longer than 65535 bytes\n");
-    last(number, 0)
+fn too_long(said: &impl Print, number: usize) -> io::Result<Line> {
+    said.write_all(b"replay: line ")?;
+    said.print(number)?;
+    said.write_all(b" is longer than 65535 bytes\n")?;
+    Ok(last(number, 0))
 }
 
 // Reads until the line at the front of the buffer is whole; its first `held` bytes are there.
-fn more(number: usize, held: usize, input: &mut [u8]) -> Line {
+fn more(
+    from: &mut impl Read,
+    said: &impl Print,
+    number: usize,
+    held: usize,
+    input: &mut [u8],
+) -> io::Result<Line> {
     let mut to = held;
     while to < input.len() {
-        let n = read(&mut input[to..]);
+        let n = read(from, &mut input[to..])?;
         let end = least(wrapping_add_usize(to, n), input.len());
         if end <= to {
-            return last(number, to);
+            return Ok(last(number, to));
         }
         let stop = find_from(front(input, end), to, b'\n');
         if stop < end {
-            return whole(number, 0, stop, end);
+            return Ok(whole(number, 0, stop, end));
         }
         to = end;
     }
-    too_long(number)
+    too_long(said, number)
 }
 
-// The line after one.
-pub fn next(x: Line, input: &mut [u8]) -> Line {
+// The line after one. What is wrong with the input is said to `said`; an error is that of a read, or of a write there.
+pub fn next(
+    from: &mut impl Read,
+    said: &impl Print,
+    x: Line,
+    input: &mut [u8],
+) -> io::Result<Line> {
     let number = wrapping_add_usize(x.number, 1);
     let end = find_from(front(input, x.held), x.next, b'\n');
     if end < x.held {
-        return whole(number, x.next, end, x.held);
+        return Ok(whole(number, x.next, end, x.held));
     }
     let held = move_to_front(input, x.next, x.held);
-    more(number, held, input)
+    more(from, said, number, held, input)
 }

@@ -2,6 +2,7 @@
 use replay_text::rooms::{is_list_untouched, list_behind, list_front};
 use replay_text::trace::{bit, form, named, number_list, text};
 use rules::Personality;
+use std::io;
 
 // How many numbers were written to the list.
 fn written(answer: u8, needed: u16) -> usize {
@@ -12,10 +13,17 @@ fn written(answer: u8, needed: u16) -> usize {
 }
 
 // The entries, and whether the list behind them is as it was.
-fn entries(out: &mut [u8], at: usize, list: &[u16], k: usize) -> usize {
-    let n = text(out, at, b" entries=");
-    let n1 = number_list(out, n, list_front(list, k), true);
+fn entries(
+    to: &impl Print,
+    out: &mut [u8],
+    at: usize,
+    list: &[u16],
+    k: usize,
+) -> io::Result<usize> {
+    let n = text(to, out, at, b" entries=")?;
+    let n1 = number_list(to, out, n, list_front(list, k), true)?;
     named(
+        to,
         out,
         n1,
         b" beyond=",
@@ -24,14 +32,15 @@ fn entries(out: &mut [u8], at: usize, list: &[u16], k: usize) -> usize {
 }
 
 pub fn mend(
+    to: &impl Print,
     m: Personality,
     page: &mut [u16],
     list: &mut [u16],
     out: &mut [u8],
     at: usize,
-) -> usize {
+) -> io::Result<usize> {
     let r = mend::mend(page, m, list);
     let numbers = [r.answer as usize, r.needed as usize];
-    let n = form(out, at, b" answer=# needed=#", &numbers);
-    entries(out, n, list, written(r.answer, r.needed))
+    let n = form(to, out, at, b" answer=# needed=#", &numbers)?;
+    entries(to, out, n, list, written(r.answer, r.needed))
 }

@@ -1,5 +1,4 @@
 // The lines that judge spans and bytes for the distant display, and propose them.
-use check::same;
 use repaint::Verdict;
 use replay_text::rooms::{
     behind, front, is_list_untouched, is_untouched, list_behind, list_front, part,
@@ -7,6 +6,7 @@ use replay_text::rooms::{
 use replay_text::trace::{bit, byte_string, comma, form, named, put, text};
 use replay_text::words::{NONE, find, find_from, number};
 use rules::Personality;
+use std::io;
 
 // More spans than a line can name.
 const SPANS: usize = 11000;
@@ -101,7 +101,7 @@ fn read_spans(word: &[u8], rows: &mut [u16], columns: &mut [u16], lengths: &mut 
 
 // The same, where `-` spells no spans.
 fn read(word: &[u8], rows: &mut [u16], columns: &mut [u16], lengths: &mut [u16]) -> usize {
-    if same(word, b"-") {
+    if word == b"-".as_slice() {
         return 0;
     }
     read_spans(word, rows, columns, lengths)
@@ -115,18 +115,25 @@ fn verdict_number(v: Verdict) -> usize {
     }
 }
 
-fn judged(out: &mut [u8], at: usize, v: Verdict) -> usize {
-    named(out, at, b" answer=", verdict_number(v))
+fn judged(to: &impl Print, out: &mut [u8], at: usize, v: Verdict) -> io::Result<usize> {
+    named(to, out, at, b" answer=", verdict_number(v))
 }
 
 // The judge over the spans that a word spells.
-pub fn spans(word: &[u8], display: &[u16], page: &[u16], out: &mut [u8], at: usize) -> usize {
+pub fn spans(
+    to: &impl Print,
+    word: &[u8],
+    display: &[u16],
+    page: &[u16],
+    out: &mut [u8],
+    at: usize,
+) -> io::Result<usize> {
     let mut rows = [0u16; SPANS];
     let mut columns = [0u16; SPANS];
     let mut lengths = [0u16; SPANS];
     let n = read(word, &mut rows, &mut columns, &mut lengths);
     let v = judge_spans(display, page, n, &rows, &columns, &lengths);
-    judged(out, at, v)
+    judged(to, out, at, v)
 }
 
 // Over the first n numbers of each list.
@@ -156,15 +163,16 @@ pub fn are_spans(word: &[u8]) -> bool {
 }
 
 pub fn bytes(
+    to: &impl Print,
     m: Personality,
     input: &[u8],
     display: &[u16],
     page: &[u16],
     out: &mut [u8],
     at: usize,
-) -> usize {
+) -> io::Result<usize> {
     let v = repaint::judge_bytes(display, page, m, input);
-    judged(out, at, v)
+    judged(to, out, at, v)
 }
 
 fn wide(v: u16) -> usize {
@@ -173,19 +181,20 @@ fn wide(v: u16) -> usize {
 
 // Span i of three lists.
 fn one_span(
+    to: &impl Print,
     out: &mut [u8],
     at: usize,
     i: usize,
     rows: &[u16],
     columns: &[u16],
     lengths: &[u16],
-) -> usize {
+) -> io::Result<usize> {
     let numbers = [
         number_at(rows, i),
         number_at(columns, i),
         number_at(lengths, i),
     ];
-    form(out, at, b"#:#:#", &numbers)
+    form(to, out, at, b"#:#:#", &numbers)
 }
 
 fn number_at(list: &[u16], i: usize) -> usize {
@@ -197,24 +206,25 @@ fn number_at(list: &[u16], i: usize) -> usize {
 
 // The first k spans of three lists, parted by commas, `-` where there are none.
 fn some_spans(
+    to: &impl Print,
     out: &mut [u8],
     at: usize,
     k: usize,
     rows: &[u16],
     columns: &[u16],
     lengths: &[u16],
-) -> usize {
+) -> io::Result<usize> {
     if k == 0 {
-        return put(out, at, b'-');
+        return put(to, out, at, b'-');
     }
     let mut n = at;
     let mut i = 0;
     while i < k {
-        n = comma(out, n, 0 < i);
-        n = one_span(out, n, i, rows, columns, lengths);
+        n = comma(to, out, n, 0 < i)?;
+        n = one_span(to, out, n, i, rows, columns, lengths)?;
         i += 1;
     }
-    n
+    Ok(n)
 }
 
 // Whether three lists behind their first n numbers are as they were.
@@ -229,21 +239,30 @@ fn are_untouched(n: usize, rows: &[u16], columns: &[u16], lengths: &[u16]) -> bo
 }
 
 fn proposed_spans(
+    to: &impl Print,
     out: &mut [u8],
     at: usize,
     n: usize,
     rows: &[u16],
     columns: &[u16],
     lengths: &[u16],
-) -> usize {
-    let n1 = text(out, at, b" spans=");
-    some_spans(out, n1, n, rows, columns, lengths)
+) -> io::Result<usize> {
+    let n1 = text(to, out, at, b" spans=")?;
+    some_spans(to, out, n1, n, rows, columns, lengths)
 }
 
-fn proposed_bytes(out: &mut [u8], at: usize, room: &[u8], n: usize, is_kept: bool) -> usize {
-    let n1 = text(out, at, b" bytes=");
-    let n2 = byte_string(out, n1, front(room, n));
+fn proposed_bytes(
+    to: &impl Print,
+    out: &mut [u8],
+    at: usize,
+    room: &[u8],
+    n: usize,
+    is_kept: bool,
+) -> io::Result<usize> {
+    let n1 = text(to, out, at, b" bytes=")?;
+    let n2 = byte_string(to, out, n1, front(room, n))?;
     named(
+        to,
         out,
         n2,
         b" beyond=",
@@ -257,6 +276,7 @@ fn both(a: bool, b: bool) -> bool {
 
 // What was proposed, and whether the rooms behind it are as they were.
 fn proposed(
+    to: &impl Print,
     out: &mut [u8],
     at: usize,
     spans: usize,
@@ -265,13 +285,14 @@ fn proposed(
     columns: &[u16],
     lengths: &[u16],
     room: &[u8],
-) -> usize {
-    let n = proposed_spans(out, at, spans, rows, columns, lengths);
+) -> io::Result<usize> {
+    let n = proposed_spans(to, out, at, spans, rows, columns, lengths)?;
     let is_kept = are_untouched(spans, rows, columns, lengths);
-    proposed_bytes(out, n, room, bytes, is_kept)
+    proposed_bytes(to, out, n, room, bytes, is_kept)
 }
 
 pub fn propose(
+    to: &impl Print,
     m: Personality,
     display: &[u16],
     page: &[u16],
@@ -281,10 +302,11 @@ pub fn propose(
     room: &mut [u8],
     out: &mut [u8],
     at: usize,
-) -> usize {
+) -> io::Result<usize> {
     let r = repaint::propose(display, page, m, rows, columns, lengths, room);
-    let n = named(out, at, b" answer=", r.answer as usize);
+    let n = named(to, out, at, b" answer=", r.answer as usize)?;
     proposed(
+        to,
         out,
         n,
         r.spans as usize,

@@ -1,5 +1,4 @@
 // The send that a word spells, as `replay_state` shows it.
-use check::same;
 use replay_text::words;
 use replay_text::words::number;
 use rules::{Place, Sending, Short};
@@ -26,7 +25,7 @@ fn unread() -> Reading {
 }
 
 pub fn read(word: &[u8]) -> Reading {
-    if same(word, b"-") {
+    if word == b"-".as_slice() {
         return found(Sending::Nothing);
     }
     if word.len() < 6 {
@@ -73,7 +72,7 @@ fn placed(all: bool, segment: bool, at: Place) -> Reading {
 }
 
 fn in_text(all: bool, segment: bool, word: &[u8]) -> Reading {
-    if same(word, b"cr") {
+    if word == b"cr".as_slice() {
         return placed(all, segment, Place::Return);
     }
     if word.len() == 0 {

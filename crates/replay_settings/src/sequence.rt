@@ -1,5 +1,4 @@
 // The sequence that a word spells, as `replay_state` shows it.
-use check::same;
 use replay_state::sequence::{Spelling, spelled};
 use replay_text::rooms::front;
 use replay_text::words::byte_string;
@@ -84,5 +83,5 @@ fn matches(s: Spelling, bytes: &[u8], over: bool) -> bool {
 }
 
 fn front_is(own: [u8; 49], n: usize, bytes: &[u8]) -> bool {
-    same(front(&own, n), bytes)
+    front(&own, n) == bytes
 }

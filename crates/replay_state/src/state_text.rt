@@ -6,42 +6,50 @@ use crate::sequence::spelled;
 use replay_text::rooms::front;
 use replay_text::trace::{bit, byte_string, comma, form, hex_bytes, hex_digit, named, put, text};
 use rules::{Core, LongText, Modes, Pending, Personality, Screen, Setup, ShortText, State};
+use std::io;
 
-pub fn state(out: &mut [u8], at: usize, s: State) -> usize {
+pub fn state(to: &impl Print, out: &mut [u8], at: usize, s: State) -> io::Result<usize> {
     let core = s.core;
     let setup = s.setup;
     let sending = s.sending;
     let gathered = s.gathered;
-    let n = front_of(out, at, core, setup, gathered);
-    let n1 = texts(out, n, setup);
-    let n2 = personality(out, n1, core);
-    let n3 = send::show(out, n2, sending);
-    widths(out, n3, core, setup)
+    let n = front_of(to, out, at, core, setup, gathered)?;
+    let n1 = texts(to, out, n, setup)?;
+    let n2 = personality(to, out, n1, core)?;
+    let n3 = send::show(to, out, n2, sending)?;
+    widths(to, out, n3, core, setup)
 }
 
 // Up to the sequence under way.
-fn front_of(out: &mut [u8], at: usize, core: Core, setup: Setup, gathered: [u8; 46]) -> usize {
+fn front_of(
+    to: &impl Print,
+    out: &mut [u8],
+    at: usize,
+    core: Core,
+    setup: Setup,
+    gathered: [u8; 46],
+) -> io::Result<usize> {
     let x = core.screen;
     let m = core.modes;
     let p = core.pending;
-    let n = screen(out, at, x);
-    let n1 = modes(out, n, m);
-    let n2 = set_up(out, n1, setup);
-    let n3 = named(out, n2, b" bells=", core.bells as usize);
-    pending(out, n3, p, gathered)
+    let n = screen(to, out, at, x)?;
+    let n1 = modes(to, out, n, m)?;
+    let n2 = set_up(to, out, n1, setup)?;
+    let n3 = named(to, out, n2, b" bells=", core.bells as usize)?;
+    pending(to, out, n3, p, gathered)
 }
 
-fn screen(out: &mut [u8], at: usize, s: Screen) -> usize {
+fn screen(to: &impl Print, out: &mut [u8], at: usize, s: Screen) -> io::Result<usize> {
     let numbers = [
         s.active as usize,
         s.cursor0 as usize,
         s.cursor1 as usize,
         s.split as usize,
     ];
-    form(out, at, b" active=# cursors=#,# split=#", &numbers)
+    form(to, out, at, b" active=# cursors=#,# split=#", &numbers)
 }
 
-fn modes(out: &mut [u8], at: usize, m: Modes) -> usize {
+fn modes(to: &impl Print, out: &mut [u8], at: usize, m: Modes) -> io::Result<usize> {
     let numbers = [
         bit(m.protect),
         bit(m.writeprotect),
@@ -50,14 +58,14 @@ fn modes(out: &mut [u8], at: usize, m: Modes) -> usize {
         bit(m.locked),
         bit(m.local),
     ];
-    form(out, at, b" modes=######", &numbers)
+    form(to, out, at, b" modes=######", &numbers)
 }
 
 // The personality, and the remembered attribute.
-fn personality(out: &mut [u8], at: usize, core: Core) -> usize {
+fn personality(to: &impl Print, out: &mut [u8], at: usize, core: Core) -> io::Result<usize> {
     let m = core.personality;
     let numbers = [model(m), core.attribute as usize];
-    form(out, at, b" personality=# remembered=#", &numbers)
+    form(to, out, at, b" personality=# remembered=#", &numbers)
 }
 
 fn model(m: Personality) -> usize {
@@ -68,49 +76,54 @@ fn model(m: Personality) -> usize {
 }
 
 // The state's own width, and the wish.
-fn widths(out: &mut [u8], at: usize, core: Core, u: Setup) -> usize {
+fn widths(to: &impl Print, out: &mut [u8], at: usize, core: Core, u: Setup) -> io::Result<usize> {
     let numbers = [bit(core.screen.wide), bit(u.wish)];
-    form(out, at, b" wide=# wish=#", &numbers)
+    form(to, out, at, b" wide=# wish=#", &numbers)
 }
 
-fn set_up(out: &mut [u8], at: usize, u: Setup) -> usize {
+fn set_up(to: &impl Print, out: &mut [u8], at: usize, u: Setup) -> io::Result<usize> {
     let stops = u.tabs;
     let attributes = u.attributes;
     let features = u.features;
     let keys = u.keys;
-    let n = tabs(out, at, stops);
-    let n1 = attribute_bytes(out, n, attributes);
-    let n2 = feature_bytes(out, n1, features);
-    let n3 = text(out, n2, b" keys=");
-    short_texts(out, n3, keys)
+    let n = tabs(to, out, at, stops)?;
+    let n1 = attribute_bytes(to, out, n, attributes)?;
+    let n2 = feature_bytes(to, out, n1, features)?;
+    let n3 = text(to, out, n2, b" keys=")?;
+    short_texts(to, out, n3, keys)
 }
 
-fn attribute_bytes(out: &mut [u8], at: usize, bytes: [u8; 4]) -> usize {
-    let n = text(out, at, b" attributes=");
-    hex_bytes(out, n, &bytes)
+fn attribute_bytes(
+    to: &impl Print,
+    out: &mut [u8],
+    at: usize,
+    bytes: [u8; 4],
+) -> io::Result<usize> {
+    let n = text(to, out, at, b" attributes=")?;
+    hex_bytes(to, out, n, &bytes)
 }
 
-fn feature_bytes(out: &mut [u8], at: usize, bytes: [u8; 5]) -> usize {
-    let n = text(out, at, b" features=");
-    hex_bytes(out, n, &bytes)
+fn feature_bytes(to: &impl Print, out: &mut [u8], at: usize, bytes: [u8; 5]) -> io::Result<usize> {
+    let n = text(to, out, at, b" features=")?;
+    hex_bytes(to, out, n, &bytes)
 }
 
-fn tabs(out: &mut [u8], at: usize, stops: [bool; 132]) -> usize {
-    let n = text(out, at, b" tabs=");
-    tab_digits(out, n, stops)
+fn tabs(to: &impl Print, out: &mut [u8], at: usize, stops: [bool; 132]) -> io::Result<usize> {
+    let n = text(to, out, at, b" tabs=")?;
+    tab_digits(to, out, n, stops)
 }
 
 // Four columns to a digit, column 1 first.
-fn tab_digits(out: &mut [u8], at: usize, stops: [bool; 132]) -> usize {
+fn tab_digits(to: &impl Print, out: &mut [u8], at: usize, stops: [bool; 132]) -> io::Result<usize> {
     let mut n = at;
     let mut i = 0;
     while i < 132 {
         let high = stop(stops[i]) * 2 + stop(stops[i + 1]);
         let low = stop(stops[i + 2]) * 2 + stop(stops[i + 3]);
-        n = hex_digit(out, n, high * 4 + low);
+        n = hex_digit(to, out, n, high * 4 + low)?;
         i += 4;
     }
-    n
+    Ok(n)
 }
 
 fn stop(b: bool) -> u8
@@ -120,20 +133,25 @@ fn stop(b: bool) -> u8
 }
 
 // The keys or labels that are set, or `-`.
-fn short_texts(out: &mut [u8], at: usize, all: [ShortText; 32]) -> usize {
+fn short_texts(
+    to: &impl Print,
+    out: &mut [u8],
+    at: usize,
+    all: [ShortText; 32],
+) -> io::Result<usize> {
     let mut n = at;
     let mut found = 0;
     let mut i = 0;
     while i < 32 {
         let k = all[i];
-        n = short_text(out, n, i, k, 0 < found);
+        n = short_text(to, out, n, i, k, 0 < found)?;
         found += is_set(k);
         i += 1;
     }
     if found == 0 {
-        return put(out, n, b'-');
+        return put(to, out, n, b'-');
     }
-    n
+    Ok(n)
 }
 
 // 1 for a key or label that is set, 0 for another.
@@ -144,28 +162,41 @@ fn is_set(k: ShortText) -> usize
 }
 
 // One that is set: a comma unless it is the first, its number, its first 8 bytes, and `+` where there are more.
-fn short_text(out: &mut [u8], at: usize, i: usize, k: ShortText, is_next: bool) -> usize {
+fn short_text(
+    to: &impl Print,
+    out: &mut [u8],
+    at: usize,
+    i: usize,
+    k: ShortText,
+    is_next: bool,
+) -> io::Result<usize> {
     if k.len == 0 {
-        return at;
+        return Ok(at);
     }
     let bytes = k.bytes;
-    let n = comma(out, at, is_next);
+    let n = comma(to, out, at, is_next)?;
     let numbers = [i];
-    let n1 = form(out, n, b"#:", &numbers);
-    let n2 = short_bytes(out, n1, bytes, k.len as usize);
-    plus(out, n2, 8 < k.len)
+    let n1 = form(to, out, n, b"#:", &numbers)?;
+    let n2 = short_bytes(to, out, n1, bytes, k.len as usize)?;
+    plus(to, out, n2, 8 < k.len)
 }
 
-fn short_bytes(out: &mut [u8], at: usize, bytes: [u8; 8], n: usize) -> usize {
-    hex_bytes(out, at, front(&bytes, n))
+fn short_bytes(
+    to: &impl Print,
+    out: &mut [u8],
+    at: usize,
+    bytes: [u8; 8],
+    n: usize,
+) -> io::Result<usize> {
+    hex_bytes(to, out, at, front(&bytes, n))
 }
 
 // `+`, where bytes are left out.
-fn plus(out: &mut [u8], at: usize, is_over: bool) -> usize {
+fn plus(to: &impl Print, out: &mut [u8], at: usize, is_over: bool) -> io::Result<usize> {
     if is_over {
-        return put(out, at, b'+');
+        return put(to, out, at, b'+');
     }
-    at
+    Ok(at)
 }
 
 // Labels in the place of keys.
@@ -184,37 +215,55 @@ fn as_keys(labels: [ShortText; 16]) -> [ShortText; 32] {
     keys
 }
 
-fn pending(out: &mut [u8], at: usize, p: Pending, g: [u8; 46]) -> usize {
+fn pending(
+    to: &impl Print,
+    out: &mut [u8],
+    at: usize,
+    p: Pending,
+    g: [u8; 46],
+) -> io::Result<usize> {
     let s = spelled(p, g);
     let bytes = s.bytes;
     let len = s.len;
-    let n = sequence_bytes(out, at, bytes, len);
-    plus(out, n, s.over)
+    let n = sequence_bytes(to, out, at, bytes, len)?;
+    plus(to, out, n, s.over)
 }
 
-fn sequence_bytes(out: &mut [u8], at: usize, bytes: [u8; 49], n: usize) -> usize {
-    let n1 = text(out, at, b" pending=");
-    byte_string(out, n1, front(&bytes, n))
+fn sequence_bytes(
+    to: &impl Print,
+    out: &mut [u8],
+    at: usize,
+    bytes: [u8; 49],
+    n: usize,
+) -> io::Result<usize> {
+    let n1 = text(to, out, at, b" pending=")?;
+    byte_string(to, out, n1, front(&bytes, n))
 }
 
 // The host message, the labels, and whether the shifted line is on.
-fn texts(out: &mut [u8], at: usize, u: Setup) -> usize {
+fn texts(to: &impl Print, out: &mut [u8], at: usize, u: Setup) -> io::Result<usize> {
     let m = u.message;
     let labels = u.labels;
-    let n = message(out, at, m);
-    let n1 = text(out, n, b" labels=");
-    let n2 = short_texts(out, n1, as_keys(labels));
-    named(out, n2, b" shifted=", bit(u.shifted))
+    let n = message(to, out, at, m)?;
+    let n1 = text(to, out, n, b" labels=")?;
+    let n2 = short_texts(to, out, n1, as_keys(labels))?;
+    named(to, out, n2, b" shifted=", bit(u.shifted))
 }
 
 // Its first 46 bytes, and `+` where there are more.
-fn message(out: &mut [u8], at: usize, m: LongText) -> usize {
+fn message(to: &impl Print, out: &mut [u8], at: usize, m: LongText) -> io::Result<usize> {
     let bytes = m.bytes;
-    let n = message_bytes(out, at, bytes, m.len as usize);
-    plus(out, n, 46 < m.len)
+    let n = message_bytes(to, out, at, bytes, m.len as usize)?;
+    plus(to, out, n, 46 < m.len)
 }
 
-fn message_bytes(out: &mut [u8], at: usize, bytes: [u8; 46], n: usize) -> usize {
-    let n1 = text(out, at, b" message=");
-    byte_string(out, n1, front(&bytes, n))
+fn message_bytes(
+    to: &impl Print,
+    out: &mut [u8],
+    at: usize,
+    bytes: [u8; 46],
+    n: usize,
+) -> io::Result<usize> {
+    let n1 = text(to, out, at, b" message=")?;
+    byte_string(to, out, n1, front(&bytes, n))
 }

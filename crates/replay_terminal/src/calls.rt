@@ -5,6 +5,7 @@ use replay_text::trace::{
     text,
 };
 use rules::{Answer, Personality, RunResult, State, StepResult};
+use std::io;
 
 // After a call: the state, and how many bytes the output buffer holds.
 #[derive(Clone, Copy)]
@@ -13,25 +14,43 @@ pub struct Called {
     pub at: usize,
 }
 
-fn answered(out: &mut [u8], at: usize, a: Answer) -> usize {
-    named(out, at, b" answer=", terminal::answer_number(a) as usize)
+fn answered(to: &impl Print, out: &mut [u8], at: usize, a: Answer) -> io::Result<usize> {
+    named(
+        to,
+        out,
+        at,
+        b" answer=",
+        terminal::answer_number(a) as usize,
+    )
 }
 
-pub fn on(m: Personality, page: &mut [u16], out: &mut [u8], at: usize) -> Called {
+pub fn on(
+    to: &impl Print,
+    m: Personality,
+    page: &mut [u16],
+    out: &mut [u8],
+    at: usize,
+) -> io::Result<Called> {
     let r = terminal::power_on(page, m);
     let a = r.answer;
     let next = r.state;
-    let n = answered(out, at, a);
-    Called { state: next, at: n }
+    let n = answered(to, out, at, a)?;
+    Ok(Called { state: next, at: n })
 }
 
 // The row list, where the call had it.
-fn rows_text(out: &mut [u8], at: usize, is_listed: bool, rows: &[u16]) -> usize {
+fn rows_text(
+    to: &impl Print,
+    out: &mut [u8],
+    at: usize,
+    is_listed: bool,
+    rows: &[u16],
+) -> io::Result<usize> {
     if !is_listed {
-        return at;
+        return Ok(at);
     }
-    let n = text(out, at, b" rows=");
-    number_list(out, n, rows, false)
+    let n = text(to, out, at, b" rows=")?;
+    number_list(to, out, n, rows, false)
 }
 
 fn stepped(
@@ -50,19 +69,21 @@ fn stepped(
 
 // The answer, the reply, and whether the step's own byte was taken.
 fn step_text(
+    to: &impl Print,
     out: &mut [u8],
     at: usize,
     a: Answer,
     taken: bool,
     replied: usize,
     room: &[u8],
-) -> usize {
-    let n = answered(out, at, a);
-    let n1 = named_room(out, n, b" reply=", room, replied);
-    named(out, n1, b" own=", bit(taken))
+) -> io::Result<usize> {
+    let n = answered(to, out, at, a)?;
+    let n1 = named_room(to, out, n, b" reply=", room, replied)?;
+    named(to, out, n1, b" own=", bit(taken))
 }
 
 pub fn step(
+    to: &impl Print,
     s: State,
     byte: u8,
     is_listed: bool,
@@ -71,16 +92,16 @@ pub fn step(
     room: &mut [u8],
     out: &mut [u8],
     at: usize,
-) -> Called {
+) -> io::Result<Called> {
     let r = stepped(s, byte, is_listed, page, rows, room);
     let a = r.answer;
     let next = r.state;
-    let n = step_text(out, at, a, r.taken, r.replied, room);
-    let n1 = rows_text(out, n, is_listed, rows);
-    Called {
+    let n = step_text(to, out, at, a, r.taken, r.replied, room)?;
+    let n1 = rows_text(to, out, n, is_listed, rows)?;
+    Ok(Called {
         state: next,
         at: n1,
-    }
+    })
 }
 
 // Without the row list.
@@ -122,46 +143,55 @@ fn ran(
 }
 
 // The byte of the command that a reply answers, `-` for none.
-fn asked(out: &mut [u8], at: usize, is_next: bool, command: u8) -> usize {
+fn asked(
+    to: &impl Print,
+    out: &mut [u8],
+    at: usize,
+    is_next: bool,
+    command: u8,
+) -> io::Result<usize> {
     if !is_next {
-        return at;
+        return Ok(at);
     }
-    let n = text(out, at, b" asked=");
+    let n = text(to, out, at, b" asked=")?;
     if command == 0 {
-        return put(out, n, b'-');
+        return put(to, out, n, b'-');
     }
-    hex_byte(out, n, command)
+    hex_byte(to, out, n, command)
 }
 
 fn counts(
+    to: &impl Print,
     out: &mut [u8],
     at: usize,
     a: Answer,
     taken: usize,
     replied: usize,
     refused: usize,
-) -> usize {
-    let n = answered(out, at, a);
+) -> io::Result<usize> {
+    let n = answered(to, out, at, a)?;
     let all = [taken, replied, refused];
-    form(out, n, b" taken=# replied=# refused=#", &all)
+    form(to, out, n, b" taken=# replied=# refused=#", &all)
 }
 
 // The part of the input that a run hands back, and its reply.
 fn handed_back(
+    to: &impl Print,
     out: &mut [u8],
     at: usize,
     input: &[u8],
     taken: usize,
     room: &[u8],
     replied: usize,
-) -> usize {
-    let n = text(out, at, b" rest=");
-    let n1 = byte_string(out, n, terminal::rest(input, taken));
-    named_room(out, n1, b" reply=", room, replied)
+) -> io::Result<usize> {
+    let n = text(to, out, at, b" rest=")?;
+    let n1 = byte_string(to, out, n, terminal::rest(input, taken))?;
+    named_room(to, out, n1, b" reply=", room, replied)
 }
 
 // A run's line, up to the row list.
 fn run_text(
+    to: &impl Print,
     out: &mut [u8],
     at: usize,
     is_next: bool,
@@ -172,14 +202,15 @@ fn run_text(
     refused: usize,
     input: &[u8],
     room: &[u8],
-) -> usize {
-    let n = counts(out, at, a, taken, replied, refused);
-    let n1 = asked(out, n, is_next, command);
-    handed_back(out, n1, input, taken, room, replied)
+) -> io::Result<usize> {
+    let n = counts(to, out, at, a, taken, replied, refused)?;
+    let n1 = asked(to, out, n, is_next, command)?;
+    handed_back(to, out, n1, input, taken, room, replied)
 }
 
 // A run, or one up to the first reply or refusal.
 pub fn run(
+    to: &impl Print,
     s: State,
     is_next: bool,
     is_listed: bool,
@@ -189,33 +220,48 @@ pub fn run(
     room: &mut [u8],
     out: &mut [u8],
     at: usize,
-) -> Called {
+) -> io::Result<Called> {
     let sending = s.sending;
     let r = ran(s, is_next, is_listed, input, page, rows, room);
     let a = r.answer;
     let next = r.state;
     let command = terminal::reply_command(sending, input, r.taken, r.replied);
     let n = run_text(
-        out, at, is_next, a, command, r.taken, r.replied, r.refused, input, room,
-    );
-    let n1 = rows_text(out, n, is_listed, rows);
-    Called {
+        to, out, at, is_next, a, command, r.taken, r.replied, r.refused, input, room,
+    )?;
+    let n1 = rows_text(to, out, n, is_listed, rows)?;
+    Ok(Called {
         state: next,
         at: n1,
-    }
+    })
 }
 
-pub fn press(s: State, key: u8, page: &[u16], room: &mut [u8], out: &mut [u8], at: usize) -> usize {
+pub fn press(
+    to: &impl Print,
+    s: State,
+    key: u8,
+    page: &[u16],
+    room: &mut [u8],
+    out: &mut [u8],
+    at: usize,
+) -> io::Result<usize> {
     let r = terminal::press(page, s, key, room);
     let a = r.answer;
-    let n = answered(out, at, a);
-    named_room(out, n, b" reply=", room, r.replied)
+    let n = answered(to, out, at, a)?;
+    named_room(to, out, n, b" reply=", room, r.replied)
 }
 
-pub fn rebuild(s: State, page: &[u16], rows: &mut [u16], out: &mut [u8], at: usize) -> usize {
+pub fn rebuild(
+    to: &impl Print,
+    s: State,
+    page: &[u16],
+    rows: &mut [u16],
+    out: &mut [u8],
+    at: usize,
+) -> io::Result<usize> {
     let a = terminal::rebuild_rows(page, rows, s);
-    let n = answered(out, at, a);
-    rows_text(out, n, true, rows)
+    let n = answered(to, out, at, a)?;
+    rows_text(to, out, n, true, rows)
 }
 
 // After a conversion: the state, how many bytes the output buffer holds, and whether the target is now the page.
@@ -227,27 +273,41 @@ pub struct Turned {
 }
 
 // The answer, whether the old page is as it was, and the target's digest.
-fn turned_text(out: &mut [u8], at: usize, a: Answer, is_same: bool, target: &[u16]) -> usize {
-    let n = answered(out, at, a);
-    let n1 = named(out, n, b" old=", bit(is_same));
-    named_digest(out, n1, b" target=", digest::of(target))
+fn turned_text(
+    to: &impl Print,
+    out: &mut [u8],
+    at: usize,
+    a: Answer,
+    is_same: bool,
+    target: &[u16],
+) -> io::Result<usize> {
+    let n = answered(to, out, at, a)?;
+    let n1 = named(to, out, n, b" old=", bit(is_same))?;
+    named_digest(to, out, n1, b" target=", digest::of(target))
 }
 
-pub fn convert(s: State, page: &[u16], target: &mut [u16], out: &mut [u8], at: usize) -> Turned {
+pub fn convert(
+    to: &impl Print,
+    s: State,
+    page: &[u16],
+    target: &mut [u16],
+    out: &mut [u8],
+    at: usize,
+) -> io::Result<Turned> {
     let before = digest::of(page);
     let r = terminal::convert(page, s, target);
     let a = r.answer;
     let next = r.state;
-    let n = turned_text(out, at, a, digest::of(page) == before, target);
-    Turned {
+    let n = turned_text(to, out, at, a, digest::of(page) == before, target)?;
+    Ok(Turned {
         state: next,
         at: n,
         done: terminal::answer_number(a) == 0,
-    }
+    })
 }
 
 // All cells.
-pub fn show(page: &[u16], out: &mut [u8], at: usize) -> usize {
-    let n = text(out, at, b" cells=");
-    numbers(out, n, page, false)
+pub fn show(to: &impl Print, page: &[u16], out: &mut [u8], at: usize) -> io::Result<usize> {
+    let n = text(to, out, at, b" cells=")?;
+    numbers(to, out, n, page, false)
 }

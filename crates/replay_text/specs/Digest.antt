@@ -1,5 +1,5 @@
 -- FNV-1a of 64 bits over a page, each cell's low byte and then its high byte, and over bytes.
-use Rattle.std.specs.Prelude.{ℕ, ◌+◌, ◌*◌, ◌/◌, ◌%◌, ◌^◌, List, [], ◌∷◌, bit_xor}
+use Rattle.std.specs.Prelude.{ℕ, ◌*◌, ◌/◌, ◌%◌, ◌^◌, List, [], ◌∷◌, bit_xor}
 
 abbrev pub prime : ℕ
 prime = 0x100_0000_01b3

@@ -1,6 +1,6 @@
 // A number that lies within a slice, so that a part of that length can be lent.
 ghost use Rattle.std.specs.Prelude.{◌≤◌};
-ghost use Rattle.io.specs.Counts.{IsPrefixLen};
+ghost use Rattle.replay_text.specs.Prefix.{IsPrefixLen};
 
 pub fn least(a: usize, b: usize) -> usize
     ensures { (result ≤ a) × (result ≤ b) }

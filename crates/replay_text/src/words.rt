@@ -4,7 +4,6 @@ ghost use Rattle.replay_text.specs.Text.{none, Found, first_word, later_words, w
 ghost use Rattle.replay_text.specs.Text.{byte_of, is_hex, hex_bytes, is_string, Put};
 
 use crate::rooms::part;
-use check::same;
 
 // What stands for no number and no byte string. A number of a script lies below LIMIT.
 pub const NONE: usize = 0xffff_ffff_ffff_ffff;
@@ -81,7 +80,7 @@ pub fn which(word: &[u8], words: &[u8]) -> usize {
     let mut at = 0;
     while at < words.len() {
         let end = find_from(words, at, b' ');
-        if same(part(words, at, end), word) {
+        if part(words, at, end) == word {
             return n;
         }
         n += 1;
@@ -205,7 +204,7 @@ pub fn byte_string(word: &[u8], room: &mut [u8]) -> usize
     if word.len() == 0 {
         return NONE;
     }
-    if same(word, b"-") {
+    if word == b"-".as_slice() {
         return 0;
     }
     hex_bytes(word, room)
