@@ -10,7 +10,7 @@ ghost use Rattle.rules.specs.Carry.{landed};
 use page::rows::settle_rows;
 use page::search::settle;
 use rules::{Core, Land, Screen};
-use state::core::with_screen;
+use state::core_parts::with_screen;
 use state::screen::{segment_end, segment_start, width_of, with_cursor};
 
 // Settle from a cell of the active segment: by the row list, or by the cells where there is none.

@@ -17,7 +17,7 @@ use forms::{plain, settling};
 use moves::plan_move;
 use rules::{Command, Core, Plan};
 use sends::{plan_excluded, plan_send, plan_setting};
-use state::core::{next_bell, with_bells, with_mode, with_modes, with_protect};
+use state::core_parts::{next_bell, with_bells, with_mode, with_modes, with_protect};
 use state::screen::cursor_of;
 use windows::plan_window;
 use writes::{plan_attribute, plan_clear, plan_edit, plan_store};

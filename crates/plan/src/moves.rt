@@ -10,7 +10,7 @@ ghost use Rattle.rules.specs.Plan.{address_plan, move_plan};
 use super::forms::{refusing, settling, writing};
 use page::search;
 use rules::{Answer, Core, Land, Modes, Move, Plan, Screen, Write};
-use state::core::with_screen;
+use state::core_parts::with_screen;
 use state::screen::{
     cursor_column, cursor_of, row_start, segment_bottom, segment_end, segment_start, segment_top,
     width_of,

@@ -12,7 +12,7 @@ use page::cell::{NULL, PROTECTED_SPACE, SPACE};
 use rules::{
     Answer, Core, Excluded, Land, Place, Plan, Send, Sending, Setting, SetupChange, Short, Write,
 };
-use state::core::{with_modes, with_protect};
+use state::core_parts::{with_modes, with_protect};
 use state::possible::feature_place;
 use state::screen::{cursor_column, cursor_of, segment_end, segment_start, text_start};
 

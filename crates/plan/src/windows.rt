@@ -6,7 +6,7 @@ ghost use Rattle.rules.specs.Plan.{unsplit_screen, split_screen, activate as act
 use super::forms::{plain, refusing, settling};
 use super::moves::address_plan;
 use rules::{Answer, Core, Plan, Screen, Window};
-use state::core::with_screen;
+use state::core_parts::with_screen;
 use state::logic::between;
 use state::screen::{activated, cursor_of};
 use state::width::{ADDRESSED, cells};

@@ -13,7 +13,7 @@ use super::moves::{scroll, scrolls};
 use page::cell::{NORMAL, PROTECTED_SPACE, SPACE, written_cell};
 use page::search::is_guarded_at;
 use rules::{Answer, Clear, Contents, Core, Edit, Land, Personality, Plan, Write};
-use state::core::with_attribute;
+use state::core_parts::with_attribute;
 use state::decode::attribute_contents;
 use state::screen::{
     cursor_column, cursor_of, cursor_row, row_start, segment_bottom, segment_end, segment_start,

@@ -9,7 +9,7 @@ ghost use Rattle.repaint.specs.Bytes.{power_on_at, paints as paintsRule, BytesVe
 
 use crate::{Verdict, same_cells, width_of};
 use rules::{Answer, Personality, Screen, State};
-use state::core::with_screen;
+use state::core_parts::with_screen;
 use state::logic::and;
 use state::{answer_number, power_on_state};
 use terminal::run;

@@ -4,7 +4,7 @@
 pub mod logic; // tests on numbers, and how they are joined
 pub mod width; // the width of a page
 pub mod screen; // the active segment and its cursor
-pub mod core; // the other parts of the core
+pub mod core_parts; // the other parts of the core
 pub mod texts; // slots, the bytes gathered, and texts
 pub mod keys; // function keys and labels
 pub mod setup; // changes of the set-up and of the gathered bytes

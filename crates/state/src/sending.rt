@@ -4,7 +4,7 @@ ghost use Rattle.rules.specs.State.{sends, sending_after};
 ghost use Rattle.rules.specs.Send.{short_command, text_command, command_of};
 ghost use Rattle.rules.specs.Possible.{short_length, narrow_only, replies_on, in_text, place_ok, sending_ok};
 
-use crate::core::is_idle;
+use crate::core_parts::is_idle;
 use crate::logic::and;
 use crate::screen::{cursor_of, text_start};
 use crate::width::column_of;

@@ -24,7 +24,7 @@ use carry::replies::send;
 use page::rows::rebuild;
 use page::text::Sent;
 use rules::{Answer, Change, Core, RunResult, Sending, Setup, SetupChange, State};
-use state::core::awaiting;
+use state::core_parts::awaiting;
 use state::logic::{and, or};
 use state::sending::{is_sending, sending_after};
 use state::setup::{gathered_after, setup_after};

@@ -20,7 +20,7 @@ use carry::writes::write;
 use page::cell::written_cell;
 use page::change::shift_rows;
 use rules::{Contents, Core, Modes, Pending};
-use state::core::{idle, with_screen};
+use state::core_parts::{idle, with_screen};
 use state::screen::{
     cursor_of, segment_bottom, segment_end, segment_start, segment_top, with_cursor,
 };

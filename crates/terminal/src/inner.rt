@@ -15,7 +15,7 @@ ghost use Rattle.carry.specs.Rows.{BesideAfter};
 use carry::carry_out;
 use plan::plan_for;
 use rules::{Answer, Change, Command, Core, CoreResult, Decoded, Pending, SetupChange};
-use state::core::{awaiting, idle};
+use state::core_parts::{awaiting, idle};
 
 // A byte that writes nothing and replies nothing.
 fn quiet(answer: Answer, core: Core, change: Change) -> CoreResult

@@ -33,7 +33,7 @@ use page::convert::{convert_page, loses_cells};
 use page::rows::{is_row_list, rebuild};
 use rules::{Answer, Personality, PowerOn, PressResult, RunResult, Sending, State, StepResult};
 pub use state::answer_number;
-pub use state::core::is_idle;
+pub use state::core_parts::is_idle;
 use state::keys::key_at;
 use state::logic::{and, or};
 use state::possible::possible;

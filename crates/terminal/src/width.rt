@@ -6,7 +6,7 @@ ghost use Rattle.rules.specs.Convert.{other_width, stops_within, state_on};
 
 use page::search::settle;
 use rules::{Answer, Screen, State};
-use state::core::with_screen;
+use state::core_parts::with_screen;
 use state::width::{cells, columns};
 
 #[derive(Clone, Copy)]

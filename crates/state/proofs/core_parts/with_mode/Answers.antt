@@ -1,6 +1,6 @@
--- `state::core::with_mode` meets its contract: each arm is a clause of the definition.
+-- `state::core_parts::with_mode` meets its contract: each arm is a clause of the definition.
 use Rattle.rules.specs.State.{with_mode}
-use Rattle.state.proofs.core.with_mode.Goals as goal
+use Rattle.state.proofs.core_parts.with_mode.Goals as goal
 
 pub returns-in-WriteProtect : goal.returns-in-WriteProtect
 unfolding with_mode
