@@ -13,7 +13,7 @@ use native.Mathlib.Nat.{add-zero, eq-or-lt_of_le}
 use native.Mathlib.Omega.{arith}
 use lib.ListN.{length, get_or}
 use Rattle.rules.specs.Search.{guarded_at, others, first_in, around}
-use Rattle.rules.proofs.Searching.{hit, miss, first_none, around_here, around_wrapped, around_none, guard_at, OpenAt, length_guards, length_others}
+use Rattle.rules.proofs.Searching.{hit, miss, first_none, around_here, around_wrapped, around_none, guard_at, open_at, length_guards, length_others}
 
 pub past : (m : List Bool) (n a e : ℕ) → a + n ≤ e → e ≤ length m → ((j : ℕ) → j < n → get_or m (a + j) false ≡ false)
     → first_in m a e ≡ first_in m (a + n) e
@@ -32,14 +32,14 @@ around_from m first end from near e = rw e
 -- the cells a up to a + n of a page are guarded, so none is open
 pub none_open : (g : List Bool) (a n : ℕ) → a + n ≤ length g → ((j : ℕ) → j < n → get_or g (a + j) false ≡ true)
     → (j : ℕ) → j < n → get_or (others g) (a + j) false ≡ false
-none_open g a n h all j b = OpenAt g (a + j) (omega arith) ∙ ap not (all j b)
+none_open g a n h all j b = open_at g (a + j) (omega arith) ∙ ap not (all j b)
 
 module _ (p : List ℕ) (end : ℕ) (k : end ≤ length p) where
   open_off : (a : ℕ) → a < end → first_in (others (guarded_at false p)) a end ≡ a
   open_off a h =
       let g = guarded_at false p in
       hit (others g) a end h (omega (arith, length_others g, length_guards false p))
-      (sym (OpenAt g a (omega (arith, length_guards false p)) ∙ ap not (guard_at false p a (omega arith)))) refl
+      (sym (open_at g a (omega (arith, length_guards false p)) ∙ ap not (guard_at false p a (omega arith)))) refl
 
   pub off_here : (first from : ℕ) → from < end → from ≡ around (others (guarded_at false p)) first end from
   off_here first from h = around_here (others (guarded_at false p)) first end from (sym (open_off from h)) h

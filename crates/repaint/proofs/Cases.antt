@@ -9,7 +9,7 @@ use Rattle.rules.specs.State.{segment_top, segment_bottom, cursor_of, with_curso
 use Rattle.rules.specs.Possible.{power_on, unsplit_ok, split_ok, screen_ok, attributes_ok, features_ok, pending_ok, remembered_ok, sending_ok, no_stops, core_ok}
 use Rattle.rules.specs.Possible.{setup_ok, possible, good}
 use Rattle.rules.specs.Arguments.{is_attribute, attribute_contents, attribute_of, feature_place}
-use Rattle.rules.specs.Slot.{all_text as allTextOf, text_ok, texts_ok}
+use Rattle.rules.specs.Slot.{all_text as all_text_of, text_ok, texts_ok}
 use Rattle.rules.specs.Decode.{lookup, idle_rule, escape_rule, judged, digit_rule, decimal_row_rule, decimal_column_rule, argument_rule, decode_rule}
 use Rattle.rules.specs.Plan.{unless_guarded, scrolls, address_plan, move_plan, storing, advancing, store_plan, takes_cell, attribute_plan, send_plan}
 use Rattle.rules.specs.Plan.{plan_rule}
@@ -49,7 +49,7 @@ worked_proposals = record {
 pub worked_bytes : WorkedBytes
 unfolding same columns row_end which_cells others starts_from first_in last_in around around_back within filled segment_top segment_bottom cursor_of with_cursor changed
     sending_after gathered_after setup_after power_on unsplit_ok split_ok screen_ok attributes_ok features_ok pending_ok remembered_ok sending_ok no_stops core_ok setup_ok
-    possible good is_attribute attribute_contents attribute_of feature_place allTextOf text_ok texts_ok lookup idle_rule escape_rule judged digit_rule
+    possible good is_attribute attribute_contents attribute_of feature_place all_text_of text_ok texts_ok lookup idle_rule escape_rule judged digit_rule
     decimal_row_rule decimal_column_rule argument_rule decode_rule unless_guarded scrolls address_plan move_plan storing advancing store_plan takes_cell attribute_plan
     send_plan plan_rule applied landed done begun carried obeyed inner_rule step_inside step_rule joined repeated run_rule power_on_at clean paints
 worked_bytes = record {

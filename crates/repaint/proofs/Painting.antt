@@ -44,7 +44,7 @@ use Rattle.rules.specs.Carry.{quiet, applied, landed, done, carried}
 use Rattle.rules.specs.Step.{Outcome, outcome_of, obeyed, inner_rule, step_rule}
 use Rattle.rules.proofs.Tests.{pick_if, both_parts, both_true, either_way, either_second}
 use Rattle.rules.proofs.Kept.{step_good}
-use Rattle.rules.proofs.Searching.{hit, around_here, length_guards, length_others, guard_at, OpenAt}
+use Rattle.rules.proofs.Searching.{hit, around_here, length_guards, length_others, guard_at, open_at}
 use Rattle.repaint.specs.Bytes.{power_on_at, Leads, end, byte, AcceptsBytes}
 use Rattle.repaint.specs.Proposal.{Stretch, stretch, ends_row, lengthened, differing, shown_as, attribute_code, cell_bytes, cells_bytes, last_shown}
 use Rattle.repaint.specs.Proposal.{start_bytes, stretch_bytes, stretches_bytes, is_text, all_text, served, paint_bytes}
@@ -96,7 +96,7 @@ state_at g u m a i q = record { core = core_at m a i q; sending = Sending.Nothin
 -- an open cell: settling stays there; with protect mode off each is
 pub settled_open : (g : List Bool) (first to i : ℕ) → i < to → to ≤ length g → get_or g i false ≡ false → settled g first to i ≡ i
 settled_open g first to i h k e =
-    let t : get_or (others g) i false ≡ true = OpenAt g i (omega arith) ∙ ap not e in
+    let t : get_or (others g) i false ≡ true = open_at g i (omega arith) ∙ ap not e in
     sym (around_here (others g) first to i (sym (hit (others g) i to h (omega (arith, length_others g)) refl t)) h)
 
 settled_free : (p : List ℕ) (i : ℕ) → length p ≡ 1920 → i < 1920 → settled (guarded_at false p) 0 1920 i ≡ i

@@ -1,7 +1,7 @@
 -- Laws of a search.
 --     hit, miss, first_none, hit_last, miss_last, last_none     one turn of a loop that looks at one cell
 --     around_here, around_wrapped, around_none, back_here, back_wrapped     a search that wraps, by what its two searches found
---     guard_at, OpenAt, start_at, length_sought     what is known of each cell
+--     guard_at, open_at, start_at, length_sought     what is known of each cell
 --     first_range, last_range, around_range, back_range, edit_range     where a search ends
 -- Assumes nothing.
 use mathlib.Core.Path.{◌≡◌, refl, sym, ap, ◌∙◌}
@@ -120,11 +120,11 @@ guard_at on [] i h = absurd (not-suc-le-zero h)
 guard_at on (v ∷ p) zero h = refl
 guard_at on (v ∷ p) (suc i) h = guard_at on p i (le_of_suc-le-suc h)
 
-pub OpenAt : (g : List Bool) (i : ℕ) → i < length g → get_or (others g) i false ≡ not (get_or g i false)
+pub open_at : (g : List Bool) (i : ℕ) → i < length g → get_or (others g) i false ≡ not (get_or g i false)
 unfolding others
-OpenAt [] i h = absurd (not-suc-le-zero h)
-OpenAt (b ∷ g) zero h = refl
-OpenAt (b ∷ g) (suc i) h = OpenAt g i (le_of_suc-le-suc h)
+open_at [] i h = absurd (not-suc-le-zero h)
+open_at (b ∷ g) zero h = refl
+open_at (b ∷ g) (suc i) h = open_at g i (le_of_suc-le-suc h)
 
 -- whether the cell before cell i of the list is guarded: b says so of what is before the list
 abbrev before : Bool → List Bool → ℕ → Bool

@@ -35,7 +35,7 @@ use Rattle.rules.specs.Step.{Outcome, outcome_of, obeyed, inner_rule, step_rule}
 use Rattle.rules.specs.Calls.{Ran, joined, repeated, run_rule}
 use Rattle.rules.proofs.Tests.{both_true}
 use Rattle.rules.proofs.Kept.{step_good}
-use Rattle.rules.proofs.Searching.{hit, around_here, length_guards, length_others, guard_at, OpenAt}
+use Rattle.rules.proofs.Searching.{hit, around_here, length_guards, length_others, guard_at, open_at}
 
 -- ---- the relation
 
@@ -142,7 +142,7 @@ module _ (m : Personality) {i : ℕ} {g : List ℕ} {u : Setup} {p : List ℕ} {
 -- an open cell: settling stays there
 settled_open : (g : List Bool) (first end i : ℕ) → i < end → end ≤ length g → get_or g i false ≡ false → settled g first end i ≡ i
 settled_open g first end i h k e =
-    let t : get_or (others g) i false ≡ true = OpenAt g i (omega arith) ∙ ap not e in
+    let t : get_or (others g) i false ≡ true = open_at g i (omega arith) ∙ ap not e in
     sym (around_here (others g) first end i (sym (hit (others g) i end h (omega (arith, length_others g)) refl t)) h)
 
 -- with protect mode off no cell is guarded

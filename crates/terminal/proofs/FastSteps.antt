@@ -36,7 +36,7 @@ use Rattle.rules.specs.Plan.{down_plan, reverse_plan, tab_cell, move_plan, row_e
 use Rattle.rules.specs.Carry.{effect, applied, landed, done, carried}
 use Rattle.rules.specs.Step.{obeyed, inner_rule}
 use Rattle.rules.proofs.Tests.{both_true, both_parts}
-use Rattle.rules.proofs.Searching.{hit, hit_last, last_none, around_here, length_guards, length_others, guard_at, OpenAt}
+use Rattle.rules.proofs.Searching.{hit, hit_last, last_none, around_here, length_guards, length_others, guard_at, open_at}
 use Rattle.rules.proofs.Rows.{by_width, columns_width}
 use Rattle.rules.proofs.Lengths.{length_applied}
 use Rattle.rules.proofs.Screens.{screen_inside}
@@ -51,7 +51,7 @@ use Rattle.terminal.proofs.Carrying.{below}
 -- an open cell: settling stays there
 settled_open : (g : List Bool) (first end i : ℕ) → i < end → end ≤ length g → get_or g i false ≡ false → settled g first end i ≡ i
 settled_open g first end i h k e =
-    let t : get_or (others g) i false ≡ true = OpenAt g i (omega arith) ∙ ap not e in
+    let t : get_or (others g) i false ≡ true = open_at g i (omega arith) ∙ ap not e in
     sym (around_here (others g) first end i (sym (hit (others g) i end h (omega (arith, length_others g)) refl t)) h)
 
 -- protect mode is off where a segment scrolls
@@ -232,7 +232,7 @@ module _ (p : List ℕ) (c : Core) (size : length p ≡ page_length c.screen) (o
       let s = screen_inside x ok in
       let l : cursor_of x ≤ length m = omega (arith, length_others (guarded_at on p), length_guards on p, size, s.below, s.placed.page) in
       let t : get_or m (cursor_of x - 1) false
-      ≡ true = OpenAt (guarded_at on p) (cursor_of x - 1) (omega (arith, length_guards on p, size, s.below, s.placed.page))
+      ≡ true = open_at (guarded_at on p) (cursor_of x - 1) (omega (arith, length_guards on p, size, s.below, s.placed.page))
       ∙ ap not (rw i at g) in
       settles Move.Back quiet (omega (arith, e)) (rw e refl)
       (ap (settling (idle c)) (hit_last (cursor_of x) m (segment_start x) (cursor_of x) (omega arith) l refl t ∙ sym i)) h g
