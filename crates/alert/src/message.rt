@@ -2,7 +2,7 @@
 ghost use Rattle.std.specs.Prelude.{◌≡◌, ◌≤◌, length};
 ghost use Rattle.counter.specs.Pieces.{pieces};
 ghost use Rattle.alert.specs.Room.{Puts};
-ghost use Rattle.alert.specs.Message.{mode_note, is_shown, piece_line, piece_lines, count_line, told_line, sent as sentOf, last_of};
+ghost use Rattle.alert.specs.Message.{mode_note, is_shown, piece_line, piece_lines, count_line, told_line, sent as sent_of, last_of};
 ghost use Rattle.alert.specs.Message.{message as message_of};
 
 use crate::put;
@@ -128,7 +128,7 @@ fn told(room: &mut [u8], n: usize, t: Told) -> usize
 }
 
 fn sent(room: &mut [u8], protect: bool, t: Told, reply: &[u8], first: usize, last: usize) -> usize
-    ensures { Puts (sentOf protect t reply.now first last) 0 room.old result room.new }
+    ensures { Puts (sent_of protect t reply.now first last) 0 room.old result room.new }
 {
     let a = put::bytes(
         room,

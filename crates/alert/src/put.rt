@@ -2,7 +2,7 @@
 ghost use Rattle.std.specs.Prelude.{◌≡◌, ◌*◌, ◌<◌, [], ◌∷◌};
 ghost use Rattle.rules.specs.Cell.{pick};
 ghost use Rattle.rules.specs.Row.{Width};
-ghost use Rattle.rules.specs.Send.{digit as digitOf};
+ghost use Rattle.rules.specs.Send.{digit as digit_of};
 ghost use Rattle.alert.specs.Room.{Puts, decimal_of, count_of, place_of};
 
 pub fn byte(room: &mut [u8], n: usize, b: u8) -> usize
@@ -29,7 +29,7 @@ pub fn bytes(room: &mut [u8], start: usize, text: &[u8]) -> usize
 
 // The last decimal digit of a number.
 fn digit(v: u64) -> u8
-    ensures { result ≡ digitOf v }
+    ensures { result ≡ digit_of v }
 {
     0x30 + (v % 10) as u8
 }

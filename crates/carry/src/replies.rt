@@ -3,7 +3,7 @@ ghost use Rattle.std.specs.Prelude.{◌≡◌, ◌+◌, ◌<◌, ◌≤◌, true
 ghost use Rattle.rules.specs.State.{Inside, page_length, cursor_row, cursor_column};
 ghost use Rattle.rules.specs.Possible.{screen_ok, short_length};
 ghost use Rattle.rules.specs.Theorems.Good.{GoodSend};
-ghost use Rattle.rules.specs.Send.{model, digit as digitOf, decimal, each, places};
+ghost use Rattle.rules.specs.Send.{model, digit as digit_of, decimal, each, places};
 ghost use Rattle.page.specs.Room.{stands, gone};
 ghost use Rattle.carry.specs.Went.{Went};
 
@@ -28,7 +28,7 @@ fn cursor_column(x: Screen) -> u8
 
 // The last decimal digit of a number.
 fn digit(n: u8) -> u8
-    ensures { result ≡ digitOf n }
+    ensures { result ≡ digit_of n }
 {
     0x30 + n % 10
 }

@@ -6,7 +6,7 @@ ghost use Rattle.rules.specs.Theorems.Good.{GoodWrite};
 ghost use Rattle.rules.specs.Carry.{applied};
 ghost use Rattle.rules.specs.Search.{guarded_at};
 ghost use Rattle.rules.specs.RowList.{Beside};
-ghost use Rattle.carry.specs.Rows.{keeps_guards as keepsOf, touched_top, touched_bottom};
+ghost use Rattle.carry.specs.Rows.{keeps_guards as keeps_of, touched_top, touched_bottom};
 
 use page::cell::is_guarded;
 use page::change::{fill_cells, fill_column, shift_edit_run, shift_rows};
@@ -86,7 +86,7 @@ fn write_some(page: &mut [u16], width: usize, on: bool, w: Write)
 
 // Whether a write leaves which cells are guarded as it is.
 fn keeps_guards(on: bool, w: Write) -> bool
-    ensures { result ≡ keepsOf on w }
+    ensures { result ≡ keeps_of on w }
 {
     match w {
         Write::Nothing => true,

@@ -15,9 +15,9 @@ of_several = 153
 unfoldable pub filling : ℕ → List ℕ → List (List ℕ)
 filling n [] = []
 filling n (b ∷ l) =
-    let goes_on_lem = onto b (filling (n + cost b) l) in
+    let carries_on = onto b (filling (n + cost b) l) in
     let begins = [] ∷ onto b (filling (cost b) l) in
-    pick (leb (n + cost b) of_several) goes_on_lem begins
+    pick (leb (n + cost b) of_several) carries_on begins
 
 -- no text is no part; up to 160 units are one; beyond that as many as filling makes
 unfoldable pub parts : List ℕ → ℕ

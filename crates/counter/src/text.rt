@@ -3,7 +3,7 @@ ghost use Rattle.std.specs.Prelude.{◌≡◌, ◌+◌, ◌<◌, ◌≤◌, leng
 ghost use Rattle.counter.specs.Alphabet.{in_alphabet, cost};
 ghost use Rattle.counter.specs.Count.{capped, text_count};
 ghost use Rattle.counter.specs.Walk.{no_tally, tallied, tally_parts, Within, cuts, remaining, refuses, advanced, walked, drops};
-ghost use Rattle.counter.specs.Walk.{stripped as strippedOf};
+ghost use Rattle.counter.specs.Walk.{stripped as stripped_of};
 
 use crate::Counted;
 use crate::pieces::is_mark;
@@ -158,7 +158,7 @@ fn is_dropped(cut: bool, b: u8) -> bool
 
 // The length of a text without its trailing spaces, and without trailing marks that are cut out.
 fn stripped(text: &[u8], cut: bool) -> usize
-    ensures { (result ≤ length text.now) × (take result text.now ≡ strippedOf cut text.now) }
+    ensures { (result ≤ length text.now) × (take result text.now ≡ stripped_of cut text.now) }
 {
     let mut n = text.len();
     while 0 < n {

@@ -6,7 +6,8 @@ ghost use Rattle.std.proofs.Math.Seq.{slice};
 ghost use Rattle.rules.specs.Cell.{sent};
 ghost use Rattle.rules.specs.Row.{Width, wide_cells};
 ghost use Rattle.rules.specs.Room.{over};
-ghost use Rattle.rules.specs.Fields.{page_width, is_field_start, next_start, no_field, next_field_rule, trimmed, text_of, told, fitting, field_text_rule};
+ghost use Rattle.rules.specs.Fields.{page_width, is_field_start, next_start, no_field, next_field_rule};
+ghost use Rattle.rules.specs.Fields.{trimmed, text_of, told, fitting, field_text_rule};
 ghost use Rattle.rules.specs.Fields.{row_text_rule, Read, position_rule, cell_rule};
 
 use page::cell::sent_code;

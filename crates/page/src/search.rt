@@ -2,7 +2,8 @@
 ghost use Rattle.std.specs.Prelude.{◌≡◌, true, false, ℕ, ◌+◌, ◌-◌, ◌*◌, ◌/◌, ◌<◌, ◌≤◌, eqb, length, get_or};
 ghost use Rattle.rules.specs.Cell.{either};
 ghost use Rattle.rules.specs.Row.{Width, row_end};
-ghost use Rattle.rules.specs.Search.{guarded_at, sought_at, first_in, last_in, around, around_back, settled, previous_open, next_field, previous_field};
+ghost use Rattle.rules.specs.Search.{guarded_at, sought_at, first_in, last_in, around};
+ghost use Rattle.rules.specs.Search.{around_back, settled, previous_open, next_field, previous_field};
 ghost use Rattle.rules.specs.Search.{next_tab, previous_tab, edit_end};
 
 use crate::cell::is_guarded;

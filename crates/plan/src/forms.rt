@@ -1,12 +1,12 @@
 // The forms of plans.
 ghost use Rattle.std.specs.Prelude.{◌≡◌};
-ghost use Rattle.rules.specs.Plan.{refusing as refusingOf, plain as plain_of, writing_two, writing as writingOf, settling as settlingOf};
-ghost use Rattle.rules.specs.Plan.{replying as replyingOf, changing as changingOf};
+ghost use Rattle.rules.specs.Plan.{refusing as refusing_of, plain as plain_of, writing_two, writing as writing_of, settling as settling_of};
+ghost use Rattle.rules.specs.Plan.{replying as replying_of, changing as changing_of};
 
 use rules::{Answer, Core, Land, Plan, Sending, SetupChange, Write};
 
 pub fn refusing(c: Core, a: Answer) -> Plan
-    ensures { result ≡ refusingOf c a }
+    ensures { result ≡ refusing_of c a }
 {
     Plan {
         answer: a,
@@ -40,19 +40,19 @@ pub fn writing_two(c: Core, w: Write, v: Write, l: Land) -> Plan
 }
 
 pub fn writing(c: Core, w: Write, l: Land) -> Plan
-    ensures { result ≡ writingOf c w l }
+    ensures { result ≡ writing_of c w l }
 {
     writing_two(c, w, Write::Nothing, l)
 }
 
 pub fn settling(c: Core, i: u16) -> Plan
-    ensures { result ≡ settlingOf c i }
+    ensures { result ≡ settling_of c i }
 {
     writing(c, Write::Nothing, Land::Settle(i))
 }
 
 pub fn replying(c: Core, x: Sending) -> Plan
-    ensures { result ≡ replyingOf c x }
+    ensures { result ≡ replying_of c x }
 {
     Plan {
         answer: Answer::Done,
@@ -66,7 +66,7 @@ pub fn replying(c: Core, x: Sending) -> Plan
 }
 
 pub fn changing(c: Core, x: SetupChange) -> Plan
-    ensures { result ≡ changingOf c x }
+    ensures { result ≡ changing_of c x }
 {
     Plan {
         answer: Answer::Done,

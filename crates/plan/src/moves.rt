@@ -1,10 +1,11 @@
 // Where the cursor may go.
 ghost use Rattle.std.specs.Prelude.{◌≡◌, ◌+◌, ◌-◌, ◌*◌, ◌<◌, ◌≤◌, length};
 ghost use Rattle.rules.specs.Row.{columns, wide_cells};
-ghost use Rattle.rules.specs.Cell.{among as amongOf};
+ghost use Rattle.rules.specs.Cell.{among as among_of};
 ghost use Rattle.rules.specs.Search.{guarded_at, previous_open};
 ghost use Rattle.rules.specs.State.{Inside, page_length, segment_top, segment_bottom, segment_start, cursor_of};
-ghost use Rattle.rules.specs.Plan.{scroll as scrollOf, scrolls as scrollsOf, next_cell, at_top, up_cell, reverse_plan, down_plan, tab_cell, back_tab_cell};
+ghost use Rattle.rules.specs.Plan.{scroll as scroll_of, scrolls as scrolls_of, next_cell, at_top, up_cell};
+ghost use Rattle.rules.specs.Plan.{reverse_plan, down_plan, tab_cell, back_tab_cell};
 ghost use Rattle.rules.specs.Plan.{address_plan, move_plan};
 
 use super::forms::{refusing, settling, writing};
@@ -20,14 +21,14 @@ use state::width::{ADDRESSED, cells, column_of};
 // One of the n numbers from `first` on.
 pub fn among(first: u16, n: u16, v: u16) -> bool
     requires { first + n < 65536 }
-    ensures { result ≡ amongOf first n v }
+    ensures { result ≡ among_of first n v }
 {
     if first <= v { v < first + n } else { false }
 }
 
 // The rows of the active segment move by one.
 pub fn scroll(x: Screen, down: bool) -> Write
-    ensures { result ≡ scrollOf x down }
+    ensures { result ≡ scroll_of x down }
 {
     Write::Rows {
         down: down,
@@ -37,7 +38,7 @@ pub fn scroll(x: Screen, down: bool) -> Write
 }
 
 pub fn scrolls(m: Modes) -> bool
-    ensures { result ≡ scrollsOf m }
+    ensures { result ≡ scrolls_of m }
 {
     if m.autoscroll { !m.protect } else { false }
 }

@@ -3,8 +3,8 @@ ghost use Rattle.std.specs.Prelude.{◌≡◌, true, length};
 ghost use Rattle.rules.specs.Search.{guarded_at};
 ghost use Rattle.rules.specs.State.{page_length};
 ghost use Rattle.rules.specs.Possible.{screen_ok};
-ghost use Rattle.rules.specs.Plan.{setting_plan, short as short_of, text as text_of, unless_wide, send_plan, clear_all as clearAllOf};
-ghost use Rattle.rules.specs.Plan.{protect_off as protectOffOf, excluded_plan};
+ghost use Rattle.rules.specs.Plan.{setting_plan, short as short_of, text as text_of, unless_wide, send_plan, clear_all as clear_all_of};
+ghost use Rattle.rules.specs.Plan.{protect_off as protect_off_of, excluded_plan};
 
 use super::forms::{changing, plain, refusing, replying, writing};
 use super::writes::guarded_at;
@@ -80,7 +80,7 @@ pub fn plan_send(page: &[u16], core: Core, s: Send) -> Plan
 
 // All cells of the segment become v, and the cursor goes home.
 fn clear_all(c: Core, v: u16) -> Plan
-    ensures { result ≡ clearAllOf c v }
+    ensures { result ≡ clear_all_of c v }
 {
     let x = c.screen;
     let start = segment_start(x);

@@ -1,7 +1,7 @@
 // Splits and activation.
 ghost use Rattle.std.specs.Prelude.{◌≡◌, ◌≤◌, true};
 ghost use Rattle.rules.specs.Possible.{screen_ok};
-ghost use Rattle.rules.specs.Plan.{unsplit_screen, split_screen, activate as activateOf, is_segment, window_plan};
+ghost use Rattle.rules.specs.Plan.{unsplit_screen, split_screen, activate as activate_of, is_segment, window_plan};
 
 use super::forms::{plain, refusing, settling};
 use super::moves::address_plan;
@@ -38,7 +38,7 @@ fn split_screen(wide: bool, s: u8) -> Screen
 }
 
 fn activate(core: Core, n: u8) -> Plan
-    ensures { result ≡ activateOf core n }
+    ensures { result ≡ activate_of core n }
 {
     let x = activated(core.screen, n);
     settling(with_screen(core, x), cursor_of(x))

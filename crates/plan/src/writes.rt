@@ -5,7 +5,7 @@ ghost use Rattle.rules.specs.Search.{guarded_at};
 ghost use Rattle.rules.specs.Cell.{normal, written, space};
 ghost use Rattle.rules.specs.Arguments.{attribute_of};
 ghost use Rattle.rules.specs.State.{Inside, page_length, cursor_of};
-ghost use Rattle.rules.specs.Plan.{unless_guarded, writing as writingOf, storing as storingOf, advancing as advancingOf, store_plan, takes_cell};
+ghost use Rattle.rules.specs.Plan.{unless_guarded, writing as writing_of, storing as storing_of, advancing as advancing_of, store_plan, takes_cell};
 ghost use Rattle.rules.specs.Plan.{attribute_plan, row_edit_plan, edit_plan, clear_plan};
 
 use super::forms::{plain, refusing, writing, writing_two};
@@ -30,7 +30,7 @@ pub fn guarded_at(page: &[u16], on: bool, at: u16) -> bool
 
 fn storing(insert: bool, at: u16, v: u16) -> Write
     requires { at < wide_cells }
-    ensures { result ≡ storingOf insert at v }
+    ensures { result ≡ storing_of insert at v }
 {
     if insert {
         return Write::Edit {
@@ -49,7 +49,7 @@ fn storing(insert: bool, at: u16, v: u16) -> Write
 // The write of a store, and where the cursor goes after it.
 fn advancing(core: Core, w: Write) -> Plan
     requires { Inside core.screen }
-    ensures { result ≡ advancingOf core w }
+    ensures { result ≡ advancing_of core w }
 {
     let x = core.screen;
     let m = core.modes;
@@ -113,7 +113,7 @@ pub fn plan_attribute(page: &[u16], core: Core, a: u8) -> Plan
 fn edit_cells(page: &[u16], core: Core, right: bool) -> Plan
     requires { (length page.now ≡ page_length core.screen) × Inside core.screen }
     ensures { result ≡ unless_guarded (guarded_at core.modes.protect page.now) core
-        (writingOf core (Write.Edit right (cursor_of core.screen) space) Land.Stay) }
+        (writing_of core (Write.Edit right (cursor_of core.screen) space) Land.Stay) }
 {
     let x = core.screen;
     let at = cursor_of(x);
@@ -159,7 +159,7 @@ pub fn plan_edit(page: &[u16], core: Core, e: Edit) -> Plan
 
 // The open cells from `from` up to `to` are cleared.
 fn clearing(core: Core, k: Contents, from: u16, to: u16, land: Land) -> Plan
-    ensures { result ≡ writingOf core (Write.Fill from to (written k false normal)) land }
+    ensures { result ≡ writing_of core (Write.Fill from to (written k false normal)) land }
 {
     let w = Write::Fill {
         from: from,

@@ -120,7 +120,8 @@ refused_with n rows columns lengths out = record { answer = n; spans = 0; bytes 
 
 -- n spans fit into three lists, and k bytes into a fourth
 abbrev pub fitting : ℕ → ℕ → List ℕ → List ℕ → List ℕ → List ℕ → Bool
-fitting n k rows columns lengths out = both (both (nat_le n (length rows)) (both (nat_le n (length columns)) (nat_le n (length lengths)))) (nat_le k (length out))
+fitting n k rows columns lengths out =
+    both (both (nat_le n (length rows)) (both (nat_le n (length columns)) (nat_le n (length lengths)))) (nat_le k (length out))
 
 -- "other pages answer 3, too little room 6, in the order 7, 3, 6, nothing written"; else spans and bytes stand at the front, "the rooms' rest
 -- untouched"

@@ -31,12 +31,14 @@ pub record Proposing : Type 0 where
   -- both judges accept what is proposed
   pub spans_accepted : (m : Personality) (a b : List ℕ) → served m a b ≡ true → Accepts addressed a b (spans_for a b)
   pub bytes_accepted : (m : Personality) (a b : List ℕ) → served m a b ≡ true → AcceptsBytes m false a b (paint_bytes a b)
-  pub longest : (m : Personality) (a b : List ℕ) → served m a b ≡ true → (i : ℕ) → i < length (spans_for a b) → Longest a b (span_at (spans_for a b) i)
+  pub longest : (m : Personality) (a b : List ℕ) → served m a b ≡ true → (i : ℕ) → i < length (spans_for a b)
+      → Longest a b (span_at (spans_for a b) i)
   -- "at most 960 spans and 7,772 bytes"
   pub spans : (m : Personality) (a b : List ℕ) → served m a b ≡ true → length (stretches a b) ≤ 960
   pub bytes : (m : Personality) (a b : List ℕ) → served m a b ≡ true → length (paint_bytes a b) ≤ 7772
   -- what answers 3 is exactly what the paper excepts: pages of one length that are a page's, and not served
-  pub excepted : (m : Personality) (a b rows columns lengths out : List ℕ) → (propose_rule m a b rows columns lengths out).answer ≡ 3 → Served m a b → ⊥
+  pub excepted : (m : Personality) (a b rows columns lengths out : List ℕ) → (propose_rule m a b rows columns lengths out).answer ≡ 3
+      → Served m a b → ⊥
   pub refused : (m : Personality) (a b rows columns lengths out : List ℕ) → length a ≡ length b → (length a ≡ narrow_cells) ⊎ (length a ≡ wide_cells)
       → (Served m a b → ⊥)
       → propose_rule m a b rows columns lengths out ≡ refused_with 3 rows columns lengths out

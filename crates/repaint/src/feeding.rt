@@ -5,7 +5,7 @@ ghost use Rattle.rules.specs.Row.{columns, wide_cells};
 ghost use Rattle.rules.specs.State.{number};
 ghost use Rattle.rules.specs.Room.{over};
 ghost use Rattle.repaint.specs.Spans.{verdict_number};
-ghost use Rattle.repaint.specs.Bytes.{power_on_at, paints as paintsRule, BytesVerdict};
+ghost use Rattle.repaint.specs.Bytes.{power_on_at, paints as paints_rule, BytesVerdict};
 
 use crate::{Verdict, same_cells, width_of};
 use rules::{Answer, Personality, Screen, State};
@@ -70,7 +70,7 @@ fn paints(
 ) -> bool
     requires { ((length before.now ≡ 24 * columns wide) × (length before.now ≡ length after.now))
         × ((length scratch.old ≡ length before.now) × (length before.now ≤ wide_cells)) }
-    ensures { result ≡ paintsRule personality wide before.now after.now bytes.now }
+    ensures { result ≡ paints_rule personality wide before.now after.now bytes.now }
 {
     copy_cells(before, scratch);
     let mut room: [u8; 0] = [0; 0];

@@ -60,7 +60,8 @@ abbrev pub plain : Core → Plan
 plain c = refusing c Answer.Done
 
 abbrev pub writing_two : Core → Write → Write → Land → Plan
-writing_two c w v l = record { answer = Answer.Done; first = w; second = v; change = SetupChange.Nothing; reply = Sending.Nothing; next = c; land = l }
+writing_two c w v l =
+    record { answer = Answer.Done; first = w; second = v; change = SetupChange.Nothing; reply = Sending.Nothing; next = c; land = l }
 
 abbrev pub writing : Core → Write → Land → Plan
 writing c w l = writing_two c w Write.Nothing l

@@ -90,7 +90,8 @@ pub record GivenCases : Type 0 where
   pub lists : map (λ g. g.rows) (session_play (Terminal Rebuild ∷ Save ∷ Restore 1 ∷ []) (start blank (replicate 48 7) wy50 zeros)).given
       ≡ replicate 3 (open_rows 24)
   -- a key programmed behind a save is as before once that is restored
-  pub key : replies_in (told_by (session_play (Save ∷ run (esc 0x7a ++ 0x40 ∷ 0x68 ∷ 0x69 ∷ 0x7f ∷ []) 0 ∷ press ∷ Restore 1 ∷ press ∷ []) on50).given)
+  pub key : replies_in (told_by (session_play
+      (Save ∷ run (esc 0x7a ++ 0x40 ∷ 0x68 ∷ 0x69 ∷ 0x7f ∷ []) 0 ∷ press ∷ Restore 1 ∷ press ∷ []) on50).given)
       ≡ 0x68 ∷ 0x69 ∷ 0x01 ∷ 0x40 ∷ 0x0d ∷ []
   -- starts from an impossible state, from a store of 8,713 bytes, with a list of 47 numbers
   pub impossible : told_by (session_play (Save ∷ Restore 1 ∷ []) (start blank [] (protect_at 1920) zeros)).given

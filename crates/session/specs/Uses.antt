@@ -53,7 +53,8 @@ pub record At (n : ℕ) (l : List ℕ) (s : State) (store : List ℕ) : Type 0 w
       → Same (session_play cs (start (one n) l s store)) (session_play cs (start (other n) l s store))
   pub uncompleted : (cs : List SessionCall) → (Completed cs (start (one n) l s store) → ⊥)
       → Same (session_play cs (start (one n) l s store)) (session_play cs (start (other n) l s store))
-  pub stream : (bytes : List ℕ) (acts : List Act) → session_completed (calls_of acts bytes (start (one n) l s store)) (start (one n) l s store) ≡ false
+  pub stream : (bytes : List ℕ) (acts : List Act)
+      → session_completed (calls_of acts bytes (start (one n) l s store)) (start (one n) l s store) ≡ false
       → let a = stream_play acts bytes (start (one n) l s store) in
       let b = stream_play acts bytes (start (other n) l s store) in
       Same a.session b.session × (a.left ≡ b.left)

@@ -1,7 +1,8 @@
 // Which states are possible.
 ghost use Rattle.std.specs.Prelude.{◌≡◌, ◌^◌, ◌≤◌, true, length, take, nat_le, nat_lt};
 ghost use Rattle.rules.specs.Cell.{both};
-ghost use Rattle.rules.specs.Possible.{unsplit_ok, split_ok, screen_ok, attributes_ok, features_ok, pending_ok, remembered_ok, tabs_ok, core_ok, setup_ok};
+ghost use Rattle.rules.specs.Possible.{unsplit_ok, split_ok, screen_ok, attributes_ok, features_ok};
+ghost use Rattle.rules.specs.Possible.{pending_ok, remembered_ok, tabs_ok, core_ok, setup_ok};
 ghost use Rattle.rules.specs.Possible.{possible};
 ghost use Rattle.rules.specs.Arguments.{is_attribute, feature_place};
 ghost use Rattle.rules.specs.Slot.{slot_most, slot_low, all_text, text_ok, texts_ok};

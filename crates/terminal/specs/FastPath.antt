@@ -111,7 +111,8 @@ pub data Edits (z : Ground) (p : List ℕ) (at b : ℕ) : Write → ℕ → Type
 
 -- the n bytes from i on write w, and leave the cursor at k
 pub data Acts (z : Ground) (l : List ℕ) (i : ℕ) (p : List ℕ) (at : ℕ) : ℕ → Write → ℕ → Type 0 where
-  stores : {v : ℕ} → z.insert ≡ false → Stored z p at (slice_index l i) → v ≡ z.base + slice_index l i → Acts z l i p at 1 (Write.Fill at (at + 1) v) (at + 1)
+  stores : {v : ℕ} → z.insert ≡ false → Stored z p at (slice_index l i) → v ≡ z.base + slice_index l i
+      → Acts z l i p at 1 (Write.Fill at (at + 1) v) (at + 1)
   inserts : {v : ℕ} → z.insert ≡ true → Stored z p at (slice_index l i) → v ≡ z.base + slice_index l i → guarded z.protect v ≡ false
       → Acts z l i p at 1 (Write.Edit true at v) (at + 1)
   places : {k : ℕ} → Addressed z l i k → OpenAt z p k → Acts z l i p at 4 Write.Nothing k

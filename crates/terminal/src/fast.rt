@@ -9,7 +9,7 @@ ghost use Rattle.std.specs.Prelude.{◌≡◌, ◌<◌, ◌≤◌, true, length,
 ghost use Rattle.rules.specs.Cell.{pick};
 ghost use Rattle.rules.specs.Row.{wide_cells};
 ghost use Rattle.rules.specs.Possible.{screen_ok};
-ghost use Rattle.rules.specs.Plan.{scrolls as scrollsOf};
+ghost use Rattle.rules.specs.Plan.{scrolls as scrolls_of};
 ghost use Rattle.rules.specs.State.{page_length, cursor_of};
 ghost use Rattle.terminal.specs.FastPath.{Fits, Passes, FastPath, ground_of, core_at};
 
@@ -203,7 +203,7 @@ fn still(core: Core, from: usize) -> Passed
 }
 
 fn scrolls(m: Modes) -> bool
-    ensures { result ≡ scrollsOf m }
+    ensures { result ≡ scrolls_of m }
 {
     if m.autoscroll { !m.protect } else { false }
 }

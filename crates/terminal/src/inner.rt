@@ -1,7 +1,7 @@
 // One byte on a good page and state. The gathered bytes and the set-up are not handed through: the inner step sees the tab stops and gives the
 // change.
 ghost use Rattle.std.specs.Prelude.{◌≡◌, ℕ, ◌<◌, true, List, [], length};
-ghost use Rattle.rules.specs.State.{number, width_of, page_length, idle as idleOf};
+ghost use Rattle.rules.specs.State.{number, width_of, page_length, idle as idle_of};
 ghost use Rattle.rules.specs.RowList.{Beside};
 ghost use Rattle.rules.specs.Search.{guarded_at};
 ghost use Rattle.rules.specs.Possible.{screen_ok, pending_ok};
@@ -42,10 +42,10 @@ fn obey(
         × ((screen_ok core.screen ≡ true)
         × ((core.attribute < 32) × Beside (width_of core.screen) (guarded_at core.modes.protect page.old) rows.old)) }
     ensures { Carried
-        (carried page.old core (plan_rule (guarded_at core.modes.protect page.old) tabs (idleOf core) d)
+        (carried page.old core (plan_rule (guarded_at core.modes.protect page.old) tabs (idle_of core) d)
         (length room.old)) result page.new room.old room.new
         × BesideAfter (width_of core.screen)
-        (carried page.old core (plan_rule (guarded_at core.modes.protect page.old) tabs (idleOf core) d)
+        (carried page.old core (plan_rule (guarded_at core.modes.protect page.old) tabs (idle_of core) d)
         (length room.old)) rows.new }
 {
     let next = idle(core);

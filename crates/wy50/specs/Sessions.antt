@@ -49,7 +49,8 @@ raw_session_rule x (Restore n) =
 pub data RawSessionCompleted : List SessionCall → RawKept → Type 0 where
   first : {c : RowCall} {cs : List SessionCall} {x : RawKept} → RawCompleted (bare_call x.terminal c) x.terminal.page x.terminal.state
       → RawSessionCompleted (Terminal c ∷ cs) x
-  later : {c : SessionCall} {cs : List SessionCall} {x : RawKept} → RawSessionCompleted cs (raw_session_rule x c).kept → RawSessionCompleted (c ∷ cs) x
+  later : {c : SessionCall} {cs : List SessionCall} {x : RawKept} → RawSessionCompleted cs (raw_session_rule x c).kept
+      → RawSessionCompleted (c ∷ cs) x
 
 -- a call that was made on x: what C was told, and what is left, are as it promises
 pub data RawSessionMade (x : RawKept) : SessionCall → RawSessionCalled → Type 0 where

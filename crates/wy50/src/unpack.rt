@@ -1,6 +1,7 @@
 // The state that the numbers name, and whether they name one.
 ghost use Rattle.std.specs.Prelude.{◌≡◌, true, map};
-ghost use Rattle.wy50.specs.Raw.{all_below, is_on, is_personality, personality_at, pending_of, same_sequence, is_sequence, small, place_at, sending_of};
+ghost use Rattle.wy50.specs.Raw.{all_below, is_on, is_personality, personality_at, pending_of};
+ghost use Rattle.wy50.specs.Raw.{same_sequence, is_sequence, small, place_at, sending_of};
 ghost use Rattle.wy50.specs.Raw.{same_sending, is_sending, are_flags, modes_of, key_of, message_of, named, unpacked};
 
 use crate::pack::{raw_sending, sequence_of};

@@ -139,12 +139,12 @@ all_hold r (c ∷ cs) = both (holds r c) (all_hold r cs)
 
 -- calls from the power-on of a WY-50, or from another page and state, and what is claimed of them
 pub data Case : Type 0 where
-  from_power_on_lem : List Call → List Claim → Case
+  from_start : List Call → List Claim → Case
   from_page : List ℕ → State → List Call → List Claim → Case
 
 unfoldable pub cases_hold : List Case → Bool
 cases_hold [] = true
-cases_hold (from_power_on_lem calls claims ∷ cs) = both (all_hold (play calls blank wy50) claims) (cases_hold cs)
+cases_hold (from_start calls claims ∷ cs) = both (all_hold (play calls blank wy50) claims) (cases_hold cs)
 cases_hold (from_page p s calls claims ∷ cs) = both (all_hold (play calls p s) claims) (cases_hold cs)
 
 -- host bytes, each with a room of 1,944
@@ -179,40 +179,40 @@ whole_page = rows_of_spaces 23
 unfoldable pub table : List Case
 table =
     -- 1: A B ESC ?
-    from_power_on_lem (host (0x41 ∷ 0x42 ∷ 0x1b ∷ 0x3f ∷ [])) (Replies (0x20 ∷ 0x22 ∷ 0x0d ∷ []) ∷ Answers (replicate 4 0) ∷ [])
+    from_start (host (0x41 ∷ 0x42 ∷ 0x1b ∷ 0x3f ∷ [])) (Replies (0x20 ∷ 0x22 ∷ 0x0d ∷ []) ∷ Answers (replicate 4 0) ∷ [])
     -- 2: ESC = 37h 6Fh X
-    ∷ from_power_on_lem (host (0x1b ∷ 0x3d ∷ 0x37 ∷ 0x6f ∷ 0x58 ∷ [])) (Cell 1839 0x58 ∷ Cursor 1840 ∷ Answers (replicate 5 0) ∷ [])
+    ∷ from_start (host (0x1b ∷ 0x3d ∷ 0x37 ∷ 0x6f ∷ 0x58 ∷ [])) (Cell 1839 0x58 ∷ Cursor 1840 ∷ Answers (replicate 5 0) ∷ [])
     -- 3: ESC = 38h 20h; ESC = 20h 70h
-    ∷ from_power_on_lem (host (0x1b ∷ 0x3d ∷ 0x38 ∷ 0x20 ∷ [])) (Cursor 0 ∷ Answers (0 ∷ 0 ∷ 0 ∷ 3 ∷ []) ∷ [])
-    ∷ from_power_on_lem (host (0x1b ∷ 0x3d ∷ 0x20 ∷ 0x70 ∷ [])) (Cursor 0 ∷ Answers (0 ∷ 0 ∷ 0 ∷ 3 ∷ []) ∷ [])
+    ∷ from_start (host (0x1b ∷ 0x3d ∷ 0x38 ∷ 0x20 ∷ [])) (Cursor 0 ∷ Answers (0 ∷ 0 ∷ 0 ∷ 3 ∷ []) ∷ [])
+    ∷ from_start (host (0x1b ∷ 0x3d ∷ 0x20 ∷ 0x70 ∷ [])) (Cursor 0 ∷ Answers (0 ∷ 0 ∷ 0 ∷ 3 ∷ []) ∷ [])
     -- 4: ESC a 24R80C, ESC b
-    ∷ from_power_on_lem (host (0x1b ∷ 0x61 ∷ 0x32 ∷ 0x34 ∷ 0x52 ∷ 0x38 ∷ 0x30 ∷ 0x43 ∷ 0x1b ∷ 0x62 ∷ []))
+    ∷ from_start (host (0x1b ∷ 0x61 ∷ 0x32 ∷ 0x34 ∷ 0x52 ∷ 0x38 ∷ 0x30 ∷ 0x43 ∷ 0x1b ∷ 0x62 ∷ []))
     (Cursor 1919 ∷ Replies (0x32 ∷ 0x34 ∷ 0x52 ∷ 0x30 ∷ 0x38 ∷ 0x30 ∷ 0x43 ∷ []) ∷ Answers (replicate 10 0) ∷ [])
     -- 5, amended by request A2 of document 02: No protected; then CR; then 08h; then x, ESC 4
-    ∷ from_power_on_lem (host (label 0x4e 0x6f)) (Cell 0 206 ∷ Cell 1 239 ∷ Answers (replicate 8 0) ∷ [])
-    ∷ from_power_on_lem (host (label 0x4e 0x6f ++ 0x0d ∷ [])) (Cursor 2 ∷ Answers (replicate 9 0) ∷ [])
-    ∷ from_power_on_lem (host (label 0x4e 0x6f ++ 0x0d ∷ 0x08 ∷ [])) (Cursor 2 ∷ Answers (replicate 10 0) ∷ [])
-    ∷ from_power_on_lem (host (label 0x4e 0x6f ++ 0x0d ∷ 0x08 ∷ 0x78 ∷ 0x1b ∷ 0x34 ∷ []))
+    ∷ from_start (host (label 0x4e 0x6f)) (Cell 0 206 ∷ Cell 1 239 ∷ Answers (replicate 8 0) ∷ [])
+    ∷ from_start (host (label 0x4e 0x6f ++ 0x0d ∷ [])) (Cursor 2 ∷ Answers (replicate 9 0) ∷ [])
+    ∷ from_start (host (label 0x4e 0x6f ++ 0x0d ∷ 0x08 ∷ [])) (Cursor 2 ∷ Answers (replicate 10 0) ∷ [])
+    ∷ from_start (host (label 0x4e 0x6f ++ 0x0d ∷ 0x08 ∷ 0x78 ∷ 0x1b ∷ 0x34 ∷ []))
     (Cell 2 0x78 ∷ Replies (0x1c ∷ 0x78 ∷ 0x20 ∷ 0x0d ∷ []) ∷ Answers (replicate 13 0) ∷ [])
     -- 6: the same with Hi
-    ∷ from_power_on_lem (host (label 0x48 0x69 ++ 0x0d ∷ 0x08 ∷ 0x78 ∷ 0x1b ∷ 0x34 ∷ []))
+    ∷ from_start (host (label 0x48 0x69 ++ 0x0d ∷ 0x08 ∷ 0x78 ∷ 0x1b ∷ 0x34 ∷ []))
     (Replies (0x1c ∷ 0x78 ∷ 0x20 ∷ 0x0d ∷ []) ∷ Answers (replicate 13 0) ∷ [])
     -- 7: ESC , ESC & A
-    ∷ from_power_on_lem (host (0x1b ∷ 0x2c ∷ 0x1b ∷ 0x26 ∷ 0x41 ∷ [])) (Cell 0 160 ∷ Cursor 0 ∷ Answers (0 ∷ 0 ∷ 0 ∷ 0 ∷ 4 ∷ []) ∷ [])
+    ∷ from_start (host (0x1b ∷ 0x2c ∷ 0x1b ∷ 0x26 ∷ 0x41 ∷ [])) (Cell 0 160 ∷ Cursor 0 ∷ Answers (0 ∷ 0 ∷ 0 ∷ 0 ∷ 4 ∷ []) ∷ [])
     -- 8: ESC z 40h hi DEL; key 40h; key 41h
-    ∷ from_power_on_lem (host (0x1b ∷ 0x7a ∷ 0x40 ∷ 0x68 ∷ 0x69 ∷ 0x7f ∷ []) ++ Press 0x40 8 ∷ [])
+    ∷ from_start (host (0x1b ∷ 0x7a ∷ 0x40 ∷ 0x68 ∷ 0x69 ∷ 0x7f ∷ []) ++ Press 0x40 8 ∷ [])
     (Replies (0x68 ∷ 0x69 ∷ []) ∷ Answers (replicate 7 0) ∷ [])
-    ∷ from_power_on_lem (host (0x1b ∷ 0x7a ∷ 0x40 ∷ 0x68 ∷ 0x69 ∷ 0x7f ∷ []) ++ Press 0x41 8 ∷ [])
+    ∷ from_start (host (0x1b ∷ 0x7a ∷ 0x40 ∷ 0x68 ∷ 0x69 ∷ 0x7f ∷ []) ++ Press 0x41 8 ∷ [])
     (Replies (0x01 ∷ 0x41 ∷ 0x0d ∷ []) ∷ Answers (replicate 7 0) ∷ [])
     -- 9: ESC E9h = 20h 20h
-    ∷ from_power_on_lem (host (0x1b ∷ 0xe9 ∷ 0x3d ∷ 0x20 ∷ 0x20 ∷ [])) (Cursor 0 ∷ Answers (0 ∷ 1 ∷ 0 ∷ 0 ∷ 0 ∷ []) ∷ [])
+    ∷ from_start (host (0x1b ∷ 0xe9 ∷ 0x3d ∷ 0x20 ∷ 0x20 ∷ [])) (Cursor 0 ∷ Answers (0 ∷ 1 ∷ 0 ∷ 0 ∷ 0 ∷ []) ∷ [])
     -- 10: ESC x 1 2Ch, ESC }, ESC /; ESC = 2Ch 20h
-    ∷ from_power_on_lem (host (0x1b ∷ 0x78 ∷ 0x31 ∷ 0x2c ∷ 0x1b ∷ 0x7d ∷ 0x1b ∷ 0x2f ∷ 0x1b ∷ 0x3d ∷ 0x2c ∷ 0x20 ∷ []))
+    ∷ from_start (host (0x1b ∷ 0x78 ∷ 0x31 ∷ 0x2c ∷ 0x1b ∷ 0x7d ∷ 0x1b ∷ 0x2f ∷ 0x1b ∷ 0x3d ∷ 0x2c ∷ 0x20 ∷ []))
     (Replies (0x31 ∷ 0x20 ∷ 0x20 ∷ 0x0d ∷ []) ∷ Answers (replicate 11 0 ++ 3 ∷ []) ∷ [])
     -- 12, amended by request A9: ESC 7 at the last cell of a blank page. 1,944 bytes; in a room of 1,943 all but the CR, and then that
-    ∷ from_power_on_lem (host (0x1b ∷ 0x3d ∷ 0x37 ∷ 0x6f ∷ 0x1b ∷ 0x37 ∷ [])) (Replies (whole_page ++ 0x0d ∷ []) ∷ Answers (replicate 6 0) ∷ [])
-    ∷ from_power_on_lem (Run (0x1b ∷ 0x3d ∷ 0x37 ∷ 0x6f ∷ 0x1b ∷ 0x37 ∷ []) 1943 ∷ []) (Replies whole_page ∷ Answers (0 ∷ []) ∷ [])
-    ∷ from_power_on_lem (Run (0x1b ∷ 0x3d ∷ 0x37 ∷ 0x6f ∷ 0x1b ∷ 0x37 ∷ []) 1943 ∷ Run [] 1 ∷ [])
+    ∷ from_start (host (0x1b ∷ 0x3d ∷ 0x37 ∷ 0x6f ∷ 0x1b ∷ 0x37 ∷ [])) (Replies (whole_page ++ 0x0d ∷ []) ∷ Answers (replicate 6 0) ∷ [])
+    ∷ from_start (Run (0x1b ∷ 0x3d ∷ 0x37 ∷ 0x6f ∷ 0x1b ∷ 0x37 ∷ []) 1943 ∷ []) (Replies whole_page ∷ Answers (0 ∷ []) ∷ [])
+    ∷ from_start (Run (0x1b ∷ 0x3d ∷ 0x37 ∷ 0x6f ∷ 0x1b ∷ 0x37 ∷ []) 1943 ∷ Run [] 1 ∷ [])
     (Replies (whole_page ++ 0x0d ∷ []) ∷ Answers (0 ∷ 0 ∷ []) ∷ [])
     ∷ []
 

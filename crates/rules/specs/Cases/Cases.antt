@@ -5,7 +5,7 @@ use Rattle.rules.specs.Room.{over}
 use Rattle.rules.specs.Calls.{power_on_rule, play}
 use Rattle.rules.specs.RowList.{row_list}
 use Rattle.rules.specs.Theorems.Completed.{SixCompleted}
-use Rattle.rules.specs.Cases.Bench.{wy50, wy60, Cursor, from_power_on_lem, from_page, cases_hold, host, none_hold, wrong_claims}
+use Rattle.rules.specs.Cases.Bench.{wy50, wy60, Cursor, from_start, from_page, cases_hold, host, none_hold, wrong_claims}
 use Rattle.rules.specs.Cases.MovingCases.{moving_cases}
 use Rattle.rules.specs.Cases.WritingCases.{writing_cases}
 use Rattle.rules.specs.Cases.ReplyCases.{reply_cases}
@@ -22,8 +22,8 @@ use Rattle.rules.specs.Cases.PossibleCases.{possible_states, impossible_states, 
 pub record CaseList : Type 0 where
   -- every claim is read, and so are those behind the first claim and the first case
   pub read : none_hold (play (host (0x41 ∷ 0x05 ∷ [])) (replicate 1920 0) wy50) wrong_claims ≡ true
-  pub second_claim : cases_hold (from_power_on_lem [] (Cursor 0 ∷ Cursor 1 ∷ []) ∷ []) ≡ false
-  pub second_case : cases_hold (from_power_on_lem [] [] ∷ from_page (replicate 1920 0) wy50 [] (Cursor 1 ∷ []) ∷ []) ≡ false
+  pub second_claim : cases_hold (from_start [] (Cursor 0 ∷ Cursor 1 ∷ []) ∷ []) ≡ false
+  pub second_case : cases_hold (from_start [] [] ∷ from_page (replicate 1920 0) wy50 [] (Cursor 1 ∷ []) ∷ []) ≡ false
   pub moving : cases_hold moving_cases ≡ true
   pub writing : cases_hold writing_cases ≡ true
   pub replying : cases_hold reply_cases ≡ true

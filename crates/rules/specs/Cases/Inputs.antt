@@ -5,7 +5,7 @@ use Rattle.rules.specs.State.{with_cursor, with_screen, with_modes, with_protect
 use Rattle.rules.specs.Possible.{blank}
 use Rattle.rules.specs.Step.{outcome_of, inner_rule}
 use Rattle.rules.specs.Calls.{Played, of_step, after}
-use Rattle.rules.specs.Cases.Bench.{wy50, Claim, Answers, Case, from_power_on_lem, from_page, host}
+use Rattle.rules.specs.Cases.Bench.{wy50, Claim, Answers, Case, from_start, from_page, host}
 
 -- ESC and a byte; ESC = with a row and a column counted from 0
 unfoldable pub esc : ℕ → List ℕ
@@ -93,10 +93,10 @@ typed (b ∷ bytes) p s =
 
 -- every byte answers 0; every byte but the last, which answers n
 unfoldable pub obeys : List ℕ → List Claim → Case
-obeys bytes claims = from_power_on_lem (host bytes) (Answers (replicate (length bytes) 0) ∷ claims)
+obeys bytes claims = from_start (host bytes) (Answers (replicate (length bytes) 0) ∷ claims)
 
 unfoldable pub refuses : ℕ → List ℕ → List Claim → Case
-refuses n bytes claims = from_power_on_lem (host bytes) (Answers (replicate (length bytes - 1) 0 ++ n ∷ []) ∷ claims)
+refuses n bytes claims = from_start (host bytes) (Answers (replicate (length bytes - 1) 0 ++ n ∷ []) ∷ claims)
 
 -- the same from a page of which the first cells are given
 unfoldable pub obeys_from : List ℕ → State → List ℕ → List Claim → Case

@@ -56,8 +56,10 @@ moving_cases =
     ∷ obeys_from three_letters (cursor_at 1) (esc 0x4e ++ esc 0x6a) (Cell 0 32 ∷ Cell 80 0x41 ∷ Cursor 1 ∷ [])
     ∷ obeys_from [] (cursor_at 165) (esc 0x6a) (Cursor 85 ∷ [])
     ∷ obeys_from three_letters (cursor_at 80) (esc 0x6a) (Cell 0 0x41 ∷ Cursor 0 ∷ [])
-    ∷ obeys_from [] (cursor_at 880) (0x59 ∷ [] ++ go_to 12 0 ++ 0x58 ∷ [] ++ halves ++ esc 0x6a) (Cell 0 32 ∷ Cell 880 0 ∷ Cell 960 0x58 ∷ Cursor 0 ∷ [])
-    ∷ obeys_from letters_below (lower_at 965) (esc 0x6a) (Cell 0 0x58 ∷ Cell 960 32 ∷ Cell 1039 32 ∷ Cell 1040 0x41 ∷ Cell 1120 0x42 ∷ Cursor 965 ∷ [])
+    ∷ obeys_from [] (cursor_at 880) (0x59 ∷ [] ++ go_to 12 0 ++ 0x58 ∷ [] ++ halves ++ esc 0x6a)
+    (Cell 0 32 ∷ Cell 880 0 ∷ Cell 960 0x58 ∷ Cursor 0 ∷ [])
+    ∷ obeys_from letters_below (lower_at 965) (esc 0x6a)
+    (Cell 0 0x58 ∷ Cell 960 32 ∷ Cell 1039 32 ∷ Cell 1040 0x41 ∷ Cell 1120 0x42 ∷ Cursor 965 ∷ [])
     -- 0Ah: down in column; at the bottom scroll up if autoscroll is on and protect off, else wrap to the top
     ∷ obeys_from [] (cursor_at 165) (0x0a ∷ []) (Cursor 245 ∷ [])
     ∷ obeys (0x41 ∷ 0x1f ∷ 0x42 ∷ [] ++ go_to 23 5 ++ 0x0a ∷ []) (Cell 0 0x42 ∷ Cell 80 0 ∷ Cell 1840 32 ∷ Cell 1919 32 ∷ Cursor 1845 ∷ [])

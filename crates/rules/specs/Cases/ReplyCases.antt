@@ -2,7 +2,7 @@
 use Rattle.std.specs.Prelude.{List, [], ◌∷◌, ◌++◌, replicate}
 use Rattle.rules.specs.Calls.{Step, Press}
 use Rattle.rules.specs.Cases.Bench.{wy50, Cell, Cursor, Replies, Answers, Segments, InModes, TabStops, FieldAttributes, Features, Bells, Case}
-use Rattle.rules.specs.Cases.Bench.{from_power_on_lem, from_page}
+use Rattle.rules.specs.Cases.Bench.{from_start, from_page}
 use Rattle.rules.specs.Cases.Trials.{Trial, one}
 use Rattle.rules.specs.Cases.Inputs.{esc, go_to, labelled, letters_below, page_of, cursor_at, protect_at, lower_at, belled, obeys, obeys_from}
 use Rattle.rules.specs.Cases.Inputs.{refuses_from}
@@ -10,11 +10,11 @@ use Rattle.rules.specs.Cases.Inputs.{refuses_from}
 unfoldable pub reply_cases : List Case
 reply_cases =
     -- power-on: every member; no key is programmed, nothing is pending
-    from_power_on_lem []
+    from_start []
     (Cell 0 0 ∷ Cell 1919 0 ∷ Segments 0 0 0 0 ∷ InModes (0 ∷ 0 ∷ 0 ∷ 1 ∷ 0 ∷ 0 ∷ []) ∷ TabStops []
     ∷ FieldAttributes (0x30 ∷ 0x30 ∷ 0x30 ∷ 0x30 ∷ []) ∷ Features (0x31 ∷ 0x35 ∷ 0x37 ∷ 0x39 ∷ 0x40 ∷ []) ∷ Bells 0 ∷ Answers [] ∷ Replies [] ∷ [])
-    ∷ from_power_on_lem (Press 0x4f 3 ∷ Press 0x60 3 ∷ []) (Answers (0 ∷ 0 ∷ []) ∷ Replies (0x01 ∷ 0x4f ∷ 0x0d ∷ 0x01 ∷ 0x60 ∷ 0x0d ∷ []) ∷ [])
-    ∷ from_power_on_lem (Step 0x3f 1944 ∷ []) (Cell 0 0x3f ∷ [])
+    ∷ from_start (Press 0x4f 3 ∷ Press 0x60 3 ∷ []) (Answers (0 ∷ 0 ∷ []) ∷ Replies (0x01 ∷ 0x4f ∷ 0x0d ∷ 0x01 ∷ 0x60 ∷ 0x0d ∷ []) ∷ [])
+    ∷ from_start (Step 0x3f 1944 ∷ []) (Cell 0 0x3f ∷ [])
     -- what a command does not name stays: ESC , leaves write-protect, CR insert mode
     ∷ obeys (esc 0x29 ++ esc 0x2c) (InModes (0 ∷ 1 ∷ 0 ∷ 1 ∷ 0 ∷ 0 ∷ []) ∷ [])
     ∷ obeys (esc 0x71 ++ 0x0d ∷ []) (InModes (0 ∷ 0 ∷ 1 ∷ 1 ∷ 0 ∷ 0 ∷ []) ∷ [])

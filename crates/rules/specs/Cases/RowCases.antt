@@ -68,7 +68,8 @@ row_cases =
     -- a refused byte leaves it, and it agrees
     ∷ from_power_on (ListStep 0xe9 0 ∷ ListStep 0x1b 0 ∷ ListStep 0x35 0 ∷ []) (1 ∷ 0 ∷ 6 ∷ []) (open_rows 24)
     -- one that disagrees: 7 to the step and to the run, over no bytes too; the list is left, and a call without it is made all the same
-    ∷ from blank (79 ∷ 1 ∷ open_rows 23) wy50 (ListStep 0x41 0 ∷ ListRun [] 0 ∷ Bare (Run (0x41 ∷ []) 0) ∷ []) (7 ∷ 7 ∷ 0 ∷ []) (79 ∷ 1 ∷ open_rows 23)
+    ∷ from blank (79 ∷ 1 ∷ open_rows 23) wy50 (ListStep 0x41 0 ∷ ListRun [] 0 ∷ Bare (Run (0x41 ∷ []) 0) ∷ []) (7 ∷ 7 ∷ 0 ∷ [])
+    (79 ∷ 1 ∷ open_rows 23)
     ∷ from blank (80 ∷ 2 ∷ open_rows 23) wy50 (ListStep 0x41 0 ∷ []) (7 ∷ []) (80 ∷ 2 ∷ open_rows 23)
     ∷ from blank (open_rows 23) wy50 (ListStep 0x41 0 ∷ []) (7 ∷ []) (open_rows 23)
     ∷ from blank [] wy50 (ListStep 0x41 0 ∷ ListRun [] 0 ∷ []) (7 ∷ 7 ∷ []) []

@@ -12,7 +12,7 @@ use Rattle.rules.specs.Cases.NextCases.{next_refuses}
 use Rattle.rules.specs.RowCalls.{ListStep, ListRun, Rebuild}
 use Rattle.rules.specs.Cases.RowCases.{RowCase, from, rows_with, open_rows, row_cases_hold}
 use Rattle.rules.specs.Cases.Bench.{wy50, Claim, Cell, Cursor, Replies, Answers, Counts, Rests, Segments, TabStops, Features, Message, Stands}
-use Rattle.rules.specs.Cases.Bench.{Columns, Wishes, Case, from_power_on_lem, from_page, cases_hold, host}
+use Rattle.rules.specs.Cases.Bench.{Columns, Wishes, Case, from_start, from_page, cases_hold, host}
 use Rattle.rules.specs.Cases.Inputs.{esc, go_to, placed_on, obeys}
 
 -- a wide page of which the first cells are given and all others 0
@@ -53,7 +53,7 @@ feature f = esc 0x60 ++ f ∷ []
 unfoldable pub wide_cases : List Case
 wide_cases =
     -- at power_on_lem the page and the wish are narrow
-    from_power_on_lem [] (Columns 80 ∷ Wishes false ∷ [])
+    from_start [] (Columns 80 ∷ Wishes false ∷ [])
     -- ESC ` 3Bh and 3Ah set the wish and no feature, in either width; no feature sets it
     ∷ obeys (feature 0x3b) (Wishes true ∷ Columns 80 ∷ Features (0x31 ∷ 0x35 ∷ 0x37 ∷ 0x39 ∷ 0x40 ∷ []) ∷ [])
     ∷ obeys (feature 0x3a) (Wishes false ∷ Columns 80 ∷ [])
@@ -95,7 +95,7 @@ wide_cases =
     ∷ from_page (wide_page []) (placed_on true 1 13 0 1584) (Run (esc 0x2f) 9 ∷ []) (Counts (2 ∷ 0 ∷ 1 ∷ []) ∷ Segments 1 13 0 1584 ∷ [])
     ∷ from_page (wide_page []) (wide_at 0) (Step 0x1b 0 ∷ Step 0x3f 0 ∷ Step 0x1b 0 ∷ Step 0x2f 0 ∷ Step 0x1b 0 ∷ Step 0x62 0 ∷ [])
     (Answers (0 ∷ 3 ∷ 0 ∷ 3 ∷ 0 ∷ 6 ∷ []) ∷ [])
-    ∷ from_power_on_lem (Step 0x1b 0 ∷ Step 0x3f 0 ∷ Step 0x3f 3 ∷ Step 0x1b 0 ∷ Step 0x2f 4 ∷ [])
+    ∷ from_start (Step 0x1b 0 ∷ Step 0x3f 0 ∷ Step 0x3f 3 ∷ Step 0x1b 0 ∷ Step 0x2f 4 ∷ [])
     (Answers (0 ∷ 6 ∷ 0 ∷ 0 ∷ 0 ∷ []) ∷ Replies (0x20 ∷ 0x20 ∷ 0x0d ∷ 0x30 ∷ 0x20 ∷ 0x20 ∷ 0x0d ∷ []) ∷ [])
     ∷ from_page (wide_page []) (wide_at 131) (Run (esc 0x62) 6 ∷ Run [] 1 ∷ [])
     (Replies (0x30 ∷ 0x31 ∷ 0x52 ∷ 0x31 ∷ 0x33 ∷ 0x32 ∷ 0x43 ∷ []) ∷ Stands Sending.Nothing ∷ [])

@@ -1,6 +1,6 @@
 // Where the fast path moves the cursor: ESC =, the moves of one byte, and the scrolls of 0Ah and 1Fh.
 ghost use Rattle.std.specs.Prelude.{◌≡◌, ℕ, ◌+◌, ◌-◌, ◌*◌, ◌<◌, ◌≤◌, true, false, List, length, slice_index};
-ghost use Rattle.rules.specs.Cell.{both, among as amongOf};
+ghost use Rattle.rules.specs.Cell.{both, among as among_of};
 ghost use Rattle.rules.specs.Row.{height, columns as columns_of, addressed, row_start, wide_cells};
 ghost use Rattle.terminal.specs.FastPath.{Fits, OpenAt, Addressed, Outside, Goes, Rolled};
 
@@ -53,7 +53,7 @@ pub(crate) fn address(page: &[u16], ground: Ground, input: &[u8], i: usize) -> u
 // Whether a row and a column code are of the segment.
 fn is_addressed(ground: Ground, row: u8, column: u8) -> bool
     requires { (ground.top ≤ ground.bottom) × (ground.bottom ≤ height) }
-    ensures { result ≡ both (amongOf 0x20 (ground.bottom - ground.top) row) (amongOf 0x20 addressed column) }
+    ensures { result ≡ both (among_of 0x20 (ground.bottom - ground.top) row) (among_of 0x20 addressed column) }
 {
     and(
         among(0x20, (ground.bottom - ground.top) as u8, row),
