@@ -1,14 +1,10 @@
 -- Laws of the message and the labels as they are shown.
---     part_count                              the first bytes of a text
 --     shown_on, shown_off                     a label of the shifted line, of the unshifted one
 -- Assumes nothing.
-use Rattle.std.proofs.Common.{◌≡◌, ℕ, ◌+◌, ◌-◌, ◌<◌, ◌≤◌, Bool, true, false, List, [], length, get_or, take, sym, ap, ◌∙◌, arith, length-take-le, le-ltb, lt-ltb}
+use Rattle.std.proofs.Common.{◌≡◌, ℕ, ◌+◌, ◌-◌, ◌<◌, Bool, true, false, List, [], get_or, sym, ap, ◌∙◌, arith, le-ltb, lt-ltb}
 use Rattle.rules.specs.Cell.{pick}
 use Rattle.rules.specs.State.{label_place}
-use Rattle.rules.specs.declared.ShortText.{ShortText}
-
-pub part_count : (l : List ℕ) {n m : ℕ} → n ≤ m → length l ≡ m → n ≡ length (take n l)
-part_count l {n} {m} h e = sym (length-take-le n l (omega (arith, h, e)))
+use Rattle.rules.specs.declared.Text.{Text}
 
 -- the field of label i of the shown line
 abbrev field : Bool → ℕ → ℕ
@@ -30,11 +26,11 @@ place_off on i e h =
     let o : i ≡ 0x30 + i - 0x30 = omega arith in
     o ∙ sym (u ∙ t)
 
-abbrev at : List ShortText → ℕ → ShortText
+abbrev at : List (Text 8) → ℕ → Text 8
 at l n = get_or l n record { len = 0; bytes = [] }
 
-pub shown_on : (l : List ShortText) (on : Bool) (i : ℕ) → on ≡ true → at l (8 + i) ≡ at l (label_place (field on i))
+pub shown_on : (l : List (Text 8)) (on : Bool) (i : ℕ) → on ≡ true → at l (8 + i) ≡ at l (label_place (field on i))
 shown_on l on i e = ap (λ n. at l n) (place_on on i e)
 
-pub shown_off : (l : List ShortText) (on : Bool) (i : ℕ) → on ≡ false → i < 8 → at l i ≡ at l (label_place (field on i))
+pub shown_off : (l : List (Text 8)) (on : Bool) (i : ℕ) → on ≡ false → i < 8 → at l i ≡ at l (label_place (field on i))
 shown_off l on i e h = ap (λ n. at l n) (place_off on i e h)

@@ -1,4 +1,3 @@
-pub mod Loops
 pub mod Puts
 pub mod Texts
 pub mod Messages

@@ -2,19 +2,19 @@
 --     short     no message is longer: 211 bytes, and 17 for each byte of the longest reply
 --     whole     the statement of specs/Message
 -- Assumes nothing.
-use Rattle.std.proofs.Common.{◌≡◌, ℕ, suc, ◌+◌, ◌-◌, ◌*◌, ◌/◌, ◌≤◌, Bool, true, false, eqb, leb, List, [], ◌∷◌, ◌++◌, length, refl, ap, arith, length-append, length-take-le}
+use Rattle.std.proofs.Common.{◌≡◌, ℕ, suc, ◌+◌, ◌-◌, ◌*◌, ◌/◌, ◌≤◌, Bool, true, false, eqb, leb, List, [], ◌∷◌, ◌++◌, length, refl, ap, arith, length-append, length-take-le, Ok, Err}
 use Rattle.rules.specs.declared.State.{State}
 use Rattle.rules.specs.Cell.{pick}
 use Rattle.rules.specs.Send.{digit}
-use Rattle.counter.specs.declared.Counted.{Counted}
-use Rattle.counter.specs.declared.Told.{Told}
+use Rattle.counter.specs.declared.Refusal.{Refusal}
+use Rattle.counter.specs.declared.NoReply.{NoReply}
+use Rattle.counter.specs.Count.{Counted}
 use Rattle.counter.specs.Words.{words}
 use Rattle.counter.specs.Pieces.{returns, before, is_mark, onto, cut_at_marks, pieces, joined}
-use Rattle.counter.specs.Ask.{ask_rule}
+use Rattle.counter.specs.Ask.{Told, ask_rule}
 use Rattle.counter.specs.Walk.{marks_in}
 use Rattle.counter.proofs.Fewest.{joined_onto}
 use Rattle.counter.proofs.Marks.{pieces_length}
-use Rattle.counter.proofs.Counting.{some_byte}
 use Rattle.counter.proofs.Replies.{asking_fits}
 use Rattle.counter.proofs.Questions.{ask_cases}
 use Rattle.rules.proofs.Rows.{columns_width, width_range}
@@ -41,6 +41,12 @@ count_short n word =
     simp length-append (omega arith)
 
 -- ---- the lines of pieces
+
+-- a reply that ends in a CR has a byte
+some_byte : (r : List ℕ) → returns r ≡ true → 1 ≤ length r
+unfolding returns
+some_byte [] e = cc
+some_byte (b ∷ l) e = omega arith
 
 line_short : (first last k : ℕ) (t : List ℕ) → length (piece_line first last k t) ≤ 17 + length t
 unfolding piece_line
@@ -84,22 +90,22 @@ pieces_short first last r = by_test (returns r) refl
 
 counted_short : (c : Counted) → length (count_line c) ≤ 90
 unfolding count_line
-counted_short (Counted.Text u n) =
-    let a = count_short u (words "unit") in
-    let b = count_short n (words "text part") in
+counted_short (Ok s) =
+    let a = count_short s.units (words "unit") in
+    let b = count_short s.parts (words "text part") in
     simp length-append (omega arith)
-counted_short Counted.NoReturn = omega arith
-counted_short Counted.BadFirst = omega arith
-counted_short Counted.BadLast = omega arith
-counted_short (Counted.BadByte n) = let a = decimal_short n in simp length-append (omega arith)
+counted_short (Err Refusal.NoReturn) = omega arith
+counted_short (Err Refusal.BadFirst) = omega arith
+counted_short (Err Refusal.BadLast) = omega arith
+counted_short (Err (Refusal.BadByte n)) = let a = decimal_short n in simp length-append (omega arith)
 
 told_short : (t : Told) → length (told_line t) ≤ 90
 unfolding told_line
-told_short (Told.Counted c) = counted_short c
-told_short Told.BadPage = omega arith
-told_short Told.BadState = omega arith
-told_short Told.UnderWay = omega arith
-told_short Told.NoRoom = omega arith
+told_short (Ok c) = counted_short c
+told_short (Err NoReply.BadPage) = omega arith
+told_short (Err NoReply.BadState) = omega arith
+told_short (Err NoReply.UnderWay) = omega arith
+told_short (Err NoReply.NoRoom) = omega arith
 
 note_short : (on : Bool) → length (mode_note on) ≤ 73
 unfolding mode_note

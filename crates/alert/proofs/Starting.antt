@@ -3,21 +3,21 @@
 --     turns                 the conversion of its page and state, to whatever page of the length
 --     starts                the statement of specs/Watch
 --     narrow_on, turned, at_width     what the program's start leaves
---     wide_columns, narrow_columns, wide_length, narrow_length, width_fits     lengths by the width
---     wide_row, narrow_row     a row by the width
+--     wide_columns, narrow_columns, wide_length, narrow_length     lengths by the width
+--     columns_most, row_within, row_is     a row by the width
 -- Assumes nothing.
-use Rattle.std.proofs.Common.{◌≡◌, ℕ, zero, suc, ◌+◌, ◌-◌, ◌*◌, Bool, true, false, not, eqb, leb, List, [], length, take, drop, replicate, sym, refl, ap, ◌∙◌, subst, arith, eq-eqb}
+use Rattle.std.proofs.Common.{◌≡◌, ℕ, zero, suc, ◌+◌, ◌-◌, ◌*◌, ◌<◌, ◌≤◌, Bool, true, false, not, eqb, leb, List, [], length, take, drop, replicate, sym, refl, ap, ◌∙◌, subst, arith, eq-eqb}
+use Rattle.std.proofs.Math.Nat.{mul-le-mul_right}
 use mathlib.Core.Bool.{false≢true}
 use Rattle.rules.specs.declared.Personality.{Personality}
 use Rattle.rules.specs.declared.State.{State}
 use Rattle.rules.specs.Cell.{pick, both, either}
-use Rattle.rules.specs.Row.{Width, height, columns, column_of, narrow_cells, wide_cells}
+use Rattle.rules.specs.Row.{height, columns, column_of, narrow_cells, wide_cells}
 use Rattle.rules.specs.State.{sends}
 use Rattle.rules.specs.Possible.{power_on, blank, good}
 use Rattle.rules.specs.Step.{Outcome}
 use Rattle.rules.specs.Calls.{power_on_rule}
 use Rattle.rules.specs.Convert.{converted, loses, state_on, Turned, convert_rule}
-use Rattle.rules.proofs.Rows.{columns_width}
 use Rattle.rules.proofs.Kept.{good_whole, power_on_possible}
 use Rattle.rules.proofs.Convert.{converts, conversion}
 use Rattle.alert.specs.Cells.{row_on}
@@ -126,15 +126,15 @@ unfolding columns
 narrow_length false e h = e
 narrow_length true e h = absurd (false≢true (sym h))
 
-pub width_fits : (wide : Bool) {n w : ℕ} → w ≡ columns wide → n ≡ height * columns wide → Width w × (n ≡ height * w)
-width_fits wide {n} e h = subst (λ (k : ℕ). Width k × (n ≡ height * k)) (sym e) (columns_width wide, h)
-
-pub wide_row : (w : Bool) (p : List ℕ) (r : ℕ) → w ≡ true → take (r * 132 + 132 - r * 132) (drop (r * 132) p) ≡ row_on w p r
+pub columns_most : (w : Bool) → columns w ≤ 132
 unfolding columns
-wide_row true p r h = let z : r * 132 + 132 - r * 132 ≡ 132 = omega arith in rw z
-wide_row false p r h = absurd (false≢true h)
+columns_most true = omega arith
+columns_most false = omega arith
 
-pub narrow_row : (w : Bool) (p : List ℕ) (r : ℕ) → w ≡ false → take (r * 80 + 80 - r * 80) (drop (r * 80) p) ≡ row_on w p r
-unfolding columns
-narrow_row false p r h = let z : r * 80 + 80 - r * 80 ≡ 80 = omega arith in rw z
-narrow_row true p r h = absurd (false≢true (sym h))
+-- a row by its places
+module _ (w : Bool) (p : List ℕ) (r : ℕ) {n : ℕ} (e : n ≡ columns w) where
+  pub row_within : r < 24 → r * n + n ≤ 24 * columns w
+  row_within h = rw e (omega (arith, mul-le-mul_right {m = suc r} {n = 24} (columns w) h))
+
+  pub row_is : take (r * n + n - r * n) (drop (r * n) p) ≡ row_on w p r
+  row_is = let z : r * n + n - r * n ≡ n = omega arith in rw z (rw e refl)

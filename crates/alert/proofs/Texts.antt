@@ -1,20 +1,24 @@
 -- Laws of what is told of the guarded cells.
 --     place_small                         a place in numbers of the machine
 --     guarded_on, guarded_off             the line
---     one_at_most, more_cells, no_cells, keeps, changes, none_changes     the loops over the cells
+--     cells_counted                       how many cells are guarded
+--     keeps, changes, none_changes, change_steps     the loop over the cells
 -- Assumes nothing.
-use Rattle.std.proofs.Common.{◌≡◌, ℕ, suc, ◌+◌, ◌*◌, ◌/◌, ◌%◌, ◌<◌, ◌≤◌, Bool, true, false, List, length, get_or, drop, add-one, arith, drop_of_length-le, drop-cons}
+use Rattle.std.proofs.Common.{◌≡◌, ℕ, suc, ◌+◌, ◌*◌, ◌/◌, ◌%◌, ◌<◌, ◌≤◌, Bool, true, false, List, length, get_or, drop, add-one, arith, drop_of_length-le, drop-cons, cond, refl}
+use Rattle.std.specs.List.{count_by}
+use Rattle.std.proofs.lemmas.List.Recursion.{is_count_by}
 use Rattle.rules.specs.Cell.{pick, guarded}
-use Rattle.rules.specs.Row.{Width}
-use Rattle.rules.proofs.Rows.{by_width}
+use Rattle.rules.specs.Row.{columns}
+use Rattle.rules.proofs.Rows.{by_width, columns_width}
 use Rattle.counter.specs.Words.{words}
 use Rattle.alert.specs.Room.{count_of, Puts}
 use Rattle.alert.specs.Guarded.{guarded_cells, kept, first_change, change_of, guarded_line}
 use Rattle.alert.proofs.Puts.{none, and}
 
 -- a place in numbers of the machine
-pub place_small : {w at : ℕ} → Width w → at < 24 * w → (at / w ≤ 23) × (at % w ≤ 131)
-place_small {w} {at} k h = by_width (λ (w : ℕ). at < 24 * w → (at / w ≤ 23) × (at % w ≤ 131)) (λ h. omega arith) (λ h. omega arith) k h
+pub place_small : (wide : Bool) {at : ℕ} → at < 24 * columns wide → (at / columns wide ≤ 23) × (at % columns wide ≤ 131)
+place_small wide {at} h =
+    by_width (λ (w : ℕ). at < 24 * w → (at / w ≤ 23) × (at % w ≤ 131)) (λ h. omega arith) (λ h. omega arith) (columns_width wide) h
 
 -- ---- guarded cells
 
@@ -31,23 +35,13 @@ module _ (w : ℕ) (was is : List ℕ) where
   guarded_off false e = none
   guarded_off true e = let z : ◌≡◌ {A = ℕ} 0 1 = cc in absurd (omega arith)
 
-pub one_at_most : (t : Bool) → pick t 1 0 ≤ 1
-one_at_most true = omega arith
-one_at_most false = omega arith
+cell_more : (t : Bool) (n : ℕ) → pick t (suc n) n ≡ cond t (1 + n) n
+cell_more true n = omega arith
+cell_more false n = refl
 
-module _ (on : Bool) (p : List ℕ) (i : ℕ) where
-  pub more_cells : i < length p → guarded_cells on (drop i p) ≡ pick (guarded on (get_or p i 0)) 1 0 + guarded_cells on (drop (i + 1) p)
-  unfolding guarded_cells
-  more_cells h = rw (drop-cons p i 0 h, add-one) (by_test (guarded on (get_or p i 0)))
-    where
-      by_test : (t : Bool) → pick t (suc (guarded_cells on (drop (suc i) p))) (guarded_cells on (drop (suc i) p))
-          ≡ pick t 1 0 + guarded_cells on (drop (suc i) p)
-      by_test true = omega arith
-      by_test false = omega arith
-
-  pub no_cells : length p ≤ i → guarded_cells on (drop i p) ≡ 0
-  unfolding guarded_cells
-  no_cells h = rw (drop_of_length-le p {i = i} h)
+pub cells_counted : (on : Bool) (p : List ℕ) → guarded_cells on p ≡ count_by (guarded on) p
+unfolding guarded_cells
+cells_counted on p = is_count_by (guarded_cells on) (guarded on) refl (λ v l. cell_more (guarded on v) (guarded_cells on l)) p
 
 module _ (on : Bool) (was is : List ℕ) (i : ℕ) (same : length is ≡ length was) where
   -- cell i is as it was
@@ -63,3 +57,5 @@ module _ (on : Bool) (was is : List ℕ) (i : ℕ) (same : length is ≡ length 
   pub none_changes : length is ≤ i → first_change on i (drop i was) (drop i is) ≡ i
   unfolding first_change
   none_changes h = rw (drop_of_length-le was {i = i} (omega arith))
+
+pub ruleset change_steps = (keeps, changes, none_changes)

@@ -1,15 +1,10 @@
 -- What the functions over cells promise.
-use Rattle.std.specs.Prelude.{◌≡◌, ℕ, ◌+◌, ◌*◌, ◌<◌, ◌≤◌, Bool, true, List, length, take, drop, ◌≢◌, slice_index}
+use Rattle.std.specs.Prelude.{◌≡◌, ℕ, ◌+◌, ◌*◌, ◌<◌, ◌≤◌, Bool, List, length, take, drop, ◌≢◌, slice_index}
 use Rattle.rules.specs.Row.{columns}
 
 -- row r of a page, from 0
 abbrev pub row_on : Bool → List ℕ → ℕ → List ℕ
 row_on wide p r = take (columns wide) (drop (r * columns wide) p)
-
--- r says whether two lists are the same
-pub record Same (x y : List ℕ) (r : Bool) : Type 0 where
-  pub sound : r ≡ true → x ≡ y
-  pub complete : x ≡ y → r ≡ true
 
 -- r is the length of a text without its trailing spaces
 pub record Trimmed (text : List ℕ) (r : ℕ) : Type 0 where

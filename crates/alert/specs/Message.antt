@@ -1,14 +1,15 @@
 -- What members are sent, as it is told: the pieces of the terminal's own reply to ESC 5, and the units and text parts of the whole.
-use Rattle.std.specs.Prelude.{◌≡◌, ℕ, suc, Bool, true, false, List, [], ◌∷◌, ◌++◌, length, nat_le}
+use Rattle.std.specs.Prelude.{◌≡◌, ℕ, suc, Bool, true, false, List, [], ◌∷◌, ◌++◌, length, nat_le, Ok, Err}
 use Rattle.rules.specs.declared.State.{State}
 use Rattle.rules.specs.Cell.{pick, both}
 use Rattle.rules.specs.Possible.{good}
 use Rattle.rules.specs.Theorems.Noninterference.{Alike}
-use Rattle.counter.specs.declared.Counted.{Counted}
-use Rattle.counter.specs.declared.Told.{Told}
+use Rattle.counter.specs.declared.Refusal.{Refusal}
+use Rattle.counter.specs.declared.NoReply.{NoReply}
 use Rattle.counter.specs.Words.{words}
 use Rattle.counter.specs.Pieces.{pieces}
-use Rattle.counter.specs.Ask.{is_ready, asking, is_cut, ask_rule}
+use Rattle.counter.specs.Count.{Counted}
+use Rattle.counter.specs.Ask.{Told, is_ready, asking, is_cut, ask_rule}
 use Rattle.alert.specs.Room.{decimal_of, count_of}
 
 -- whether protect mode is off: nothing is guarded then, and the marks hold all the same
@@ -29,20 +30,20 @@ piece_lines first last k (t ∷ ts) = let r = piece_lines first last (suc k) ts 
 
 -- what the whole comes to, or why it is not counted
 unfoldable pub count_line : Counted → List ℕ
-count_line (Counted.Text u n) =
-    words "  " ++ count_of u (words "unit") ++ words " without trailing spaces, " ++ count_of n (words "text part") ++ words "\n"
-count_line Counted.NoReturn = words "  Not counted: the reply has no final CR.\n"
-count_line Counted.BadFirst = words "  Not counted: the first piece is 0 or above the last.\n"
-count_line Counted.BadLast = words "  Not counted: the last piece is beyond those of the reply.\n"
-count_line (Counted.BadByte n) = words "  Not counted: the character at place " ++ decimal_of n
+count_line (Ok s) =
+    words "  " ++ count_of s.units (words "unit") ++ words " without trailing spaces, " ++ count_of s.parts (words "text part") ++ words "\n"
+count_line (Err Refusal.NoReturn) = words "  Not counted: the reply has no final CR.\n"
+count_line (Err Refusal.BadFirst) = words "  Not counted: the first piece is 0 or above the last.\n"
+count_line (Err Refusal.BadLast) = words "  Not counted: the last piece is beyond those of the reply.\n"
+count_line (Err (Refusal.BadByte n)) = words "  Not counted: the character at place " ++ decimal_of n
     ++ words " of the whole, from 0, is outside the alphabet.\n"
 
 unfoldable pub told_line : Told → List ℕ
-told_line (Told.Counted c) = count_line c
-told_line Told.BadPage = words "  Not asked: the page has a wrong length.\n"
-told_line Told.BadState = words "  Not asked: the state is not possible.\n"
-told_line Told.UnderWay = words "  Not asked: the stream ends within a sequence.\n"
-told_line Told.NoRoom = words "  Not asked: the reply is longer than its room.\n"
+told_line (Ok c) = count_line c
+told_line (Err NoReply.BadPage) = words "  Not asked: the page has a wrong length.\n"
+told_line (Err NoReply.BadState) = words "  Not asked: the state is not possible.\n"
+told_line (Err NoReply.UnderWay) = words "  Not asked: the stream ends within a sequence.\n"
+told_line (Err NoReply.NoRoom) = words "  Not asked: the reply is longer than its room.\n"
 
 -- of a reply r, with protect mode as it is and what was told of the pieces from the first to the last
 unfoldable pub sent : Bool → Told → List ℕ → ℕ → ℕ → List ℕ

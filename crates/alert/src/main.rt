@@ -18,8 +18,7 @@ ghost use Rattle.alert.specs.Watch.{Came};
 
 use options::Options;
 use print::{attributes, out, picture, report};
-use rules::{Personality, State};
-use state::width::columns;
+use rules::State;
 use std::env::FillError;
 use std::fmt::InlineText;
 use std::io::{ErrorKind, Read};
@@ -48,8 +47,14 @@ fn show_guarded(rt: &impl Print, page: &[u16], drawn: &[u16], state: State) -> i
         × ((length page.now ≡ length drawn.now) × Came page.now drawn.now state) }
 {
     let mut room = [0u8; 256];
-    let width = columns(state.core.screen.wide) as usize;
-    let n = guarded::line(&mut room, page, drawn, width, state.core.modes.protect);
+    let screen = state.core.screen;
+    let n = guarded::line(
+        &mut room,
+        page,
+        drawn,
+        screen.wide,
+        state.core.modes.protect,
+    );
     out::text(rt, &room[..n])
 }
 
@@ -58,7 +63,7 @@ fn show_message(rt: &impl Print, page: &mut [u16], state: State, o: Options) -> 
     requires { (drawn : List ℕ) × Came page.old drawn state }
 {
     let mut room = [0u8; 54475];
-    let n = message::message(&mut room, page, state, o.first, o.all, o.last);
+    let n = message::message(&mut room, page, state, o.first, o.last);
     out::text(rt, &room[..n])
 }
 
@@ -97,13 +102,6 @@ fn show(
     report::replies(rt, p, log)
 }
 
-fn personality(wy60: bool) -> Personality {
-    if wy60 {
-        return Personality::Wy60;
-    }
-    Personality::Wy50
-}
-
 // Plays the stream on these pages, wide or narrow, and shows what came of it.
 fn play_on(
     rt: &(impl Print + Eprint),
@@ -123,7 +121,7 @@ fn play_on(
     let played = stream::play(
         host,
         wide,
-        personality(o.wy60),
+        o.personality,
         page,
         before,
         drawn,
@@ -136,28 +134,28 @@ fn play_on(
     }
 }
 
-fn play_wide(
+// The same on pages of N cells.
+fn play_sized<const N: usize>(
     rt: &(impl Print + Eprint),
     host: &mut impl Read,
     name: &str,
     o: Options,
-) -> io::Result<()> {
-    let mut page = [0u16; 3168];
-    let mut before = [0u16; 3168];
-    let mut drawn = [0u16; 3168];
-    play_on(rt, host, name, true, &mut page, &mut before, &mut drawn, o)
-}
-
-fn play_narrow(
-    rt: &(impl Print + Eprint),
-    host: &mut impl Read,
-    name: &str,
-    o: Options,
-) -> io::Result<()> {
-    let mut page = [0u16; 1920];
-    let mut before = [0u16; 1920];
-    let mut drawn = [0u16; 1920];
-    play_on(rt, host, name, false, &mut page, &mut before, &mut drawn, o)
+) -> io::Result<()>
+    requires { N ≡ height * columns_of o.wide }
+{
+    let mut page = [0u16; N];
+    let mut before = [0u16; N];
+    let mut drawn = [0u16; N];
+    play_on(
+        rt,
+        host,
+        name,
+        o.wide,
+        &mut page,
+        &mut before,
+        &mut drawn,
+        o,
+    )
 }
 
 fn play(
@@ -167,9 +165,10 @@ fn play(
     o: Options,
 ) -> io::Result<()> {
     if o.wide {
-        return play_wide(rt, host, name, o);
+        play_sized::<3168>(rt, host, name, o)
+    } else {
+        play_sized::<1920>(rt, host, name, o)
     }
-    play_narrow(rt, host, name, o)
 }
 
 // Why an argument is not there to be read.
@@ -192,21 +191,21 @@ fn open_and_play<R: Files + Print + Eprint>(rt: &R, path: &[u8], o: Options) -> 
     }
 }
 
-fn play_file<R: Env + Files + Print + Eprint>(rt: &R, o: Options) -> io::Result<()> {
+// The file that argument i names.
+fn play_file<R: Env + Files + Print + Eprint>(rt: &R, i: usize, o: Options) -> io::Result<()> {
     let mut path = [0u8; 4096];
-    match rt.arg(o.file, &mut path) {
+    match rt.arg(i, &mut path) {
         Ok(n) => open_and_play(rt, &path[..n], o),
         Err(e) => unreadable(rt, "the file that is named", unfilled(e)),
     }
 }
 
 fn main(rt: HostRuntime) -> io::Result<()> {
-    let o = options::read(&rt);
-    if o.bad {
+    let Ok(o) = options::read(&rt) else {
         return eprintln!(rt; "usage: alert [-6] [-w] [--first PIECE] [--last PIECE] [FILE]");
+    };
+    match o.file {
+        Some(i) => play_file(&rt, i, o),
+        None => play(&rt, &mut rt.reader(), "standard input", o),
     }
-    if o.file == 0 {
-        return play(&rt, &mut rt.reader(), "standard input", o);
-    }
-    play_file(&rt, o)
 }

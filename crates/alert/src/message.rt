@@ -1,12 +1,13 @@
 // What members are sent: the pieces of the terminal's own reply to ESC 5, and what they come to.
-ghost use Rattle.std.specs.Prelude.{◌≡◌, ◌≤◌, length};
+ghost use Rattle.std.specs.Prelude.{◌≡◌, ◌≤◌, length, is_none, unwrap_or};
+ghost use Rattle.counter.specs.declared.Refusal.{Refusal};
 ghost use Rattle.counter.specs.Pieces.{pieces};
 ghost use Rattle.alert.specs.Room.{Puts};
 ghost use Rattle.alert.specs.Message.{mode_note, is_shown, piece_line, piece_lines, count_line, told_line, sent as sent_of, last_of};
 ghost use Rattle.alert.specs.Message.{message as message_of};
 
 use crate::put;
-use counter::{Counted, Told, count_alert, piece, pieces_in};
+use counter::{NoReply, Refusal, Size, count_alert, piece, pieces_in};
 use rules::State;
 
 // With protect mode off it is said so.
@@ -27,13 +28,7 @@ fn mode_note(room: &mut [u8], n: usize, protect: bool) -> usize
 fn is_shown(first: usize, last: usize, number: usize, text: &[u8]) -> bool
     ensures { result ≡ is_shown first last number text.now }
 {
-    if number < first {
-        return false;
-    }
-    if last < number {
-        return false;
-    }
-    1 <= text.len()
+    first <= number && number <= last && !text.is_empty()
 }
 
 // The line of a piece.
@@ -56,27 +51,25 @@ fn lines(room: &mut [u8], start: usize, reply: &[u8], first: usize, last: usize)
 {
     let count = pieces_in(reply);
     let mut n = start;
-    let mut i = 0;
-    while i < count {
+    for i in 0..count {
         let number = i + 1;
         n = line(room, n, first, last, number, piece(reply, number));
-        i = number;
     }
     n
 }
 
-fn size(room: &mut [u8], n: usize, units: u64, parts: u64) -> usize
-    ensures { Puts (count_line (Counted.Text units parts)) n room.old result room.new }
+fn size(room: &mut [u8], n: usize, s: Size) -> usize
+    ensures { Puts (count_line (Ok s)) n room.old result room.new }
 {
     let a = put::bytes(room, n, b"  ");
-    let b = put::count(room, a, units, b"unit");
+    let b = put::count(room, a, s.units, b"unit");
     let c = put::bytes(room, b, b" without trailing spaces, ");
-    let d = put::count(room, c, parts, b"text part");
+    let d = put::count(room, c, s.parts, b"text part");
     put::bytes(room, d, b"\n")
 }
 
 fn bad_byte(room: &mut [u8], n: usize, place: usize) -> usize
-    ensures { Puts (count_line (Counted.BadByte place)) n room.old result room.new }
+    ensures { Puts (count_line (Err (Refusal.BadByte place))) n room.old result room.new }
 {
     let a = put::bytes(room, n, b"  Not counted: the character at place ");
     let b = put::decimal(room, a, place as u64);
@@ -87,39 +80,49 @@ fn bad_byte(room: &mut [u8], n: usize, place: usize) -> usize
     )
 }
 
-fn count(room: &mut [u8], n: usize, c: Counted) -> usize
+#[tactic(auto, unfolding(crate::specs::Message::count_line))]
+fn count(room: &mut [u8], n: usize, c: Result<Size, Refusal>) -> usize
     ensures { Puts (count_line c) n room.old result room.new }
 {
     match c {
-        Counted::Text(units, parts) => size(room, n, units, parts),
-        Counted::NoReturn => put::bytes(room, n, b"  Not counted: the reply has no final CR.\n"),
-        Counted::BadFirst => put::bytes(
+        Ok(s) => size(room, n, s),
+        Err(Refusal::NoReturn) => put::bytes(
+            room,
+            n,
+            b"  Not counted: the reply has no final CR.\n",
+        ),
+        Err(Refusal::BadFirst) => put::bytes(
             room,
             n,
             b"  Not counted: the first piece is 0 or above the last.\n",
         ),
-        Counted::BadLast => put::bytes(
+        Err(Refusal::BadLast) => put::bytes(
             room,
             n,
             b"  Not counted: the last piece is beyond those of the reply.\n",
         ),
-        Counted::BadByte(place) => bad_byte(room, n, place),
+        Err(Refusal::BadByte(place)) => bad_byte(room, n, place),
     }
 }
 
-fn told(room: &mut [u8], n: usize, t: Told) -> usize
+#[tactic(auto, unfolding(crate::specs::Message::told_line))]
+fn told(room: &mut [u8], n: usize, t: Result<Result<Size, Refusal>, NoReply>) -> usize
     ensures { Puts (told_line t) n room.old result room.new }
 {
     match t {
-        Told::Counted(c) => count(room, n, c),
-        Told::BadPage => put::bytes(room, n, b"  Not asked: the page has a wrong length.\n"),
-        Told::BadState => put::bytes(room, n, b"  Not asked: the state is not possible.\n"),
-        Told::UnderWay => put::bytes(
+        Ok(c) => count(room, n, c),
+        Err(NoReply::BadPage) => put::bytes(
+            room,
+            n,
+            b"  Not asked: the page has a wrong length.\n",
+        ),
+        Err(NoReply::BadState) => put::bytes(room, n, b"  Not asked: the state is not possible.\n"),
+        Err(NoReply::UnderWay) => put::bytes(
             room,
             n,
             b"  Not asked: the stream ends within a sequence.\n",
         ),
-        Told::NoRoom => put::bytes(
+        Err(NoReply::NoRoom) => put::bytes(
             room,
             n,
             b"  Not asked: the reply is longer than its room.\n",
@@ -127,7 +130,14 @@ fn told(room: &mut [u8], n: usize, t: Told) -> usize
     }
 }
 
-fn sent(room: &mut [u8], protect: bool, t: Told, reply: &[u8], first: usize, last: usize) -> usize
+fn sent(
+    room: &mut [u8],
+    protect: bool,
+    t: Result<Result<Size, Refusal>, NoReply>,
+    reply: &[u8],
+    first: usize,
+    last: usize,
+) -> usize
     ensures { Puts (sent_of protect t reply.now first last) 0 room.old result room.new }
 {
     let a = put::bytes(
@@ -140,13 +150,15 @@ fn sent(room: &mut [u8], protect: bool, t: Told, reply: &[u8], first: usize, las
     told(room, c, t)
 }
 
-fn last_of(all: bool, last: usize, reply: &[u8]) -> usize
-    ensures { result ≡ last_of all last reply.now }
+// The number of the last piece that is wanted: that of the last there is, where no other is named.
+#[tactic(auto, unfolding(crate::specs::Message::last_of))]
+fn last_of(last: Option<usize>, reply: &[u8]) -> usize
+    ensures { result ≡ last_of (is_none last) (unwrap_or last 0) reply.now }
 {
-    if all {
-        return pieces_in(reply);
+    match last {
+        Some(n) => n,
+        None => pieces_in(reply),
     }
-    last
 }
 
 // Asks the terminal, twice: how many pieces there are, and what those wanted come to. Asking changes nothing.
@@ -155,19 +167,15 @@ pub fn message(
     page: &mut [u16],
     state: State,
     first: usize,
-    all: bool,
-    last: usize,
+    last: Option<usize>,
 ) -> usize
     ensures { (page.new ≡ page.old)
-        × Puts (message_of page.old state first all last) 0 room.old result room.new }
+        × Puts (message_of page.old state first (is_none last) (unwrap_or last 0)) 0 room.old result room.new }
 {
     let mut reply = [0u8; 3192];
     let a = count_alert(page, state, 1, 1, &mut reply);
-    let n = a.replied;
-    let end = last_of(all, last, &reply[..n]);
+    let end = last_of(last, &reply[..a.replied]);
     let b = count_alert(page, state, first, end, &mut reply);
-    let k = b.replied;
-    let t = b.told;
     let protect = state.core.modes.protect;
-    sent(room, protect, t, &reply[..k], first, end)
+    sent(room, protect, b.told, &reply[..b.replied], first, end)
 }

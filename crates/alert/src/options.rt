@@ -1,157 +1,131 @@
 // The command line: alert [-6] [-w] [--first N] [--last N] [FILE].
+use rules::Personality;
 use std::env::FillError;
 use std::rt::Env;
 
-// What the next argument is: anything, or the number of an option.
-const ANYTHING: u8 = 0;
-
-const FIRST: u8 = 1;
-
-const LAST: u8 = 2;
-
-// What stands for no number. A number lies below LIMIT.
-const NONE: usize = 0xffff_ffff_ffff_ffff;
-
+// A number lies below it.
 const LIMIT: usize = 0x1000_0000_0000_0000;
 
-// A WY-60 or a WY-50, a wide page or a narrow one. The pieces wanted: from `first` on to `last`, or all. `file` is the argument that names the file,
-// 0 where none does. `bad` is
-// a command line of another form.
+// A WY-60 or a WY-50, a wide page or a narrow one. The pieces wanted: from `first` on to `last`, or to the last there is. `file` is the argument
+// that names the file.
 #[derive(Clone, Copy)]
 pub struct Options {
-    pub wy60: bool,
+    pub personality: Personality,
     pub wide: bool,
     pub first: usize,
-    pub last: usize,
-    pub all: bool,
-    pub file: usize,
-    pub awaits: u8,
-    pub bad: bool,
+    pub last: Option<usize>,
+    pub file: Option<usize>,
 }
 
-// The value of a decimal digit, or 10.
-fn digit(b: u8) -> usize {
-    if b < b'0' {
-        return 10;
-    }
-    if b'9' < b {
-        return 10;
-    }
-    (b - b'0') as usize
+// The command line has another form.
+#[derive(Clone, Copy)]
+pub struct Usage;
+
+// An option whose number is the next argument.
+#[derive(Clone, Copy)]
+enum Awaited {
+    First,
+    Last,
 }
 
-// The number that a word spells in decimal digits, or NONE.
-fn number(word: &[u8]) -> usize {
-    if word.len() == 0 {
-        return NONE;
+// What the arguments so far say, and the option that awaits its number.
+#[derive(Clone, Copy)]
+struct Reading {
+    options: Options,
+    awaits: Option<Awaited>,
+}
+
+// The number that a word spells in decimal digits. No sign, as `parse` would take.
+fn number(word: &[u8]) -> Option<usize> {
+    if word.is_empty() {
+        return None;
     }
     let mut n = 0;
-    let mut i = 0;
-    while i < word.len() {
-        let d = digit(word[i]);
-        if 9 < d {
-            return NONE;
+    for b in word {
+        if !b.is_ascii_digit() {
+            return None;
         }
-        n = n * 10 + d;
+        n = n * 10 + usize::from(*b - b'0');
         if LIMIT <= n {
-            return NONE;
+            return None;
         }
-        i += 1;
     }
-    n
-}
-
-fn spoilt(o: Options) -> Options {
-    let mut t = o;
-    t.bad = true;
-    t
+    Some(n)
 }
 
 // The number of the option that awaits it.
-fn with_number(o: Options, n: usize) -> Options {
-    if n == NONE {
-        return spoilt(o);
-    }
-    let mut t = o;
-    t.awaits = ANYTHING;
-    if o.awaits == FIRST {
-        t.first = n;
-        return t;
-    }
-    t.last = n;
-    t.all = false;
-    t
+fn with_number(o: Options, a: Awaited, word: &[u8]) -> Result<Options, Usage> {
+    let n = number(word).ok_or(Usage)?;
+    Ok(match a {
+        Awaited::First => Options { first: n, ..o },
+        Awaited::Last => Options { last: Some(n), ..o },
+    })
 }
 
-fn with_file(o: Options, i: usize) -> Options {
-    if o.file != 0 {
-        return spoilt(o);
+fn with_file(o: Options, i: usize) -> Result<Options, Usage> {
+    match o.file {
+        Some(_) => Err(Usage),
+        None => Ok(Options { file: Some(i), ..o }),
     }
-    let mut t = o;
-    t.file = i;
-    t
 }
 
 // Argument i.
-fn take(o: Options, i: usize, word: &[u8]) -> Options {
-    if o.awaits != ANYTHING {
-        return with_number(o, number(word));
+fn take(r: Reading, i: usize, word: &[u8]) -> Result<Reading, Usage> {
+    let o = r.options;
+    if let Some(a) = r.awaits {
+        return Ok(Reading {
+            options: with_number(o, a, word)?,
+            awaits: None,
+        });
     }
-    let mut t = o;
-    if word == b"-6".as_slice() {
-        t.wy60 = true;
-        return t;
+    match word {
+        b"-6" => Ok(Reading {
+            options: Options {
+                personality: Personality::Wy60,
+                ..o
+            },
+            ..r
+        }),
+        b"-w" => Ok(Reading {
+            options: Options { wide: true, ..o },
+            ..r
+        }),
+        b"--first" => Ok(Reading {
+            awaits: Some(Awaited::First),
+            ..r
+        }),
+        b"--last" => Ok(Reading {
+            awaits: Some(Awaited::Last),
+            ..r
+        }),
+        _ => Ok(Reading {
+            options: with_file(o, i)?,
+            ..r
+        }),
     }
-    if word == b"-w".as_slice() {
-        t.wide = true;
-        return t;
-    }
-    if word == b"--first".as_slice() {
-        t.awaits = FIRST;
-        return t;
-    }
-    if word == b"--last".as_slice() {
-        t.awaits = LAST;
-        return t;
-    }
-    with_file(o, i)
 }
 
-// Argument i, or nothing past the last.
-fn argument(rt: &impl Env, o: Options, i: usize) -> Option<Options> {
-    let mut word = [0u8; 4096];
-    match rt.arg(i, &mut word) {
-        Ok(n) => Some(take(o, i, &word[..n])),
-        Err(FillError::TooLong) => Some(spoilt(o)),
-        Err(FillError::NotPresent) => None,
-    }
-}
-
-fn all_of(rt: &impl Env, o: Options) -> Options {
-    let mut t = o;
-    for i in 1..usize::MAX {
-        let Some(u) = argument(rt, t, i) else {
-            break;
-        };
-        t = u;
-    }
-    t
-}
-
-pub fn read(rt: &impl Env) -> Options {
-    let none = Options {
-        wy60: false,
-        wide: false,
-        first: 1,
-        last: 0,
-        all: true,
-        file: 0,
-        awaits: ANYTHING,
-        bad: false,
+pub fn read(rt: &impl Env) -> Result<Options, Usage> {
+    let mut r = Reading {
+        options: Options {
+            personality: Personality::Wy50,
+            wide: false,
+            first: 1,
+            last: None,
+            file: None,
+        },
+        awaits: None,
     };
-    let o = all_of(rt, none);
-    if o.awaits != ANYTHING {
-        return spoilt(o);
+    for i in 1..usize::MAX {
+        let mut word = [0u8; 4096];
+        match rt.arg(i, &mut word) {
+            Ok(n) => r = take(r, i, &word[..n])?,
+            Err(FillError::TooLong) => return Err(Usage),
+            Err(FillError::NotPresent) => break,
+        }
     }
-    o
+    match r.awaits {
+        Some(_) => Err(Usage),
+        None => Ok(r.options),
+    }
 }

@@ -1,9 +1,12 @@
-// Text into a lent room: each function puts its bytes from a place on and answers the place after them.
+// Text into a lent room: each function puts its bytes from a place on and answers the place after them. No format writes these lines: Puts of
+// specs/Room says where in the room each byte stands, and that what does not fit is left out.
 ghost use Rattle.std.specs.Prelude.{◌≡◌, ◌*◌, ◌<◌, [], ◌∷◌};
 ghost use Rattle.rules.specs.Cell.{pick};
-ghost use Rattle.rules.specs.Row.{Width};
+ghost use Rattle.rules.specs.Row.{columns};
 ghost use Rattle.rules.specs.Send.{digit as digit_of};
 ghost use Rattle.alert.specs.Room.{Puts, decimal_of, count_of, place_of};
+
+use page::search::{column_of, row_of};
 
 pub fn byte(room: &mut [u8], n: usize, b: u8) -> usize
     ensures { Puts (b ∷ []) n room.old result room.new }
@@ -19,10 +22,8 @@ pub fn bytes(room: &mut [u8], start: usize, text: &[u8]) -> usize
     ensures { Puts text.now start room.old result room.new }
 {
     let mut n = start;
-    let mut i = 0;
-    while i < text.len() {
-        n = byte(room, n, text[i]);
-        i += 1;
+    for b in text {
+        n = byte(room, n, *b);
     }
     n
 }
@@ -38,10 +39,7 @@ fn digit(v: u64) -> u8
 fn wanted(room: &mut [u8], n: usize, is: bool, b: u8) -> usize
     ensures { Puts (pick is (b ∷ []) []) n room.old result room.new }
 {
-    if is {
-        return byte(room, n, b);
-    }
-    n
+    if is { byte(room, n, b) } else { n }
 }
 
 pub fn decimal(room: &mut [u8], n: usize, v: u64) -> usize
@@ -67,12 +65,12 @@ pub fn count(room: &mut [u8], n: usize, v: u64, word: &[u8]) -> usize
 }
 
 // A cell of the page, by its row and column.
-pub fn place(room: &mut [u8], n: usize, width: usize, at: usize) -> usize
-    requires { Width width × (at < 24 * width) }
-    ensures { Puts (place_of width at) n room.old result room.new }
+pub fn place(room: &mut [u8], n: usize, wide: bool, at: usize) -> usize
+    requires { at < 24 * columns wide }
+    ensures { Puts (place_of (columns wide) at) n room.old result room.new }
 {
     let a = bytes(room, n, b"row ");
-    let b = decimal(room, a, (at / width) as u64 + 1);
+    let b = decimal(room, a, row_of(wide, at) as u64 + 1);
     let c = bytes(room, b, b", column ");
-    decimal(room, c, (at % width) as u64 + 1)
+    decimal(room, c, column_of(wide, at) as u64 + 1)
 }

@@ -1,20 +1,17 @@
 // The bytes of the host, one by one to the terminal, and what came of them. A reply that does not fit the room begins, and goes on before the next
 // byte.
-ghost use Rattle.std.specs.Prelude.{◌≡◌, ℕ, ◌*◌, true, List, [], length, IfOk, OnErr};
+ghost use Rattle.std.specs.Prelude.{◌≡◌, ℕ, ◌*◌, true, List, [], length, IfOk, OnErr, unwrap_or};
 ghost use Rattle.rules.specs.Cell.{pick};
 ghost use Rattle.rules.specs.Row.{height, columns, narrow_cells, wide_cells};
-ghost use Rattle.rules.specs.State.{sends as sending};
 ghost use Rattle.rules.specs.Possible.{power_on, blank};
 ghost use Rattle.rules.specs.Step.{step_rule};
 ghost use Rattle.rules.specs.Calls.{run_rule};
 ghost use Rattle.alert.specs.Watch.{start_on, Took, Ended, goes_on, watch, finished, most_times, watched, FedBy, Fed, Came};
 
-use crate::cells::{copy, same};
 use rules::{Answer, Personality, State};
 use state::sending::is_sending;
 use std::io;
 use std::io::Read;
-use std::num::wrapping_add_u64;
 
 // No reply is longer: that of a wide page.
 const LONGEST: usize = 3192;
@@ -39,8 +36,6 @@ pub struct Played {
     pub kept: usize,
     // no byte above 7Fh has changed the page
     pub clean: bool,
-    // the stream may go on
-    pub going: bool,
 }
 
 // Power-on, on a narrow page.
@@ -48,8 +43,7 @@ fn start_narrow(page: &mut [u16], personality: Personality) -> State
     requires { length page.old ≡ narrow_cells }
     ensures { (result ≡ power_on personality) × (page.new ≡ blank) }
 {
-    let on = terminal::power_on(page, personality);
-    on.state
+    terminal::power_on(page, personality).state
 }
 
 // Power-on, and the conversion to the other width. It is never refused: a blank page loses nothing, and nothing is sent.
@@ -59,8 +53,7 @@ fn start_wide(page: &mut [u16], personality: Personality) -> State
 {
     let mut narrow = [0u16; 1920];
     let state = start_narrow(&mut narrow, personality);
-    let there = terminal::convert(&narrow, state, page);
-    there.state
+    terminal::convert(&narrow, state, page).unwrap_or(state)
 }
 
 fn start(page: &mut [u16], wide: bool, personality: Personality) -> State
@@ -77,59 +70,56 @@ fn start(page: &mut [u16], wide: bool, personality: Personality) -> State
 fn begun(state: State) -> Played
     ensures { result.state ≡ state }
 {
-    let none = Refusals {
-        high: 0,
-        unknown: 0,
-        argument: 0,
-        barred: 0,
-        other: 0,
-    };
     Played {
-        state: state,
-        refusals: none,
+        state,
+        refusals: Refusals {
+            high: 0,
+            unknown: 0,
+            argument: 0,
+            barred: 0,
+            other: 0,
+        },
         bytes: 0,
         replied: 0,
         kept: 0,
         clean: true,
-        going: true,
     }
-}
-
-// 1 for a byte that was not taken.
-fn missed(taken: bool) -> u64 {
-    if taken { 0 } else { 1 }
 }
 
 fn counted(r: Refusals, a: Answer, taken: bool) -> Refusals {
-    let mut t = r;
     match a {
-        Answer::Done => t.other = wrapping_add_u64(r.other, missed(taken)),
-        Answer::HighByte => t.high = wrapping_add_u64(r.high, 1),
-        Answer::Unknown => t.unknown = wrapping_add_u64(r.unknown, 1),
-        Answer::BadArgument => t.argument = wrapping_add_u64(r.argument, 1),
-        Answer::Barred => t.barred = wrapping_add_u64(r.barred, 1),
-        Answer::NoRoom => t.other = wrapping_add_u64(r.other, 1),
-        Answer::BadCall => t.other = wrapping_add_u64(r.other, 1),
-        Answer::Locked => t.other = wrapping_add_u64(r.other, 1),
+        Answer::Done if taken => r,
+        Answer::HighByte => Refusals {
+            high: r.high.wrapping_add(1),
+            ..r
+        },
+        Answer::Unknown => Refusals {
+            unknown: r.unknown.wrapping_add(1),
+            ..r
+        },
+        Answer::BadArgument => Refusals {
+            argument: r.argument.wrapping_add(1),
+            ..r
+        },
+        Answer::Barred => Refusals {
+            barred: r.barred.wrapping_add(1),
+            ..r
+        },
+        Answer::Done | Answer::NoRoom | Answer::BadCall | Answer::Locked => Refusals {
+            other: r.other.wrapping_add(1),
+            ..r
+        },
     }
-    t
 }
 
-// One byte more in the log, if it has room; answers how many it holds then.
-fn keep_byte(log: &mut [u8], at: usize, b: u8) -> usize {
-    if at < log.len() {
-        log[at] = b;
-        return at + 1;
-    }
-    at
-}
-
+// Bytes more in the log, as far as it has room; answers how many it holds then.
 fn keep(log: &mut [u8], at: usize, bytes: &[u8]) -> usize {
     let mut n = at;
-    let mut i = 0;
-    while i < bytes.len() {
-        n = keep_byte(log, n, bytes[i]);
-        i += 1;
+    for b in bytes {
+        if n < log.len() {
+            log[n] = *b;
+            n += 1;
+        }
     }
     n
 }
@@ -138,21 +128,14 @@ fn keep(log: &mut [u8], at: usize, bytes: &[u8]) -> usize {
 fn step(page: &mut [u16], p: Played, byte: u8, room: &mut [u8], log: &mut [u8]) -> Played
     ensures { Took (step_rule page.old p.state byte (length room.old)) result.state page.new }
 {
-    let state = p.state;
-    let r = terminal::step(page, state, byte, room);
-    let next = r.state;
-    let n = r.replied;
-    let answer = r.answer;
-    let old = p.refusals;
-    let refusals = counted(old, answer, r.taken);
+    let r = terminal::step(page, p.state, byte, room);
     Played {
-        state: next,
-        refusals: refusals,
-        bytes: wrapping_add_u64(p.bytes, 1),
-        replied: wrapping_add_u64(p.replied, n as u64),
-        kept: keep(log, p.kept, &room[..n]),
-        clean: p.clean,
-        going: true,
+        state: r.state,
+        refusals: counted(p.refusals, r.answer, r.taken),
+        bytes: p.bytes.wrapping_add(1),
+        replied: p.replied.wrapping_add(r.replied as u64),
+        kept: keep(log, p.kept, &room[..r.replied]),
+        ..p
     }
 }
 
@@ -160,28 +143,13 @@ fn step(page: &mut [u16], p: Played, byte: u8, room: &mut [u8], log: &mut [u8]) 
 fn resume(page: &mut [u16], p: Played, room: &mut [u8], log: &mut [u8]) -> Played
     ensures { Ended (run_rule page.old p.state [] (length room.old)) result.state page.new }
 {
-    let state = p.state;
-    let r = terminal::run(page, state, b"", room);
-    let next = r.state;
-    let n = r.replied;
-    let refusals = p.refusals;
+    let r = terminal::run(page, p.state, b"", room);
     Played {
-        state: next,
-        refusals: refusals,
-        bytes: p.bytes,
-        replied: wrapping_add_u64(p.replied, n as u64),
-        kept: keep(log, p.kept, &room[..n]),
-        clean: p.clean,
-        going: true,
+        state: r.state,
+        replied: p.replied.wrapping_add(r.replied as u64),
+        kept: keep(log, p.kept, &room[..r.replied]),
+        ..p
     }
-}
-
-fn sends(p: Played) -> bool
-    ensures { result ≡ sending p.state.sending }
-{
-    let state = p.state;
-    let sending = state.sending;
-    is_sending(sending)
 }
 
 // It goes on until it is over. Each time it sends a byte at least.
@@ -190,27 +158,12 @@ fn finish(page: &mut [u16], p: Played, room: &mut [u8], log: &mut [u8]) -> Playe
         → watch page.new d result.state ≡ finished (length room.old) most_times (watch page.old d p.state) }
 {
     let mut t = p;
-    let mut left = LONGEST;
-    while 0 < left {
-        if !sends(t) {
+    for i in 0..LONGEST {
+        if !is_sending(t.state.sending) {
             return t;
         }
-        let u = resume(page, t, room, log);
-        t = u;
-        left -= 1;
+        t = resume(page, t, room, log);
     }
-    t
-}
-
-// What is told of a page that had to stay the same.
-fn compared(p: Played, same: bool) -> Played
-    ensures { result.state ≡ p.state }
-{
-    let mut t = p;
-    if same {
-        return t;
-    }
-    t.clean = false;
     t
 }
 
@@ -226,9 +179,12 @@ fn step_high(
     requires { length page.old ≡ length before.old }
     ensures { Took (step_rule page.old p.state byte (length room.old)) result.state page.new }
 {
-    copy(page, before);
+    before.copy_from_slice(page);
     let t = step(page, p, byte, room, log);
-    compared(t, same(page, before))
+    Played {
+        clean: t.clean && *page == *before,
+        ..t
+    }
 }
 
 fn take(
@@ -243,15 +199,10 @@ fn take(
     ensures { Took (step_rule page.old p.state byte (length room.old)) result.state page.new }
 {
     if byte < 0x80 {
-        return step(page, p, byte, room, log);
+        step(page, p, byte, room, log)
+    } else {
+        step_high(page, before, p, byte, room, log)
     }
-    step_high(page, before, p, byte, room, log)
-}
-
-fn protects(p: Played) -> bool
-    ensures { result ≡ p.state.core.modes.protect }
-{
-    p.state.core.modes.protect
 }
 
 // Where protect mode has just gone on, the page is kept as the host drew it.
@@ -259,11 +210,8 @@ fn remember(page: &[u16], drawn: &mut [u16], was: bool, is: bool)
     requires { length page.now ≡ length drawn.old }
     ensures { drawn.new ≡ pick (goes_on was is) page.now drawn.old }
 {
-    if was {
-        return;
-    }
-    if is {
-        copy(page, drawn);
+    if is && !was {
+        drawn.copy_from_slice(page);
     }
 }
 
@@ -281,7 +229,12 @@ fn obey(
         ≡ watched (length room.old) (watch page.old drawn.old p.state) byte }
 {
     let t = take(page, before, p, byte, room, log);
-    remember(page, drawn, protects(p), protects(t));
+    remember(
+        page,
+        drawn,
+        p.state.core.modes.protect,
+        t.state.core.modes.protect,
+    );
     finish(page, t, room, log)
 }
 
@@ -299,24 +252,13 @@ fn feed(
         (watch page.new drawn.new result.state) }
 {
     let mut t = p;
-    let mut i = 0;
-    while i < input.len() {
-        let u = obey(page, before, drawn, t, input[i], room, log);
-        t = u;
-        i += 1;
+    for b in input {
+        t = obey(page, before, drawn, t, *b, room, log);
     }
     t
 }
 
-fn ended(p: Played) -> Played
-    ensures { result.state ≡ p.state }
-{
-    let mut t = p;
-    t.going = false;
-    t
-}
-
-// One piece of the stream, of any size. Where reading fails nothing is played.
+// One piece of the stream, of any size; none at its end. Where reading fails nothing is played.
 fn piece(
     host: &mut impl Read,
     page: &mut [u16],
@@ -325,21 +267,21 @@ fn piece(
     p: Played,
     room: &mut [u8],
     log: &mut [u8],
-) -> io::Result<Played>
+) -> io::Result<Option<Played>>
     requires { (length page.old ≡ length before.old) × (length page.old ≡ length drawn.old) }
     ensures fed { IfOk result (λ r. Fed (length room.old) (watch page.old drawn.old p.state)
-        (watch page.new drawn.new r.state)) }
+        (watch page.new drawn.new (unwrap_or r p).state)) }
     ensures err { OnErr result ((page.new ≡ page.old) × (drawn.new ≡ drawn.old)) }
 {
     let mut input = [0u8; 4096];
     let n = host.read(&mut input)?;
     if n == 0 {
-        return Ok(ended(p));
+        return Ok(None);
     }
-    Ok(feed(page, before, drawn, p, &input[..n], room, log))
+    Ok(Some(feed(page, before, drawn, p, &input[..n], room, log)))
 }
 
-// All pieces. A proved loop has to end, and nothing says that a stream does: the count falls from a number that no stream uses up.
+// All pieces. A proved loop has to end, and nothing says that a stream does: it counts to a number that no stream uses up.
 // Where reading fails, the pages are as the pieces before left them.
 fn pieces(
     host: &mut impl Read,
@@ -357,14 +299,12 @@ fn pieces(
         (watch page.new drawn.new s)) }
 {
     let mut p = start;
-    let mut left = u64::MAX;
-    while 0 < left {
-        let t = piece(host, page, before, drawn, p, room, log)?;
-        p = t;
-        if !p.going {
+    for i in 0..u64::MAX {
+        let next = piece(host, page, before, drawn, p, room, log)?;
+        let Some(t) = next else {
             break;
-        }
-        left -= 1;
+        };
+        p = t;
     }
     Ok(p)
 }

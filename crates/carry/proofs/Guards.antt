@@ -4,7 +4,7 @@
 -- Assumes nothing.
 use Rattle.std.specs.Prelude.{◌≡◌, ℕ, zero, suc, ◌+◌, ◌-◌, ◌*◌, Bool, true, false, List, [], ◌∷◌, ◌++◌, length, get_or, take, drop, set, replicate}
 use mathlib.Core.Path.{refl, sym, ap, ap₂, ◌∙◌}
-use mathlib.Core.Bool.{false≢true, beq}
+use mathlib.Core.Bool.{not, false≢true, beq}
 use native.Mathlib.Nat.{sub-zero, suc_inj, suc-ne-zero}
 use native.Mathlib.Numerals.{add-one}
 use native.Mathlib.Omega.{arith}
@@ -148,6 +148,10 @@ same_mode true true e = refl
 same_mode true false e = absurd (false≢true e)
 same_mode false true e = absurd (false≢true e)
 same_mode false false e = refl
+
+pub both_hold : (a b : Bool) → not a ≡ false → b ≡ true → both a b ≡ true
+both_hold true b h e = e
+both_hold false b h e = absurd (false≢true (sym h))
 
 -- a write and the mode after it
 pub mode_kept : (w : ℕ) (on after : Bool) (x : Write) (p : List ℕ) → both (beq on after) (keeps_guards on x) ≡ true

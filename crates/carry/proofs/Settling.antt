@@ -35,12 +35,13 @@ module _ (x : Screen) (ok : screen_ok x ≡ true) {i : ℕ} (good : GoodLand x (
         omega (arith, good)
 
     -- by the row list
-    pub rows_asked : {w : ℕ} → w ≡ width_of x → (on : Bool) {rows : List ℕ} → rows ≡ row_list (width_of x) (guarded_at on p)
-        → Width w × ((length p ≡ 24 * w) × ((rows ≡ row_list w (guarded_at on p)) × ((a < e) × ((i < e) × ((e ≤ 24 * w) × (e / w * w ≡ e))))))
-    rows_asked wide on list =
+    pub rows_asked : (on : Bool) {rows : List ℕ} → rows ≡ row_list (width_of x) (guarded_at on p)
+        → let w = width_of x in
+        (length p ≡ 24 * w) × ((rows ≡ row_list w (guarded_at on p)) × ((a < e) × ((i < e) × ((e ≤ 24 * w) × (e / w * w ≡ e)))))
+    rows_asked on list =
         let inside = screen_inside x ok in
         let whole = rows_whole (columns_width x.wide) (segment_bottom x) in
-        rw (wide, last) (columns_width x.wide, (long, (list, (omega (arith, inside), (omega (arith, good), (omega (arith, inside), whole))))))
+        rw last (long, (list, (omega (arith, inside), (omega (arith, good), (omega (arith, inside), whole)))))
 
   pub settle_range : (on : Bool) {n : ℕ} → n ≡ settled (guarded_at on p) (segment_start x) (segment_end x) i → n < 3168
   settle_range on h =

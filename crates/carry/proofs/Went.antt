@@ -95,12 +95,12 @@ text_good x segment (Place.Cell i) g = omega (arith, g)
 text_good x segment (Place.Break i) g = (g.0, omega (arith, g.1))
 text_good x segment Place.Return g = g
 
-pub text_needs : (s : Screen) (p : List ℕ) {x : Sending} {all segment : Bool} {at : Place} {m k : ℕ} → length p ≡ page_length s → screen_ok s ≡ true
-    → GoodSend s x → x ≡ Sending.Text all segment at → m ≡ width_of s → k ≡ cursor_of s
-    → Width m × (GoodAt m (k + 1) at × ((k + 1 ≤ length p) × (length p ≡ 24 * m)))
-text_needs s p {x} {all} {segment} {at} h ok g e em ek =
+pub text_needs : (s : Screen) (p : List ℕ) {x : Sending} {all segment : Bool} {at : Place} {k : ℕ} → length p ≡ page_length s → screen_ok s ≡ true
+    → GoodSend s x → x ≡ Sending.Text all segment at → k ≡ cursor_of s
+    → let w = width_of s in GoodAt w (k + 1) at × ((k + 1 ≤ length p) × (length p ≡ 24 * w))
+text_needs s p {x} {all} {segment} {at} h ok g e ek =
     let l : GoodSend s (Sending.Text all segment at) = subst (GoodSend s) e g in
-    rw (em, ek) (columns_width s.wide, (text_good s segment at l, (omega (arith, h, screen_inside s ok), h)))
+    rw ek (text_good s segment at l, (omega (arith, h, screen_inside s ok), h))
 
 -- ---- a possible screen
 

@@ -11,7 +11,7 @@ use page::rows::settle_rows;
 use page::search::settle;
 use rules::{Core, Land, Screen};
 use state::core_parts::with_screen;
-use state::screen::{segment_end, segment_start, width_of, with_cursor};
+use state::screen::{segment_end, segment_start, with_cursor};
 
 // Settle from a cell of the active segment: by the row list, or by the cells where there is none.
 fn settle_in(page: &[u16], rows: &[u16], x: Screen, protect: bool, from: u16) -> usize
@@ -21,11 +21,10 @@ fn settle_in(page: &[u16], rows: &[u16], x: Screen, protect: bool, from: u16) ->
 {
     let first = segment_start(x) as usize;
     let end = segment_end(x) as usize;
-    if rows.len() == 0 {
+    if rows.is_empty() {
         return settle(page, protect, first, end, from as usize);
     }
-    let width = width_of(x) as usize;
-    settle_rows(page, rows, width, protect, first, end, from as usize)
+    settle_rows(page, rows, x.wide, protect, first, end, from as usize)
 }
 
 pub fn land(page: &[u16], rows: &[u16], core: Core, l: Land) -> Core

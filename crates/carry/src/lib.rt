@@ -18,7 +18,6 @@ pub mod writes; // what is written
 use landing::land;
 use replies::send;
 use rules::{Answer, Change, Core, CoreResult, Plan, SetupChange};
-use state::screen::width_of;
 use state::sending::is_sending;
 use writes::{keep_list, write_both};
 
@@ -30,7 +29,7 @@ fn begin(page: &[u16], rows: &mut [u16], core: Core, plan: Plan, room: &mut [u8]
         room.new × BesideAfter (plan_width plan) (carried page.now core plan (length room.old)) rows.new }
 {
     let next = plan.next;
-    if room.len() == 0 {
+    if room.is_empty() {
         return CoreResult {
             answer: Answer::NoRoom,
             replied: 0,
@@ -38,20 +37,19 @@ fn begin(page: &[u16], rows: &mut [u16], core: Core, plan: Plan, room: &mut [u8]
             change: Change::Set(SetupChange::Nothing),
         };
     }
-    let screen = next.screen;
-    let width = width_of(screen) as usize;
-    keep_list(rows, page, width, core.modes.protect, next.modes.protect);
-    let reply = plan.reply;
-    let sent = send(page, next, reply, room);
-    let n = sent.replied;
-    let left = sent.left;
-    let answer = plan.answer;
-    let change = Change::Send(left);
+    keep_list(
+        rows,
+        page,
+        next.screen.wide,
+        core.modes.protect,
+        next.modes.protect,
+    );
+    let sent = send(page, next, plan.reply, room);
     CoreResult {
-        answer: answer,
-        replied: n,
+        answer: plan.answer,
+        replied: sent.replied,
         core: next,
-        change: change,
+        change: Change::Send(sent.left),
     }
 }
 
@@ -68,26 +66,23 @@ pub fn carry_out(
     ensures { Carried (carried page.old core plan (length room.old)) result page.new room.old
         room.new × BesideAfter (plan_width plan) (carried page.old core plan (length room.old)) rows.new }
 {
-    let reply = plan.reply;
-    if is_sending(reply) {
+    if is_sending(plan.reply) {
         return begin(page, rows, core, plan, room);
     }
-    let on = core.modes.protect;
-    let screen = plan.next.screen;
-    let width = width_of(screen) as usize;
-    let first = plan.first;
-    let second = plan.second;
     let next = plan.next;
-    write_both(page, rows, width, on, next.modes.protect, first, second);
-    let place = plan.land;
-    let c = land(page, rows, next, place);
-    let answer = plan.answer;
-    let x = plan.change;
-    let change = Change::Set(x);
+    write_both(
+        page,
+        rows,
+        next.screen.wide,
+        core.modes.protect,
+        next.modes.protect,
+        plan.first,
+        plan.second,
+    );
     CoreResult {
-        answer: answer,
+        answer: plan.answer,
         replied: 0,
-        core: c,
-        change: change,
+        core: land(page, rows, next, plan.land),
+        change: Change::Set(plan.change),
     }
 }

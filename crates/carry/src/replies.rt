@@ -10,7 +10,7 @@ ghost use Rattle.carry.specs.Went.{Went};
 use page::text::{Sent, send_bytes, send_cell, send_text};
 use rules::{Core, Personality, Screen, Sending, Short};
 use state::screen;
-use state::screen::{cursor_of, segment_top, width_of};
+use state::screen::{cursor_of, segment_top};
 
 // The cursor's row from the segment's top, and its column, from 0.
 fn cursor_row(x: Screen) -> u8
@@ -109,9 +109,8 @@ pub fn send(page: &[u16], core: Core, sending: Sending, room: &mut [u8]) -> Sent
         Sending::Short(reply, n) => send_short(page, core, reply, n, room),
         Sending::Text { all, segment, at } => {
             let x = core.screen;
-            let width = width_of(x) as usize;
             let to = cursor_of(x) as usize + 1;
-            send_text(room, page, width, to, all, segment, at)
+            send_text(room, page, x.wide, to, all, segment, at)
         }
     }
 }

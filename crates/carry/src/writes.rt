@@ -1,7 +1,6 @@
 // What a plan writes to the page, and the row list after it.
-ghost use Rattle.std.specs.Prelude.{◌≡◌, ◌*◌, true, length};
-ghost use Rattle.rules.specs.Row.{Width};
-ghost use Rattle.rules.specs.declared.Write.TheVariants as Write;
+ghost use Rattle.std.specs.Prelude.{◌≡◌, ◌*◌, length};
+ghost use Rattle.rules.specs.Row.{columns};
 ghost use Rattle.rules.specs.Theorems.Good.{GoodWrite};
 ghost use Rattle.rules.specs.Carry.{applied};
 ghost use Rattle.rules.specs.Search.{guarded_at};
@@ -11,13 +10,12 @@ ghost use Rattle.carry.specs.Rows.{keeps_guards as keeps_of, touched_top, touche
 use page::cell::is_guarded;
 use page::change::{fill_cells, fill_column, shift_edit_run, shift_rows};
 use page::rows::{rebuild, recount};
-use page::search::row_of;
+use page::search::{columns, row_of};
 use rules::Write;
-use state::logic::and;
 
-pub fn write(page: &mut [u16], width: usize, on: bool, w: Write)
-    requires { (length page.old ≡ 24 * width) × (GoodWrite width w × Width width) }
-    ensures { page.new ≡ applied width on w page.old }
+pub fn write(page: &mut [u16], wide: bool, on: bool, w: Write)
+    requires { (length page.old ≡ 24 * columns wide) × GoodWrite (columns wide) w }
+    ensures { page.new ≡ applied (columns wide) on w page.old }
 {
     match w {
         Write::Nothing => {}
@@ -37,7 +35,7 @@ pub fn write(page: &mut [u16], width: usize, on: bool, w: Write)
         } => {
             fill_column(
                 page,
-                width,
+                wide,
                 on,
                 top as usize,
                 bottom as usize,
@@ -47,7 +45,7 @@ pub fn write(page: &mut [u16], width: usize, on: bool, w: Write)
         }
         Write::Edit { right, at, value } => shift_edit_run(
             page,
-            width,
+            wide,
             on,
             right,
             at as usize,
@@ -55,7 +53,7 @@ pub fn write(page: &mut [u16], width: usize, on: bool, w: Write)
         ),
         Write::Rows { down, top, bottom } => shift_rows(
             page,
-            width,
+            wide,
             down,
             top as usize,
             bottom as usize,
@@ -63,25 +61,15 @@ pub fn write(page: &mut [u16], width: usize, on: bool, w: Write)
     }
 }
 
-// Whether it writes no cell.
-fn is_nothing(w: Write) -> bool
-    ensures { result ≡ true → w ≡ Write.Nothing }
-{
-    match w {
-        Write::Nothing => true,
-        _ => false,
-    }
-}
-
 // The same, without a call for a write of nothing.
-fn write_some(page: &mut [u16], width: usize, on: bool, w: Write)
-    requires { (length page.old ≡ 24 * width) × (GoodWrite width w × Width width) }
-    ensures { page.new ≡ applied width on w page.old }
+fn write_some(page: &mut [u16], wide: bool, on: bool, w: Write)
+    requires { (length page.old ≡ 24 * columns wide) × GoodWrite (columns wide) w }
+    ensures { page.new ≡ applied (columns wide) on w page.old }
 {
-    if is_nothing(w) {
+    if let Write::Nothing = w {
         return;
     }
-    write(page, width, on, w);
+    write(page, wide, on, w);
 }
 
 // Whether a write leaves which cells are guarded as it is.
@@ -90,32 +78,10 @@ fn keeps_guards(on: bool, w: Write) -> bool
 {
     match w {
         Write::Nothing => true,
-        Write::Fill {
-            from: _,
-            to: _,
-            value,
-        } => !is_guarded(on, value),
-        Write::FillAll {
-            from: _,
-            to: _,
-            value: _,
-        } => !on,
-        Write::Column {
-            top: _,
-            bottom: _,
-            column: _,
-            value,
-        } => !is_guarded(on, value),
-        Write::Edit {
-            right: _,
-            at: _,
-            value,
-        } => !is_guarded(on, value),
-        Write::Rows {
-            down: _,
-            top: _,
-            bottom: _,
-        } => !on,
+        Write::Fill { value, .. } | Write::Column { value, .. } | Write::Edit { value, .. } => {
+            !is_guarded(on, value)
+        }
+        Write::FillAll { .. } | Write::Rows { .. } => !on,
     }
 }
 
@@ -126,47 +92,26 @@ struct RowSpan {
     bottom: usize,
 }
 
-fn touched(width: usize, w: Write) -> RowSpan
-    requires { Width width }
-    ensures { (result.top ≡ touched_top width w) × (result.bottom ≡ touched_bottom width w) }
+fn touched(wide: bool, w: Write) -> RowSpan
+    ensures { (result.top ≡ touched_top (columns wide) w) × (result.bottom ≡ touched_bottom (columns wide) w) }
 {
     match w {
         Write::Nothing => RowSpan { top: 0, bottom: 0 },
-        Write::Fill { from, to, value: _ } => {
-            let top = row_of(width, from as usize);
-            let bottom = row_of(width, to as usize + (width - 1));
+        Write::Fill { from, to, .. } => RowSpan {
+            top: row_of(wide, from as usize),
+            bottom: row_of(wide, to as usize + (columns(wide) - 1)),
+        },
+        Write::Edit { at, .. } => {
+            let top = row_of(wide, at as usize);
             RowSpan {
-                top: top,
-                bottom: bottom,
+                top,
+                bottom: top + 1,
             }
         }
-        Write::FillAll {
-            from: _,
-            to: _,
-            value: _,
-        } => RowSpan { top: 0, bottom: 24 },
-        Write::Column {
-            top: _,
-            bottom: _,
-            column: _,
-            value: _,
-        } => RowSpan { top: 0, bottom: 24 },
-        Write::Edit {
-            right: _,
-            at,
-            value: _,
-        } => {
-            let row = row_of(width, at as usize);
-            RowSpan {
-                top: row,
-                bottom: row + 1,
-            }
-        }
-        Write::Rows {
-            down: _,
-            top: _,
-            bottom: _,
-        } => RowSpan { top: 0, bottom: 24 },
+        Write::FillAll { .. } | Write::Column { .. } | Write::Rows { .. } => RowSpan {
+            top: 0,
+            bottom: 24,
+        },
     }
 }
 
@@ -174,45 +119,40 @@ fn touched(width: usize, w: Write) -> RowSpan
 pub fn write_both(
     page: &mut [u16],
     rows: &mut [u16],
-    width: usize,
+    wide: bool,
     on: bool,
     after: bool,
     first: Write,
     second: Write,
 )
-    requires { (length page.old ≡ 24 * width)
-        × (GoodWrite width first × (GoodWrite width second × (Width width × Beside width (guarded_at on page.old) rows.old))) }
-    ensures { (page.new ≡ applied width on second (applied width on first page.old))
-        × Beside width (guarded_at after page.new) rows.new }
+    requires { (length page.old ≡ 24 * columns wide)
+        × (GoodWrite (columns wide) first
+        × (GoodWrite (columns wide) second × Beside (columns wide) (guarded_at on page.old) rows.old)) }
+    ensures { (page.new ≡ applied (columns wide) on second (applied (columns wide) on first page.old))
+        × Beside (columns wide) (guarded_at after page.new) rows.new }
 {
-    write_some(page, width, on, first);
-    write_some(page, width, on, second);
-    if rows.len() == 0 {
+    write_some(page, wide, on, first);
+    write_some(page, wide, on, second);
+    if rows.is_empty() {
         return;
     }
-    if !and(on == after, keeps_guards(on, second)) {
-        rebuild(rows, page, width, after);
+    if on != after || !keeps_guards(on, second) {
+        rebuild(rows, page, wide, after);
         return;
     }
     if keeps_guards(on, first) {
         return;
     }
-    let t = touched(width, first);
-    let top = t.top;
-    let bottom = t.bottom;
-    recount(rows, page, width, after, top, bottom);
+    let RowSpan { top, bottom } = touched(wide, first);
+    recount(rows, page, wide, after, top, bottom);
 }
 
 // The row list where nothing is written; protect mode becomes `after`.
-pub fn keep_list(rows: &mut [u16], page: &[u16], width: usize, on: bool, after: bool)
-    requires { (length page.now ≡ 24 * width) × (Width width × Beside width (guarded_at on page.now) rows.old) }
-    ensures { Beside width (guarded_at after page.now) rows.new }
+pub fn keep_list(rows: &mut [u16], page: &[u16], wide: bool, on: bool, after: bool)
+    requires { (length page.now ≡ 24 * columns wide) × Beside (columns wide) (guarded_at on page.now) rows.old }
+    ensures { Beside (columns wide) (guarded_at after page.now) rows.new }
 {
-    if rows.len() == 0 {
-        return;
+    if !rows.is_empty() && on != after {
+        rebuild(rows, page, wide, after);
     }
-    if on == after {
-        return;
-    }
-    rebuild(rows, page, width, after);
 }

@@ -1,7 +1,7 @@
 -- How a reply to ESC 5 is counted.
 --     replies_count     the statement of specs/Ask
 -- Assumes nothing.
-use mathlib.Core.Path.{◌≡◌, refl, sym, ap, ◌∙◌}
+use mathlib.Core.Path.{◌≡◌, refl, sym, ◌∙◌}
 use mathlib.Core.Bool.{Bool, true, false, not}
 use mathlib.Core.List.{List, [], ◌∷◌, ◌++◌}
 use Prim.Native.Nat.{ℕ, zero, suc, ◌+◌, ◌-◌, ◌<◌}
@@ -11,12 +11,13 @@ use lib.ListN.{length, get_or, take, drop, length-append}
 use lib.Seq.{take-append_seam, get_or-append_seam}
 use borrow.Author.Tests.{eqb-true, not-false, ltb-true}
 use Rattle.rules.specs.Cell.{pick, either, between}
-use Rattle.counter.specs.declared.Counted.{Counted}
+use Rattle.std.specs.Prelude.{Err}
+use Rattle.counter.specs.declared.Refusal.{Refusal}
 use Rattle.counter.specs.Alphabet.{space, backquote, in_alphabet, units, first_outside}
 use Rattle.counter.specs.Pieces.{returns, before, is_mark, onto, cut_at_marks, pieces, joined, whole}
 use Rattle.rules.specs.Fields.{kept, trimmed}
 use Rattle.counter.specs.Parts.{parts}
-use Rattle.counter.specs.Count.{capped, sized, text_count, in_order, count_rule}
+use Rattle.counter.specs.Count.{Counted, of_units, capped, sized, text_count, in_order, count_rule}
 use Rattle.counter.specs.Ask.{is_sent, AllSent, none, more, Replies, RepliesCount}
 
 -- ---- the pieces are text alone
@@ -128,29 +129,19 @@ reply_before x =
 
 -- a count by its tests, once the CR is there
 abbrev ranged : Bool → Bool → Bool → ℕ → ℕ → ℕ → Counted
-ranged a b t k u n = pick a (pick b (pick t (Counted.BadByte k) (Counted.Text u n)) Counted.BadLast) Counted.BadFirst
+ranged a b t k u n = pick a (pick b (pick t (Err (Refusal.BadByte k)) (of_units u n)) (Err Refusal.BadLast)) (Err Refusal.BadFirst)
 
--- the number of each answer, and a refused byte's place
-number : Counted → ℕ
-number (Counted.Text u n) = 0
-number Counted.NoReturn = 1
-number Counted.BadFirst = 2
-number Counted.BadLast = 3
-number (Counted.BadByte n) = 4 + n
+never_return : (a b t : Bool) (k u n : ℕ) → ranged a b t k u n ≡ Err Refusal.NoReturn → ⊥
+never_return true true true k u n e = cc
+never_return true true false k u n e = cc
+never_return true false t k u n e = cc
+never_return false b t k u n e = cc
 
-never_return : (a b t : Bool) (k u n : ℕ) → ranged a b t k u n ≡ Counted.NoReturn → ⊥
-unfolding number
-never_return true true true k u n e = let z = ap number e in omega (arith, z)
-never_return true true false k u n e = let z = ap number e in omega (arith, z)
-never_return true false t k u n e = let z = ap number e in omega (arith, z)
-never_return false b t k u n e = let z = ap number e in omega (arith, z)
-
-refused_place : (a b t : Bool) (k u n m : ℕ) → ranged a b t k u n ≡ Counted.BadByte m → (t ≡ true) × (m ≡ k)
-unfolding number
-refused_place true true true k u n m e = let z = ap number e in (refl, omega (arith, z))
-refused_place true true false k u n m e = let z = ap number e in absurd (omega (arith, z))
-refused_place true false t k u n m e = let z = ap number e in absurd (omega (arith, z))
-refused_place false b t k u n m e = let z = ap number e in absurd (omega (arith, z))
+refused_place : (a b t : Bool) (k u n m : ℕ) → ranged a b t k u n ≡ Err (Refusal.BadByte m) → (t ≡ true) × (m ≡ k)
+refused_place true true true k u n m e = (refl, cc)
+refused_place true true false k u n m e = absurd (cc)
+refused_place true false t k u n m e = absurd (cc)
+refused_place false b t k u n m e = absurd (cc)
 
 module _ (r : List ℕ) (first last : ℕ) (x : Replies r) where
   abbrev text : List ℕ
@@ -167,7 +158,7 @@ module _ (r : List ℕ) (first last : ℕ) (x : Replies r) where
   whole_text =
       rw (reply_returns x, reply_before x) (each_joined (each_take (last + 1 - first) (each_drop (first - 1) (each_cut x.sent))))
 
-  refused_byte : (n : ℕ) → count_rule r first last ≡ Counted.BadByte n → get_or (whole r first last) n 0 ≡ backquote
+  refused_byte : (n : ℕ) → count_rule r first last ≡ Err (Refusal.BadByte n) → get_or (whole r first last) n 0 ≡ backquote
   refused_byte n e =
       let y = refused_place (in_order first last) (leb last (length (pieces r)))
       (ltb (first_outside (trimmed (whole r first last))) (length (trimmed (whole r first last)))) (first_outside (trimmed (whole r first last)))
@@ -175,7 +166,7 @@ module _ (r : List ℕ) (first last : ℕ) (x : Replies r) where
       let h : first_outside (trimmed (whole r first last)) < length (trimmed (whole r first last)) = ltb-true _ _ y.0 in
       rw y.1 (sym (trimmed_place (whole r first last) (first_outside (trimmed (whole r first last))) h) ∙ first_refused (text_trimmed whole_text) h)
 
-  not_return : count_rule r first last ≡ Counted.NoReturn → ⊥
+  not_return : count_rule r first last ≡ Err Refusal.NoReturn → ⊥
   not_return e =
       never_return (in_order first last) (leb last (length (pieces r)))
       (ltb (first_outside (trimmed (whole r first last))) (length (trimmed (whole r first last)))) (first_outside (trimmed (whole r first last)))

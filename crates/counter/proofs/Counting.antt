@@ -6,32 +6,50 @@
 --     piece_zero, piece_beyond, piece_is     one of them
 --     part_to, part_ordered, part_within, part_pieces, part_piece     the part of a reply that pieces are
 -- Assumes nothing.
-use mathlib.Core.Path.{◌≡◌, refl, sym, ap, ap₂, ◌∙◌}
-use mathlib.Core.Bool.{Bool, true, false, false≢true}
-use mathlib.Core.List.{List, []}
+use mathlib.Core.Path.{◌≡◌, refl, sym, ap, ◌∙◌}
+use mathlib.Core.Bool.{Bool, true, false, ◌&&◌}
+use mathlib.Core.List.{List, [], ◌∷◌}
 use Prim.Native.Nat.{ℕ, suc, ◌+◌, ◌-◌, ◌≤◌, ◌<◌}
 use native.Mathlib.Omega.{arith}
 use lib.Dec.{leb, eqb}
-use lib.ListN.{length, get_or, take, drop, length-drop, take-append-drop, get_or-eq_default}
-use lib.Seq.{length-take-le, take-append-le, drop-append-le}
-use borrow.Author.Tests.{leb-true, le-leb, lt-leb, ne_eqb, eq-eqb, eqb-true, eqb-false}
+use lib.ListN.{length, get_or, take, drop, get_or-eq_default, drop_of_length-le}
+use lib.Seq.{drop-cons}
+use lib.Pointwise.{pointwise}
+use denote.Ref.{Bor}
+use Rattle.std.proofs.Common.{nat_eq, Option, Some, None, MatchOption}
+use borrow.Author.Tests.{leb-true, le-leb, lt-leb, ne_eqb, eq-eqb}
+use Rattle.rules.specs.Cell.{pick}
 use Rattle.rules.proofs.Tests.{both_parts}
-use Rattle.counter.specs.declared.Counted.{Counted}
-use Rattle.counter.specs.Pieces.{returns, before, pieces, piece_of, joined, whole}
-use Rattle.counter.specs.Count.{Numbers, numbers, text_count, in_order, count_rule, OneCount}
+use Rattle.std.specs.Prelude.{Ok, Err}
+use Rattle.counter.specs.declared.Refusal.{Refusal}
+use Rattle.counter.specs.Pieces.{returns, before, cut_at_marks, pieces, piece_of, joined, whole}
+use Rattle.counter.specs.Count.{Counted, Numbers, of_units, numbers, text_count, in_order, count_rule, OneCount}
 use Rattle.counter.specs.Walk.{remaining, marks_in, past}
 use Rattle.counter.proofs.Marks.{pieces_length, past_less, past_some, past_most, some_pieces, one_piece}
 
-pub no_return : (r : List ℕ) → length r ≡ 0 → false ≡ returns r
-unfolding returns
-no_return r e = rw (get_or-eq_default r 0 {n = length r - 1} (omega arith))
+and_true : (t : Bool) → t && true ≡ t
+and_true true = refl
+and_true false = refl
 
-pub some_byte : (r : List ℕ) → returns r ≡ true → 1 ≤ length r
-some_byte r e = by_test (eqb (length r) 0) refl
-  where
-    by_test : (t : Bool) → eqb (length r) 0 ≡ t → 1 ≤ length r
-    by_test true f = absurd (false≢true (no_return r (eqb-true _ _ f) ∙ e))
-    by_test false f = let n = eqb-false (length r) 0 f in omega arith
+-- a reply's last byte, compared with a CR
+ends : (r : List ℕ) → pointwise nat_eq (drop (length r - 1) r) (0x0d ∷ []) ≡ returns r
+unfolding returns
+ends [] = refl
+ends (b ∷ l) =
+    let h : length (b ∷ l) - 1 < length (b ∷ l) = omega arith in
+    let y : suc (length l) - 1 ≡ length l = omega arith in
+    let z : length l ≤ length l = omega arith in
+    rw (drop-cons (b ∷ l) (length (b ∷ l) - 1) 0 h, y, drop_of_length-le l z) (and_true _)
+
+abbrev Stripped : (r : List ℕ) → Option (Bor (List ℕ)) → Type 0
+Stripped r o =
+    MatchOption o (pointwise nat_eq (drop (length r - 1) r) (0x0d ∷ []) ≡ false)
+    (λ x. (pointwise nat_eq (drop (length r - 1) r) (0x0d ∷ []) ≡ true) × (x.now ≡ take (length r - 1) r) × (length x.now + 1 ≡ length r))
+
+pub return_cut : (r : List ℕ) (o : Option (Bor (List ℕ))) → length r ≤ 18446744073709551615 → Stripped r o
+    → MatchOption o (returns r ≡ false) (λ x. (returns r ≡ true) × (x.now ≡ before r) × (length x.now < 18446744073709551615))
+return_cut r None h k = sym (ends r) ∙ k
+return_cut r (Some x) h k = (sym (ends r) ∙ k.0, k.1, omega (arith, k.2))
 
 pub in_range : (first last : ℕ) → in_order first last ≡ true → (1 ≤ first) × (first ≤ last)
 in_range first last e = let p = both_parts (leb 1 first) (leb first last) e in (leb-true _ _ p.0, leb-true _ _ p.1)
@@ -42,122 +60,101 @@ pub pieces_none : (r : List ℕ) → returns r ≡ false → 0 ≡ length (piece
 unfolding pieces
 pieces_none r e = rw e
 
-pub pieces_some : (r : List ℕ) → returns r ≡ true → {n : ℕ} → n ≡ marks_in (before r) → n + 1 ≡ length (pieces r)
+pub pieces_some : (r : List ℕ) → returns r ≡ true → {l : List ℕ} → l ≡ before r → marks_in l + 1 ≡ length (pieces r)
 unfolding pieces
-pieces_some r e {n} f = rw e (omega (arith, pieces_length (before r)))
+pieces_some r e f = rw (e, f) (omega (arith, pieces_length (before r)))
 
--- a part of the text before the last byte is a part of the reply
-part_before : (r : List ℕ) (a k : ℕ) → a + k ≤ length r - 1 → take k (drop a (before r)) ≡ take k (drop a r)
-part_before r a k h =
-    let b : length (before r) ≡ length r - 1 = length-take-le (length r - 1) r (omega arith) in
-    let d : length (drop a (before r)) ≡ length (before r) - a = length-drop a (before r) in
-    sym (
-    ap (λ (l : List ℕ). take k (drop a l)) (sym (take-append-drop (length r - 1) r))
-    ∙ (ap (take k) (drop-append-le a (before r) (drop (length r - 1) r) (omega arith))
-    ∙ take-append-le k (drop a (before r)) (drop (length r - 1) r) (omega arith)))
+pieces_are : (r : List ℕ) → returns r ≡ true → {l : List ℕ} → l ≡ before r → pieces r ≡ cut_at_marks l
+unfolding pieces
+pieces_are r e f = rw (e, f)
 
--- the part of a reply from behind n marks up to mark number m
-module _ (r : List ℕ) (n m : ℕ) (x : returns r ≡ true) (h : n < m) (k : n < length (pieces r)) {a e : ℕ} (f : a ≡ past n (before r))
-    (g : e ≡ past m (before r)) where
-  marked : n ≤ marks_in (before r)
-  marked = omega (arith, pieces_some r x {n = marks_in (before r)} refl)
-
-  reply_length : length r ≡ suc (length (before r))
-  reply_length = omega (arith, length-take-le (length r - 1) r (omega arith), some_byte r x)
-
+-- the part of a text from behind n marks up to mark number m
+module _ (l : List ℕ) (n m : ℕ) (h : n < m) (k : n ≤ marks_in l) {a e : ℕ} (f : a ≡ past n l) (g : e ≡ past m l) where
   pub part_to : 1 ≤ e
-  part_to = omega (arith, past_some m (before r) (omega arith))
+  part_to = omega (arith, past_some m l (omega arith))
 
   pub part_ordered : a ≤ e - 1
-  part_ordered = omega (arith, past_less n m (before r) h marked)
+  part_ordered = omega (arith, past_less n m l h k)
 
-  pub part_within : e - 1 ≤ length r - 1
-  part_within = omega (arith, past_most m (before r), reply_length)
+  pub part_within : e - 1 ≤ length l
+  part_within = omega (arith, past_most m l)
 
-  part_lent : take (past m (before r) - 1 - past n (before r)) (drop (past n (before r)) (before r)) ≡ take (e - 1 - a) (drop a r)
-  part_lent = rw (← f, ← g) (part_before r a (e - 1 - a) (omega (arith, part_ordered, part_within)))
-
-  pub part_pieces : joined (take (m - n) (drop n (pieces r))) ≡ remaining true (take (e - 1 - a) (drop a r))
-  unfolding pieces
+  pub part_pieces : joined (take (m - n) (drop n (cut_at_marks l))) ≡ remaining true (take (e - 1 - a) (drop a l))
   part_pieces =
       let z : n + (m - n) ≡ m = omega arith in
-      rw x (some_pieces (before r) n (m - n) marked ∙ rw z (ap (remaining true) part_lent))
+      rw z at (some_pieces l n (m - n) k) ∙ rw (f, g)
 
-  pub part_piece : m ≡ n + 1 → take (e - 1 - a) (drop a r) ≡ get_or (pieces r) n []
-  unfolding pieces
-  part_piece z = rw x (sym (one_piece (before r) n marked ∙ rw (← z) part_lent))
+  pub part_piece : m ≡ n + 1 → take (e - 1 - a) (drop a l) ≡ get_or (cut_at_marks l) n []
+  part_piece z = rw (f, g, z) (sym (one_piece l n k))
 
 -- ---- a piece
 
 module _ (r : List ℕ) (n : ℕ) where
+  pub piece_unreturned : returns r ≡ false → [] ≡ piece_of r n
+  unfolding piece_of pieces
+  piece_unreturned e = rw e (by_test (eqb n 0))
+    where
+      by_test : (t : Bool) → ◌≡◌ {A = List ℕ} [] (pick t [] (get_or [] (n - 1) []))
+      by_test true = refl
+      by_test false = refl
+
   pub piece_zero : n < 1 → [] ≡ piece_of r n
   unfolding piece_of
   piece_zero h = rw (eq-eqb n 0 (omega arith))
 
-  pub piece_beyond : 1 ≤ n → length (pieces r) < n → [] ≡ piece_of r n
+  pub piece_beyond : returns r ≡ true → {l : List ℕ} → l ≡ before r → marks_in l + 1 < n → [] ≡ piece_of r n
   unfolding piece_of
-  piece_beyond h k = rw (ne_eqb n 0 (λ e. omega arith), get_or-eq_default (pieces r) [] {n = n - 1} (omega arith))
+  piece_beyond e f k =
+      rw (ne_eqb n 0 (λ e. omega arith), get_or-eq_default (pieces r) [] {n = n - 1} (omega (arith, pieces_some r e f)))
 
-  pub piece_is : 1 ≤ n → {l : List ℕ} → l ≡ get_or (pieces r) (n - 1) [] → l ≡ piece_of r n
+  pub piece_is : returns r ≡ true → {l : List ℕ} → l ≡ before r → 1 ≤ n → {p : List ℕ} → p ≡ get_or (cut_at_marks l) (n - 1) [] → p ≡ piece_of r n
   unfolding piece_of
-  piece_is h e = rw (ne_eqb n 0 (λ e. omega arith)) e
-
-pub some_pieces_return : (r : List ℕ) → 1 ≤ length (pieces r) → returns r ≡ true
-some_pieces_return r h = by_test (returns r) refl
-  where
-    by_test : (t : Bool) → returns r ≡ t → t ≡ true
-    by_test true e = refl
-    by_test false e = absurd (omega (arith, pieces_none r e))
+  piece_is e f h g = rw (ne_eqb n 0 (λ e. omega arith), pieces_are r e f) g
 
 -- ---- the answers
 
 module _ (r : List ℕ) (first last : ℕ) where
-  pub no_return_is : returns r ≡ false → numbers Counted.NoReturn ≡ numbers (count_rule r first last)
+  pub no_return_is : returns r ≡ false → numbers (Err Refusal.NoReturn) ≡ numbers (count_rule r first last)
   unfolding count_rule
   no_return_is e = rw e
 
-  pub bad_first_is : returns r ≡ true → in_order first last ≡ false → numbers Counted.BadFirst ≡ numbers (count_rule r first last)
+  pub bad_first_is : returns r ≡ true → in_order first last ≡ false → numbers (Err Refusal.BadFirst) ≡ numbers (count_rule r first last)
   unfolding count_rule
   bad_first_is e f = rw (e, f)
 
-  pub bad_last_is : returns r ≡ true → in_order first last ≡ true → length (pieces r) < last
-      → numbers Counted.BadLast ≡ numbers (count_rule r first last)
-  unfolding count_rule
-  bad_last_is e f h = rw (e, f, lt-leb last (length (pieces r)) h)
+  module _ (e : returns r ≡ true) {l : List ℕ} (g : l ≡ before r) (f : (1 ≤ first) × (first ≤ last)) where
+    is_in_order : in_order first last ≡ true
+    is_in_order = rw (le-leb 1 first f.0, le-leb first last f.1)
 
-  pub counted_is : returns r ≡ true → in_order first last ≡ true → last ≤ length (pieces r) → (l : List ℕ)
-      → joined (take (last - (first - 1)) (drop (first - 1) (pieces r))) ≡ remaining true l → {c : Counted}
-      → c ≡ text_count (remaining true l) → numbers c ≡ numbers (count_rule r first last)
-  unfolding count_rule whole
-  counted_is e f h l g k =
-      let z : last + 1 - first ≡ last - (first - 1) = omega (arith, in_range first last f) in
-      ap numbers k ∙ rw (e, f, le-leb last (length (pieces r)) h, z) (ap (λ (t : List ℕ). numbers (text_count t)) (sym g))
+    pub bad_last_is : marks_in l + 1 < last → numbers (Err Refusal.BadLast) ≡ numbers (count_rule r first last)
+    unfolding count_rule
+    bad_last_is h = rw (e, is_in_order, lt-leb last (length (pieces r)) (omega (arith, pieces_some r e g)))
+
+    pub counted_is : last ≤ marks_in l + 1 → (p : List ℕ) → joined (take (last - (first - 1)) (drop (first - 1) (cut_at_marks l))) ≡ remaining true p
+        → {c : Counted} → c ≡ text_count (remaining true p) → numbers c ≡ numbers (count_rule r first last)
+    unfolding count_rule whole
+    counted_is h p x k =
+        let z : last + 1 - first ≡ last - (first - 1) = omega arith in
+        let n : last ≤ length (pieces r) = omega (arith, h, pieces_some r e g) in
+        ap numbers k ∙ rw (e, is_in_order, le-leb last (length (pieces r)) n, z, pieces_are r e g) (ap (λ (t : List ℕ). numbers (text_count t)) (sym x))
 
 -- ---- the numbers
 
+-- the count that has these numbers
+unfoldable of_numbers : Numbers → Counted
+of_numbers k =
+    pick (eqb k.refusal 0) (of_units k.units k.parts)
+    (pick (eqb k.refusal 1) (Err Refusal.NoReturn)
+    (pick (eqb k.refusal 2) (Err Refusal.BadFirst)
+    (pick (eqb k.refusal 3) (Err Refusal.BadLast) (Err (Refusal.BadByte k.place)))))
+
+back : (c : Counted) → of_numbers (numbers c) ≡ c
+unfolding of_numbers
+back (Ok c) = refl
+back (Err Refusal.NoReturn) = refl
+back (Err Refusal.BadFirst) = refl
+back (Err Refusal.BadLast) = refl
+back (Err (Refusal.BadByte n)) = refl
+
 pub one_count : OneCount
-one_count (Counted.Text u n) (Counted.Text v m) e = ap₂ Counted.Text (ap (λ (k : Numbers). k.units) e) (ap (λ (k : Numbers). k.parts) e)
-one_count (Counted.Text u n) Counted.NoReturn e = absurd (omega (arith, ap (λ (k : Numbers). k.refusal) e))
-one_count (Counted.Text u n) Counted.BadFirst e = absurd (omega (arith, ap (λ (k : Numbers). k.refusal) e))
-one_count (Counted.Text u n) Counted.BadLast e = absurd (omega (arith, ap (λ (k : Numbers). k.refusal) e))
-one_count (Counted.Text u n) (Counted.BadByte m) e = absurd (omega (arith, ap (λ (k : Numbers). k.refusal) e))
-one_count Counted.NoReturn (Counted.Text v m) e = absurd (omega (arith, ap (λ (k : Numbers). k.refusal) e))
-one_count Counted.NoReturn Counted.NoReturn e = refl
-one_count Counted.NoReturn Counted.BadFirst e = absurd (omega (arith, ap (λ (k : Numbers). k.refusal) e))
-one_count Counted.NoReturn Counted.BadLast e = absurd (omega (arith, ap (λ (k : Numbers). k.refusal) e))
-one_count Counted.NoReturn (Counted.BadByte m) e = absurd (omega (arith, ap (λ (k : Numbers). k.refusal) e))
-one_count Counted.BadFirst (Counted.Text v m) e = absurd (omega (arith, ap (λ (k : Numbers). k.refusal) e))
-one_count Counted.BadFirst Counted.NoReturn e = absurd (omega (arith, ap (λ (k : Numbers). k.refusal) e))
-one_count Counted.BadFirst Counted.BadFirst e = refl
-one_count Counted.BadFirst Counted.BadLast e = absurd (omega (arith, ap (λ (k : Numbers). k.refusal) e))
-one_count Counted.BadFirst (Counted.BadByte m) e = absurd (omega (arith, ap (λ (k : Numbers). k.refusal) e))
-one_count Counted.BadLast (Counted.Text v m) e = absurd (omega (arith, ap (λ (k : Numbers). k.refusal) e))
-one_count Counted.BadLast Counted.NoReturn e = absurd (omega (arith, ap (λ (k : Numbers). k.refusal) e))
-one_count Counted.BadLast Counted.BadFirst e = absurd (omega (arith, ap (λ (k : Numbers). k.refusal) e))
-one_count Counted.BadLast Counted.BadLast e = refl
-one_count Counted.BadLast (Counted.BadByte m) e = absurd (omega (arith, ap (λ (k : Numbers). k.refusal) e))
-one_count (Counted.BadByte n) (Counted.Text v m) e = absurd (omega (arith, ap (λ (k : Numbers). k.refusal) e))
-one_count (Counted.BadByte n) Counted.NoReturn e = absurd (omega (arith, ap (λ (k : Numbers). k.refusal) e))
-one_count (Counted.BadByte n) Counted.BadFirst e = absurd (omega (arith, ap (λ (k : Numbers). k.refusal) e))
-one_count (Counted.BadByte n) Counted.BadLast e = absurd (omega (arith, ap (λ (k : Numbers). k.refusal) e))
-one_count (Counted.BadByte n) (Counted.BadByte m) e = ap Counted.BadByte (ap (λ (k : Numbers). k.place) e)
+one_count c d e = sym (back c) ∙ (ap of_numbers e ∙ back d)

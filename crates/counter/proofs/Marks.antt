@@ -1,6 +1,6 @@
 -- Where the pieces of a text stand.
---     marks_on, marks_end, mark_small           the loop that counts marks
---     past_turn, past_end, past_done            the loop that looks for a piece
+--     marks_count, marks_steps                  how many marks
+--     past_steps                                the loop that looks for a piece
 --     pieces_length                             one piece more than marks
 --     past_none, past_some, past_most, past_less     how places lie
 --     one_piece, some_pieces                    a piece, and some of them joined, by their places
@@ -16,6 +16,10 @@ use lib.Dec.{eqb}
 use lib.ListN.{length, get_or, take, drop, drop_of_length-le}
 use lib.Seq.{take-nil, drop-nil, drop-cons, get_or-drop}
 use borrow.Author.Tests.{ne_eqb, eqb-true, eqb-false}
+use Rattle.std.specs.List.{count_by}
+use Rattle.std.proofs.Common.{cond}
+use Rattle.std.proofs.lemmas.List.Recursion.{is_count_by}
+use Rattle.std.proofs.lemmas.List.Sums.{count_by-le-length}
 use Rattle.rules.specs.Cell.{pick}
 use Rattle.counter.specs.Pieces.{is_mark, onto, cut_at_marks, joined}
 use Rattle.counter.specs.Walk.{cuts, remaining, marks_in, past}
@@ -27,36 +31,43 @@ mark_small false = omega arith
 
 -- ---- loops
 
-module _ (l : List ℕ) (i : ℕ) where
-  pub marks_on : i < length l → marks_in (drop i l) ≡ pick (is_mark (get_or l i 0)) 1 0 + marks_in (drop (i + 1) l)
-  unfolding marks_in
-  marks_on h = rw (drop-cons l i 0 h, add-one)
+mark_more : (t : Bool) (n : ℕ) → pick t 1 0 + n ≡ cond t (1 + n) n
+mark_more true n = refl
+mark_more false n = zero-add n
 
-  pub marks_end : length l ≤ i → marks_in (drop i l) ≡ 0
-  unfolding marks_in
-  marks_end h = rw (drop_of_length-le l h)
+pub marks_count : (l : List ℕ) → marks_in l ≡ count_by is_mark l
+unfolding marks_in
+marks_count l = is_count_by marks_in is_mark refl (λ b l. mark_more (is_mark b) (marks_in l)) l
 
-  pub past_on : (n : ℕ) → 0 < n → i < length l → past n (drop i l) ≡ suc (past (n - pick (is_mark (get_or l i 0)) 1 0) (drop (i + 1) l))
+pub marks_few : (l : List ℕ) → marks_in l ≤ length l
+marks_few l = omega (arith, marks_count l, count_by-le-length is_mark l)
+
+pub ruleset marks_steps = (marks_count, marks_few)
+
+module _ (l : List ℕ) (i n : ℕ) where
+  pub past_on : 0 < n → i < length l → past n (drop i l) ≡ suc (past (n - pick (is_mark (get_or l i 0)) 1 0) (drop (i + 1) l))
   unfolding past
-  past_on n k h = rw (drop-cons l i 0 h, ne_eqb n 0 (λ e. omega arith), add-one)
+  past_on k h = rw (drop-cons l i 0 h, ne_eqb n 0 (λ e. omega arith), add-one)
 
-  pub past_end : (n : ℕ) → 0 < n → length l ≤ i → past n (drop i l) ≡ 1
+  pub past_mark : 0 < n → i < length l → is_mark (get_or l i 0) ≡ true → past n (drop i l) ≡ past (n - 1) (drop (i + 1) l) + 1
+  past_mark k h e = rw (past_on k h, e) (omega arith)
+
+  pub past_other : 0 < n → i < length l → is_mark (get_or l i 0) ≡ false → past n (drop i l) ≡ past n (drop (i + 1) l) + 1
+  past_other k h e = let z : n - 0 ≡ n = omega arith in rw (past_on k h, e, z) (omega arith)
+
+  pub past_end : 0 < n → length l ≤ i → past n (drop i l) ≡ 1
   unfolding past
-  past_end n k h = rw (drop_of_length-le l h, ne_eqb n 0 (λ e. omega arith))
+  past_end k h = rw (drop_of_length-le l h, ne_eqb n 0 (λ e. omega arith))
 
 pub past_none : (l : List ℕ) → past 0 l ≡ 0
 unfolding past
 past_none [] = refl
 past_none (b ∷ l) = refl
 
--- i + past left, where `left` marks are still to come at place i
-module _ (l : List ℕ) (i : ℕ) where
-  pub past_turn : (n k m : ℕ) → 0 < n → i < length l → k ≡ pick (is_mark (get_or l i 0)) 1 0 → i + past n (drop i l) ≡ m
-      → i + 1 + past (n - k) (drop (i + 1) l) ≡ m
-  past_turn n k m h j e x = rw e (omega (arith, past_on l i n h j))
+pub past_here : (l : List ℕ) (n : ℕ) → n ≡ 0 → past n l ≡ 0
+past_here l n e = rw e (past_none l)
 
-  pub past_done : (n m : ℕ) → n ≤ 0 → i + past n (drop i l) ≡ m → i ≡ m
-  past_done n m h x = let z : n ≡ 0 = omega arith in let y : i + past 0 (drop i l) ≡ m = rw z at x in omega (arith, past_none (drop i l))
+pub ruleset past_steps = (past_mark, past_other, past_end, past_here)
 
 -- ---- pieces and marks
 

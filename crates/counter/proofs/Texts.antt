@@ -1,5 +1,5 @@
 -- The walk over a text without its trailing spaces is its count.
---     strip_keep, strip_drop, strip_none     one turn of the loop that strips a text
+--     strip_to, strip_none, strip_steps      the last byte that is kept, or none, strips a text
 --     walk_count                             the count of what remains when marks are cut out
 --     remaining_all                          nothing is cut out
 -- Assumes nothing.
@@ -7,20 +7,22 @@ use mathlib.Core.Path.{◌≡◌, refl, sym, ap, ◌∙◌}
 use mathlib.Core.Bool.{Bool, true, false, not}
 use mathlib.Core.List.{List, [], ◌∷◌, ◌++◌}
 use mathlib.Core.Logic.{◌⊎◌, inl, inr}
-use Prim.Native.Nat.{ℕ, suc, ◌+◌, ◌≤◌, ◌<◌}
+use Prim.Native.Nat.{ℕ, zero, suc, ◌+◌, ◌-◌, ◌≤◌, ◌<◌}
 use native.Mathlib.Nat.{zero-add, add-zero}
 use native.Mathlib.Omega.{arith}
 use lib.Dec.{leb, ltb, eqb, leb-suc-suc}
 use lib.ListN.{length, get_or, take}
-use lib.Seq.{take-suc}
+use lib.Seq.{take-suc, take-length}
+use native.Mathlib.Numerals.{add-one}
 use borrow.Author.Tests.{lt-ltb, le-leb, lt-leb, ne_eqb, leb-true, leb-false, eqb-true, eqb-false}
 use Rattle.rules.specs.Cell.{pick, either}
-use Rattle.counter.specs.declared.Counted.{Counted}
+use Rattle.std.specs.Prelude.{Err}
+use Rattle.counter.specs.declared.Refusal.{Refusal}
 use Rattle.counter.specs.declared.text.Tally.{Tally}
 use Rattle.counter.specs.Alphabet.{space, in_alphabet, cost, units, first_outside}
 use Rattle.rules.specs.Fields.{kept, trimmed}
 use Rattle.counter.specs.Parts.{alone, of_several, filling, parts}
-use Rattle.counter.specs.Count.{largest, capped, sized, text_count}
+use Rattle.counter.specs.Count.{Counted, of_units, largest, capped, sized, text_count}
 use Rattle.counter.specs.Walk.{no_tally, tallied, tally_parts, cuts, remaining, refuses, advanced, walked, drops, onto_stripped, stripped}
 use Rattle.counter.proofs.Fewest.{opened, filling_length}
 
@@ -43,15 +45,29 @@ stripped_drop cut b e [] = rw e
 stripped_drop cut b e (x ∷ l) = ap (onto_stripped cut x) (stripped_drop cut b e l)
 
 module _ (cut : Bool) (l : List ℕ) (n : ℕ) (h : n < length l) where
-  pub strip_keep : drops cut (get_or l n 0) ≡ false → take (suc n) l ≡ stripped cut (take (suc n) l)
+  strip_keep : drops cut (get_or l n 0) ≡ false → take (suc n) l ≡ stripped cut (take (suc n) l)
   strip_keep e = rw (take-suc l n 0 h) (sym (stripped_keep cut (get_or l n 0) e (take n l)))
 
-  pub strip_drop : drops cut (get_or l n 0) ≡ true → stripped cut (take n l) ≡ stripped cut (take (suc n) l)
+  strip_drop : drops cut (get_or l n 0) ≡ true → stripped cut (take n l) ≡ stripped cut (take (suc n) l)
   strip_drop e = rw (take-suc l n 0 h) (sym (stripped_drop cut (get_or l n 0) e (take n l)))
 
-pub strip_none : (cut : Bool) (l : List ℕ) (n : ℕ) → n ≡ 0 → stripped cut (take n l) ≡ stripped cut l → take 0 l ≡ stripped cut l
+-- all that stands behind is dropped
+strip_behind : (cut : Bool) (l : List ℕ) (m n : ℕ) → n + m ≡ length l → ((k : ℕ) → n ≤ k → k < length l → drops cut (get_or l k 0) ≡ true)
+    → stripped cut (take n l) ≡ stripped cut l
+strip_behind cut l zero n e h = let z : n ≡ length l = omega arith in rw (z, take-length l)
+strip_behind cut l (suc m) n e h =
+    strip_drop cut l n (omega arith) (h n (omega arith) (omega arith)) ∙ strip_behind cut l m (suc n) (omega arith) (λ k a b. h k (omega arith) b)
+
+pub strip_to : (cut : Bool) (l : List ℕ) (i : ℕ) → i < length l → drops cut (get_or l i 0) ≡ false
+    → ((k : ℕ) → i < k → k < length l → drops cut (get_or l k 0) ≡ true) → take (i + 1) l ≡ stripped cut l
+strip_to cut l i b e h =
+    rw add-one (strip_keep cut l i b e ∙ strip_behind cut l (length l - suc i) (suc i) (omega arith) (λ k a b. h k (omega arith) b))
+
+pub strip_none : (cut : Bool) (l : List ℕ) → ((k : ℕ) → k < length l → drops cut (get_or l k 0) ≡ true) → [] ≡ stripped cut l
 unfolding stripped
-strip_none cut l n z e = rw z at e
+strip_none cut l h = strip_behind cut l (length l) 0 (omega arith) (λ k a b. h k b)
+
+pub ruleset strip_steps = (strip_to, strip_none)
 
 -- ---- what remains of a stripped text has no trailing spaces
 
@@ -112,8 +128,8 @@ module _ (cut : Bool) where
 -- ---- the walk over what remains
 
 verdict : Tally → List ℕ → Counted
-verdict t [] = Counted.Text t.units (tally_parts t)
-verdict t (b ∷ l) = pick (in_alphabet b) (verdict (tallied t (cost b)) l) (Counted.BadByte t.place)
+verdict t [] = of_units t.units (tally_parts t)
+verdict t (b ∷ l) = pick (in_alphabet b) (verdict (tallied t (cost b)) l) (Err (Refusal.BadByte t.place))
 
 walk_next : (cut : Bool) (b : ℕ) (l : List ℕ) (t : Tally) → ((t : Tally) → walked cut t l ≡ verdict t (remaining cut l)) → (s : Bool) → cuts cut b ≡ s
     → walked cut t (b ∷ l) ≡ verdict t (remaining cut (b ∷ l))
@@ -122,8 +138,8 @@ walk_next cut b l t h true e = rw e (h t)
 walk_next cut b l t h false e = rw e (by_letter (in_alphabet b))
   where
     by_letter : (a : Bool)
-        → pick (not a) (Counted.BadByte t.place) (walked cut (tallied t (cost b)) l)
-        ≡ pick a (verdict (tallied t (cost b)) (remaining cut l)) (Counted.BadByte t.place)
+        → pick (not a) (Err (Refusal.BadByte t.place)) (walked cut (tallied t (cost b)) l)
+        ≡ pick a (verdict (tallied t (cost b)) (remaining cut l)) (Err (Refusal.BadByte t.place))
     by_letter true = h (tallied t (cost b))
     by_letter false = refl
 
@@ -140,8 +156,8 @@ tally_of t (b ∷ l) = tally_of (tallied t (cost b)) l
 
 told : Tally → List ℕ → Counted
 told t l =
-    pick (ltb (first_outside l) (length l)) (Counted.BadByte (t.place + first_outside l))
-    (Counted.Text (tally_of t l).units (tally_parts (tally_of t l)))
+    pick (ltb (first_outside l) (length l)) (Err (Refusal.BadByte (t.place + first_outside l)))
+    (of_units (tally_of t l).units (tally_parts (tally_of t l)))
 
 verdict_next : (t : Tally) (b : ℕ) (l : List ℕ) → verdict (tallied t (cost b)) l ≡ told (tallied t (cost b)) l
     → (a : Bool) → in_alphabet b ≡ a → verdict t (b ∷ l) ≡ told t (b ∷ l)
@@ -216,10 +232,10 @@ start_told l =
 
 -- ---- the count
 
-pub walk_count : (cut : Bool) (l : List ℕ) (n : ℕ) → take n l ≡ stripped cut l → walked cut no_tally (take n l) ≡ text_count (remaining cut l)
+pub walk_count : (cut : Bool) (l : List ℕ) {k : List ℕ} → k ≡ stripped cut l → walked cut no_tally k ≡ text_count (remaining cut l)
 unfolding text_count
-walk_count cut l n e =
-    walk_verdict cut (take n l) no_tally ∙ (verdict_told _ no_tally ∙ (start_told _ ∙ ap sized (ap (remaining cut) e ∙ strip_trims cut l)))
+walk_count cut l e =
+    walk_verdict cut _ no_tally ∙ (verdict_told _ no_tally ∙ (start_told _ ∙ ap sized (ap (remaining cut) e ∙ strip_trims cut l)))
 
 pub remaining_all : (l : List ℕ) → remaining false l ≡ l
 unfolding remaining cuts

@@ -1,5 +1,5 @@
 -- Asking the terminal with ESC 5, and counting what it replies.
-use Rattle.std.specs.Prelude.{◌≡◌, Bool, true, false, not, List, [], ◌∷◌, ◌++◌, ℕ, ◌+◌, ◌*◌, ◌≤◌, eqb, length, get_or}
+use Rattle.std.specs.Prelude.{◌≡◌, Bool, true, false, not, List, [], ◌∷◌, ◌++◌, ℕ, ◌+◌, ◌*◌, ◌≤◌, eqb, length, get_or, Result, Ok, Err}
 use Rattle.rules.specs.declared.State.{State}
 use Rattle.rules.specs.Cell.{pick, both, either, between}
 use Rattle.rules.specs.State.{width_of, page_length, is_idle, sends}
@@ -7,12 +7,12 @@ use Rattle.rules.specs.Possible.{possible, good}
 use Rattle.rules.specs.Calls.{Ran, run_rule}
 use Rattle.rules.specs.Theorems.Noninterference.{Alike}
 use Rattle.rules.specs.Room.{over}
-use Rattle.counter.specs.declared.Counted.{Counted}
-use Rattle.counter.specs.declared.Told.{Told}
+use Rattle.counter.specs.declared.Refusal.{Refusal}
+use Rattle.counter.specs.declared.NoReply.{NoReply}
 use Rattle.counter.specs.declared.Asked.{Asked}
 use Rattle.counter.specs.Alphabet.{backquote}
 use Rattle.counter.specs.Pieces.{is_mark, whole}
-use Rattle.counter.specs.Count.{Numbers, numbers, count_rule}
+use Rattle.counter.specs.Count.{Counted, Numbers, numbers, count_rule}
 
 -- neither a sequence nor a send is under way
 unfoldable pub is_ready : State → Bool
@@ -33,11 +33,15 @@ asking p s room = run_rule p s (question (is_ready s)) (lent (is_ready s) room)
 unfoldable pub is_cut : Ran → Bool
 is_cut r = either (eqb r.answer 6) (sends r.state.sending)
 
+-- the count of the reply, or why no reply is counted
+abbrev pub Told : Type 0
+Told = Result Counted NoReply
+
 -- what the caller is told, by the run's answer n, whether the page has its length, whether nothing is under way, and whether the reply is cut: 7 is
 -- a wrong page, else an impossible state; then a sequence or a send under way; then no room; else the count of the reply
 unfoldable pub told_rule : ℕ → Bool → Bool → Bool → Counted → Told
 told_rule n full ready cut c =
-    pick (eqb n 7) (pick full Told.BadState Told.BadPage) (pick ready (pick cut Told.NoRoom (Told.Counted c)) Told.UnderWay)
+    pick (eqb n 7) (Err (pick full NoReply.BadState NoReply.BadPage)) (pick ready (pick cut (Err NoReply.NoRoom) (Ok c)) (Err NoReply.UnderWay))
 
 unfoldable pub ask_rule : List ℕ → State → ℕ → ℕ → ℕ → Told
 ask_rule p s first last room =
@@ -53,11 +57,11 @@ abbrev pub untold : ℕ → ToldNumbers
 untold n = record { answer = n; count = record { refusal = 0; units = 0; parts = 0; place = 0 } }
 
 abbrev pub told_numbers : Told → ToldNumbers
-told_numbers (Told.Counted c) = record { answer = 0; count = numbers c }
-told_numbers Told.BadPage = untold 1
-told_numbers Told.BadState = untold 2
-told_numbers Told.UnderWay = untold 3
-told_numbers Told.NoRoom = untold 4
+told_numbers (Ok c) = record { answer = 0; count = numbers c }
+told_numbers (Err NoReply.BadPage) = untold 1
+told_numbers (Err NoReply.BadState) = untold 2
+told_numbers (Err NoReply.UnderWay) = untold 3
+told_numbers (Err NoReply.NoRoom) = untold 4
 
 -- the numbers say what was told
 abbrev pub OneTold : Type 0
@@ -79,15 +83,15 @@ abbrev pub Silent : List ℕ → State → ℕ → Type 0
 Silent p s room = (asking p s room).reply ≡ []
 
 pub record AskCases (p : List ℕ) (s : State) (first last room : ℕ) : Type 0 where
-  pub bad_page : (length p ≡ page_length s.core.screen → ⊥) → (ask_rule p s first last room ≡ Told.BadPage) × Silent p s room
-  pub bad_state : length p ≡ page_length s.core.screen → possible s ≡ false → (ask_rule p s first last room ≡ Told.BadState) × Silent p s room
-  pub under_way : good p s ≡ true → is_ready s ≡ false → (ask_rule p s first last room ≡ Told.UnderWay) × Silent p s room
+  pub bad_page : (length p ≡ page_length s.core.screen → ⊥) → (ask_rule p s first last room ≡ Err NoReply.BadPage) × Silent p s room
+  pub bad_state : length p ≡ page_length s.core.screen → possible s ≡ false → (ask_rule p s first last room ≡ Err NoReply.BadState) × Silent p s room
+  pub under_way : good p s ≡ true → is_ready s ≡ false → (ask_rule p s first last room ≡ Err NoReply.UnderWay) × Silent p s room
   -- a reply that does not end fills the room
   pub no_room : good p s ≡ true → is_ready s ≡ true → is_cut (asking p s room) ≡ true
-      → (ask_rule p s first last room ≡ Told.NoRoom) × (length (asking p s room).reply ≡ room)
+      → (ask_rule p s first last room ≡ Err NoReply.NoRoom) × (length (asking p s room).reply ≡ room)
   -- the reply is counted, and the terminal is as it was
   pub counted : good p s ≡ true → is_ready s ≡ true → is_cut (asking p s room) ≡ false
-      → (ask_rule p s first last room ≡ Told.Counted (count_rule (asking p s room).reply first last)) × ((asking p s room).state ≡ s)
+      → (ask_rule p s first last room ≡ Ok (count_rule (asking p s room).reply first last)) × ((asking p s room).state ≡ s)
   -- a byte for each cell and one for each row are always room enough: 1,944 on a page of 80 columns
   pub enough : good p s ≡ true → is_ready s ≡ true → 24 * (width_of s.core.screen + 1) ≤ room → is_cut (asking p s room) ≡ false
 
@@ -121,8 +125,8 @@ RepliesToAsking =
 
 -- such a reply is never refused for its CR, and a byte that is refused is a backquote
 pub record Countable (r : List ℕ) (first last : ℕ) : Type 0 where
-  pub return : count_rule r first last ≡ Counted.NoReturn → ⊥
-  pub byte : (n : ℕ) → count_rule r first last ≡ Counted.BadByte n → get_or (whole r first last) n 0 ≡ backquote
+  pub return : count_rule r first last ≡ Err Refusal.NoReturn → ⊥
+  pub byte : (n : ℕ) → count_rule r first last ≡ Err (Refusal.BadByte n) → get_or (whole r first last) n 0 ≡ backquote
 
 abbrev pub RepliesCount : Type 0
 RepliesCount = (r : List ℕ) (first last : ℕ) → Replies r → Countable r first last

@@ -1,14 +1,12 @@
 -- Each statement used where a weaker one would not do, and a terminal that is asked.
-use Rattle.std.specs.Prelude.{◌≡◌, List, [], ◌∷◌, ◌++◌, ℕ, ◌+◌, ◌≤◌, ◌<◌, length, replicate}
+use Rattle.std.specs.Prelude.{◌≡◌, List, [], ◌∷◌, ◌++◌, ℕ, ◌+◌, ◌≤◌, ◌<◌, length, replicate, Ok}
 use Rattle.rules.specs.Fields.{trimmed}
 use Rattle.rules.specs.Theorems.Noninterference.{AlikePages}
 use Rattle.rules.specs.Cases.Bench.{wy50, wy60}
 use Rattle.rules.specs.Cases.Inputs.{page_of, three_letters, cursor_at}
-use Rattle.counter.specs.declared.Counted.TheVariants as Counted
-use Rattle.counter.specs.declared.Told.TheVariants as Told
 use Rattle.counter.specs.Alphabet.{units}
 use Rattle.counter.specs.Parts.{parts, Cutting}
-use Rattle.counter.specs.Count.{capped}
+use Rattle.counter.specs.Count.{of_units, capped}
 use Rattle.counter.specs.Ask.{asking, ask_rule, Unrevealed}
 use Rattle.counter.specs.Cases.{letters, tildes}
 
@@ -26,7 +24,7 @@ page = page_of three_letters
 
 pub record Asking : Type 0 where
   pub reply : (asking page (cursor_at 80) 200).reply ≡ 0x41 ∷ 0x42 ∷ replicate 78 0x20 ++ 0x1f ∷ 0x43 ∷ 0x0d ∷ []
-  pub both : ask_rule page (cursor_at 80) 1 2 200 ≡ Told.Counted (Counted.Text 81 1)
+  pub both : ask_rule page (cursor_at 80) 1 2 200 ≡ Ok (of_units 81 1)
 
 -- any pages alike, with protect mode off, of a WY-60, in an impossible state
 pub record Labels (p q : List ℕ) : Type 0 where

@@ -1,12 +1,12 @@
 -- How the code counts: what each byte does to what is known so far. That this is the count is shown in proofs/.
-use Rattle.std.specs.Prelude.{Bool, not, List, [], ◌∷◌, ℕ, suc, ◌+◌, ◌-◌, ◌≤◌, leb, eqb}
+use Rattle.std.specs.Prelude.{Bool, not, List, [], ◌∷◌, ℕ, suc, ◌+◌, ◌-◌, ◌≤◌, leb, eqb, Err}
 use Rattle.rules.specs.Cell.{pick, both, either}
-use Rattle.counter.specs.declared.Counted.{Counted}
+use Rattle.counter.specs.declared.Refusal.{Refusal}
 use Rattle.counter.specs.declared.text.Tally.{Tally}
 use Rattle.counter.specs.Alphabet.{space, in_alphabet, cost}
 use Rattle.counter.specs.Pieces.{is_mark}
 use Rattle.counter.specs.Parts.{alone, of_several}
-use Rattle.counter.specs.Count.{capped}
+use Rattle.counter.specs.Count.{Counted, of_units, capped}
 
 -- nothing counted yet: no part is open, so that the next character opens one
 abbrev pub no_tally : Tally
@@ -48,10 +48,10 @@ unfoldable pub advanced : Bool → Tally → ℕ → Tally
 advanced cut t b = pick (cuts cut b) t (tallied t (cost b))
 
 unfoldable pub walked : Bool → Tally → List ℕ → Counted
-walked cut t [] = Counted.Text t.units (tally_parts t)
+walked cut t [] = of_units t.units (tally_parts t)
 walked cut t (b ∷ l) =
     let r = walked cut (advanced cut t b) l in
-    pick (refuses cut b) (Counted.BadByte t.place) r
+    pick (refuses cut b) (Err (Refusal.BadByte t.place)) r
 
 -- without trailing spaces, and trailing marks that are cut out
 unfoldable pub drops : Bool → ℕ → Bool

@@ -11,27 +11,31 @@ ghost use Rattle.counter.specs.Count.{numbers, text_count, count_rule};
 ghost use Rattle.counter.specs.Ask.{Asks};
 
 use asking::{ask, has_length, is_cut, is_ready, tell};
-use pieces::{has_return, in_order, marks_in, past};
+use pieces::{before_return, in_order, marks_in, part};
 use rules::State;
-use terminal::answer_number;
 use text::count_remaining;
 
-// The units and the parts of a text; or why it is not counted: the reply has no final CR, the first number is 0 or above the last, the last
-// is beyond the pieces, or a byte is outside the alphabet, with its place in the whole, from 0.
+// What a text comes to.
 #[derive(Clone, Copy)]
-pub enum Counted {
-    Text(u64, u64),
+pub struct Size {
+    pub units: u64,
+    pub parts: u64,
+}
+
+// Why a text is not counted: the reply has no final CR, the first number is 0 or above the last, the last is beyond the pieces, or a byte is
+// outside the alphabet, with its place in the whole, from 0.
+#[derive(Clone, Copy)]
+pub enum Refusal {
     NoReturn,
     BadFirst,
     BadLast,
     BadByte(usize),
 }
 
-// What a caller who asks the terminal is told: the count; or why there is none: a page of the wrong length, an impossible state, a sequence
-// or a send under way, or a reply that does not fit the room.
+// Why a caller who asks the terminal has no reply counted: a page of the wrong length, an impossible state, a sequence or a send under way, or a
+// reply that does not fit the room.
 #[derive(Clone, Copy)]
-pub enum Told {
-    Counted(Counted),
+pub enum NoReply {
     BadPage,
     BadState,
     UnderWay,
@@ -40,7 +44,7 @@ pub enum Told {
 
 #[derive(Clone, Copy)]
 pub struct Asked {
-    pub told: Told,
+    pub told: Result<Result<Size, Refusal>, NoReply>,
     pub replied: usize,
 }
 
@@ -48,50 +52,43 @@ pub struct Asked {
 pub fn pieces_in(reply: &[u8]) -> usize
     ensures { result ≡ length (pieces reply.now) }
 {
-    if !has_return(reply) {
-        return 0;
+    match before_return(reply) {
+        Some(text) => marks_in(text) + 1,
+        None => 0,
     }
-    let end = reply.len() - 1;
-    marks_in(&reply[..end]) + 1
 }
 
 // The piece of a number, from 1; empty where no piece has it.
 pub fn piece(reply: &[u8], number: usize) -> &[u8]
     ensures { result.now ≡ piece_of reply.now number }
 {
-    if number < 1 {
-        return &reply[..0];
+    let Some(text) = before_return(reply) else {
+        return &[];
+    };
+    if number < 1 || marks_in(text) + 1 < number {
+        return &[];
     }
-    if pieces_in(reply) < number {
-        return &reply[..0];
-    }
-    let end = reply.len() - 1;
-    let from = past(&reply[..end], number - 1);
-    let to = past(&reply[..end], number) - 1;
-    &reply[from..to]
+    part(text, number, number)
 }
 
 // Counts the pieces from number `first` to number `last` of a reply.
-pub fn count(reply: &[u8], first: usize, last: usize) -> Counted
+pub fn count(reply: &[u8], first: usize, last: usize) -> Result<Size, Refusal>
     ensures { numbers result ≡ numbers (count_rule reply.now first last) }
 {
-    if !has_return(reply) {
-        return Counted::NoReturn;
-    }
+    let Some(text) = before_return(reply) else {
+        return Err(Refusal::NoReturn);
+    };
     if !in_order(first, last) {
-        return Counted::BadFirst;
+        return Err(Refusal::BadFirst);
     }
-    if pieces_in(reply) < last {
-        return Counted::BadLast;
+    if marks_in(text) + 1 < last {
+        return Err(Refusal::BadLast);
     }
-    let end = reply.len() - 1;
-    let from = past(&reply[..end], first - 1);
-    let to = past(&reply[..end], last) - 1;
-    count_remaining(&reply[from..to], true)
+    count_remaining(part(text, first, last), true)
 }
 
 // Counts a text by itself: it has no CR and is not cut.
-pub fn count_text(text: &[u8]) -> Counted
+pub fn count_text(text: &[u8]) -> Result<Size, Refusal>
     ensures { numbers result ≡ numbers (text_count text.now) }
 {
     count_remaining(text, false)
@@ -111,16 +108,9 @@ pub fn count_alert(
     let full = has_length(page, state.core.screen.wide);
     let ready = is_ready(state);
     let t = ask(page, state, ready, room);
-    let answer = t.answer;
-    let e = t.replied;
-    let next = t.state;
-    let sending = next.sending;
-    let c = count(&room[..e], first, last);
-    let n = answer_number(answer);
-    let cut = is_cut(n, sending);
-    let told = tell(n, full, ready, cut, c);
-    Asked {
-        told: told,
-        replied: e,
-    }
+    let replied = t.replied;
+    let c = count(&room[..replied], first, last);
+    let cut = is_cut(t.answer, t.state.sending);
+    let told = tell(t.answer, full, ready, cut, c);
+    Asked { told, replied }
 }

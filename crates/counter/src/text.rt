@@ -1,12 +1,12 @@
 // The count of a text. `cut` says whether marks are cut out of it.
 ghost use Rattle.std.specs.Prelude.{◌≡◌, ◌+◌, ◌<◌, ◌≤◌, length, take};
 ghost use Rattle.counter.specs.Alphabet.{in_alphabet, cost};
-ghost use Rattle.counter.specs.Count.{capped, text_count};
-ghost use Rattle.counter.specs.Walk.{no_tally, tallied, tally_parts, Within, cuts, remaining, refuses, advanced, walked, drops};
+ghost use Rattle.counter.specs.Count.{text_count};
+ghost use Rattle.counter.specs.Walk.{no_tally, tallied, tally_parts, Within, cuts, remaining, walked, drops};
 ghost use Rattle.counter.specs.Walk.{stripped as stripped_of};
 
-use crate::Counted;
 use crate::pieces::is_mark;
+use crate::{Refusal, Size};
 
 // What is counted: characters, units, parts opened, and the units in the last of these.
 #[derive(Clone, Copy)]
@@ -17,18 +17,67 @@ pub struct Tally {
     pub held: u8,
 }
 
+impl Tally {
+    // Nothing is counted yet, and no part is open: the next character opens one.
+    fn new() -> Tally
+        ensures { result ≡ no_tally }
+    {
+        Tally {
+            place: 0,
+            units: 0,
+            parts: 0,
+            held: 153,
+        }
+    }
+
+    // A character of n units more. Units are counted up to the largest number.
+    #[tactic(auto, using(crate::proofs::Tests::tests), unfolding(crate::specs::Walk::tallied, crate::specs::Count::capped))]
+    fn add(self, n: u8) -> Tally
+        requires { (n ≤ 2) × Within self 18446744073709551614 }
+        ensures { result ≡ tallied self n }
+    {
+        let place = self.place + 1;
+        let units = self.units.saturating_add(u64::from(n));
+        let held = self.held + n;
+        if held <= 153 {
+            Tally {
+                place,
+                units,
+                held,
+                ..self
+            }
+        } else {
+            Tally {
+                place,
+                units,
+                parts: self.parts + 1,
+                held: n,
+            }
+        }
+    }
+
+    // The parts of all that is counted.
+    #[tactic(auto, using(crate::proofs::Tests::tests), unfolding(crate::specs::Walk::tally_parts))]
+    fn parts(self) -> u64
+        ensures { result ≡ tally_parts self }
+    {
+        match self.units {
+            0 => 0,
+            1..=160 => 1,
+            _ => self.parts,
+        }
+    }
+}
+
+#[tactic(auto, using(crate::proofs::Tests::tests), unfolding(crate::specs::Alphabet::in_alphabet))]
 fn in_alphabet(b: u8) -> bool
     ensures { result ≡ in_alphabet b }
 {
-    if b < 0x20 {
-        return false;
-    }
-    if b < 0x7f {
-        return b != b'`';
-    }
-    false
+    b' ' <= b && b <= b'~' && b != b'`'
 }
 
+// An arm for each character: with one arm for all eight a text takes an eighth longer to count.
+#[tactic(auto, using(crate::proofs::Tests::tests), unfolding(crate::specs::Alphabet::cost))]
 fn cost_of(b: u8) -> u8
     ensures { result ≡ cost b }
 {
@@ -45,134 +94,55 @@ fn cost_of(b: u8) -> u8
     }
 }
 
-// Units are counted up to the largest number.
-fn more_units(units: u64, n: u8) -> u64
-    ensures { result ≡ capped (units + n) }
-{
-    let more = n as u64;
-    if u64::MAX - units < more {
-        return u64::MAX;
-    }
-    units + more
-}
-
-// A character of n units more.
-fn add(t: Tally, n: u8) -> Tally
-    requires { (n ≤ 2) × Within t 18446744073709551614 }
-    ensures { result ≡ tallied t n }
-{
-    let units = more_units(t.units, n);
-    if t.held + n <= 153 {
-        return Tally {
-            place: t.place + 1,
-            units: units,
-            parts: t.parts,
-            held: t.held + n,
-        };
-    }
-    Tally {
-        place: t.place + 1,
-        units: units,
-        parts: t.parts + 1,
-        held: n,
-    }
-}
-
-fn tally_parts(t: Tally) -> u64
-    ensures { result ≡ tally_parts t }
-{
-    if t.units == 0 {
-        return 0;
-    }
-    if t.units <= 160 {
-        return 1;
-    }
-    t.parts
-}
-
+#[tactic(auto, using(crate::proofs::Tests::tests), unfolding(crate::specs::Walk::cuts))]
 fn is_cut(cut: bool, b: u8) -> bool
     ensures { result ≡ cuts cut b }
 {
-    if cut {
-        return is_mark(b);
-    }
-    false
-}
-
-fn is_refused(cut: bool, b: u8) -> bool
-    ensures { result ≡ refuses cut b }
-{
-    if is_cut(cut, b) {
-        return false;
-    }
-    !in_alphabet(b)
-}
-
-// One byte, which is not refused.
-fn advance(cut: bool, t: Tally, b: u8) -> Tally
-    requires { Within t 18446744073709551614 }
-    ensures { result ≡ advanced cut t b }
-{
-    if is_cut(cut, b) {
-        return t;
-    }
-    add(t, cost_of(b))
-}
-
-fn nothing() -> Tally
-    ensures { result ≡ no_tally }
-{
-    Tally {
-        place: 0,
-        units: 0,
-        parts: 0,
-        held: 153,
-    }
+    cut && is_mark(b)
 }
 
 // Counts all of a text, trailing spaces too.
-fn walk(text: &[u8], cut: bool) -> Counted
+#[tactic(auto, using(crate::proofs::Tallies::walk_steps))]
+fn walk(text: &[u8], cut: bool) -> Result<Size, Refusal>
     ensures { result ≡ walked cut no_tally text.now }
 {
-    let mut t = nothing();
-    let mut i = 0;
-    while i < text.len() {
-        let b = text[i];
-        if is_refused(cut, b) {
-            return Counted::BadByte(t.place);
+    let mut t = Tally::new();
+    for b in text {
+        if is_cut(cut, *b) {
+            continue;
         }
-        t = advance(cut, t, b);
-        i += 1;
+        if !in_alphabet(*b) {
+            return Err(Refusal::BadByte(t.place));
+        }
+        t = t.add(cost_of(*b));
     }
-    Counted::Text(t.units, tally_parts(t))
+    Ok(Size {
+        units: t.units,
+        parts: t.parts(),
+    })
 }
 
+// Of the bytes at a text's end: spaces, and marks that are cut out.
+#[tactic(auto, using(crate::proofs::Tests::tests), unfolding(crate::specs::Walk::drops))]
 fn is_dropped(cut: bool, b: u8) -> bool
     ensures { result ≡ drops cut b }
 {
-    if b == b' ' {
-        return true;
-    }
-    is_cut(cut, b)
+    b == b' ' || is_cut(cut, b)
 }
 
-// The length of a text without its trailing spaces, and without trailing marks that are cut out.
-fn stripped(text: &[u8], cut: bool) -> usize
-    ensures { (result ≤ length text.now) × (take result text.now ≡ stripped_of cut text.now) }
+// A text without the bytes that are dropped at its end.
+#[tactic(auto, using(crate::proofs::Texts::strip_steps))]
+fn stripped(text: &[u8], cut: bool) -> &[u8]
+    ensures { result.now ≡ stripped_of cut text.now }
 {
-    let mut n = text.len();
-    while 0 < n {
-        if !is_dropped(cut, text[n - 1]) {
-            return n;
-        }
-        n -= 1;
+    match text.iter().rposition(|b| !is_dropped(cut, *b)) {
+        Some(i) => &text[..i + 1],
+        None => &[],
     }
-    0
 }
 
-pub(crate) fn count_remaining(text: &[u8], cut: bool) -> Counted
+pub(crate) fn count_remaining(text: &[u8], cut: bool) -> Result<Size, Refusal>
     ensures { result ≡ text_count (remaining cut text.now) }
 {
-    let n = stripped(text, cut);
-    walk(&text[..n], cut)
+    walk(stripped(text, cut), cut)
 }

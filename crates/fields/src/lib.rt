@@ -1,98 +1,128 @@
 // Fields, rows and places, for a program that reads a page of any length. Each function gives what its definition in `rules` gives.
 #![tactic(auto)]
 
-ghost use Rattle.std.specs.Prelude.{◌≡◌, List, [], map, ℕ, ◌-◌, ◌*◌, ◌%◌, ◌<◌, ◌≤◌, length};
+ghost use Rattle.std.specs.Prelude.{◌≡◌, ⊤, map, ℕ, ◌-◌, ◌<◌, ◌≤◌, length, MatchOption};
 ghost use Rattle.std.proofs.Math.Seq.{slice};
 ghost use Rattle.rules.specs.Cell.{sent};
-ghost use Rattle.rules.specs.Row.{Width, wide_cells};
+ghost use Rattle.rules.specs.Row.{columns, wide_cells};
 ghost use Rattle.rules.specs.Room.{over};
-ghost use Rattle.rules.specs.Fields.{page_width, is_field_start, next_start, no_field, next_field_rule};
-ghost use Rattle.rules.specs.Fields.{trimmed, text_of, told, fitting, field_text_rule};
+ghost use Rattle.rules.specs.Fields.{is_field_start, next_start, next_field_rule};
+ghost use Rattle.rules.specs.Fields.{trimmed, text_of, fitting, field_text_rule};
 ghost use Rattle.rules.specs.Fields.{row_text_rule, Read, position_rule, cell_rule};
+ghost use Rattle.fields.specs.Given.{refusal_number, field_given, text_given, position_given, cell_given};
 
 use page::cell::sent_code;
-use page::search::{edit_end, is_guarded_at, row_of};
+use page::search::{column_of, columns, edit_end, first_cell, is_guarded_at, is_wide, row_of};
 use rules::{Field, Position, TextResult};
 
-// The width of a page of so many cells; 0: there is no such page.
-fn page_width(cells: usize) -> usize
-    ensures { result ≡ page_width cells }
-{
-    if cells == 1920 {
-        return 80;
-    }
-    if cells == 3168 {
-        return 132;
-    }
-    0
+// Why nothing is read: no such field, row or cell; a room that is too small; no page has so many cells.
+#[derive(Clone, Copy, PartialEq, Eq, Debug)]
+pub enum Refusal {
+    BadArgument,
+    NoRoom,
+    BadCall,
 }
 
-// A cell's column.
-fn column_of(width: usize, at: usize) -> usize
-    requires { Width width }
-    ensures { result ≡ at % width }
-{
-    if width == 132 { at % 132 } else { at % 80 }
+// A cell's row and column, from 0.
+#[derive(Clone, Copy, PartialEq, Eq, Debug)]
+pub struct RowColumn {
+    pub row: usize,
+    pub column: usize,
 }
 
-fn starts_field(page: &[u16], width: usize, at: usize) -> bool
-    requires { Width width × (at < length page.now) }
-    ensures { result ≡ is_field_start width page.now at }
-{
-    if is_guarded_at(page, true, at) {
-        return false;
-    }
-    if column_of(width, at) == 0 {
-        return true;
-    }
-    is_guarded_at(page, true, at - 1)
-}
-
-// Where the next field starts, at or behind `from`; not before the page's end where there is none.
-fn next_start(page: &[u16], width: usize, from: usize) -> usize
-    requires { Width width × (length page.now ≤ wide_cells) }
-    ensures { result ≡ next_start width page.now from }
-{
-    let mut at = from;
-    while at < page.len() {
-        if starts_field(page, width, at) {
-            return at;
+impl Refusal {
+    #[tactic(auto, unfolding(crate::specs::Given::refusal_number))]
+    pub fn number(self) -> u8
+        ensures { result ≡ refusal_number self }
+    {
+        match self {
+            Refusal::BadArgument => 3,
+            Refusal::NoRoom => 6,
+            Refusal::BadCall => 7,
         }
-        at += 1;
     }
-    at
 }
 
-fn no_field() -> Field
-    ensures { result ≡ no_field }
+// What a call gives, as C holds it.
+
+#[tactic(auto, unfolding(crate::specs::Given::field_given))]
+pub fn field_given(field: Option<Field>) -> Field
+    ensures { result ≡ field_given field }
 {
-    Field {
+    field.unwrap_or(Field {
         start: 0,
         size: 0,
         row: 0,
         column: 0,
+    })
+}
+
+#[tactic(auto, unfolding(crate::specs::Given::text_given))]
+pub fn text_given(text: Result<usize, Refusal>) -> TextResult
+    ensures { result ≡ text_given text }
+{
+    match text {
+        Ok(size) => TextResult { answer: 0, size },
+        Err(e) => TextResult {
+            answer: e.number(),
+            size: 0,
+        },
     }
 }
 
-// The first field that starts at or behind `from`. Ruled out: one that takes a protected cell, or runs on over a row's end.
-pub fn next_field(page: &[u16], from: usize) -> Field
-    ensures { result ≡ next_field_rule page.now from }
+#[tactic(auto, unfolding(crate::specs::Given::position_given))]
+pub fn position_given(place: Result<RowColumn, Refusal>) -> Position
+    ensures { result ≡ position_given place }
 {
-    let width = page_width(page.len());
-    if width == 0 {
-        return no_field();
+    match place {
+        Ok(RowColumn { row, column }) => Position {
+            answer: 0,
+            row,
+            column,
+        },
+        Err(e) => Position {
+            answer: e.number(),
+            row: 0,
+            column: 0,
+        },
     }
-    let start = next_start(page, width, from);
-    if page.len() <= start {
-        return no_field();
+}
+
+fn starts_field(page: &[u16], wide: bool, at: usize) -> bool
+    requires { at < length page.now }
+    ensures { result ≡ is_field_start (columns wide) page.now at }
+{
+    !is_guarded_at(page, true, at)
+        && (column_of(wide, at) == 0 || is_guarded_at(page, true, at - 1))
+}
+
+// Where the next field starts, at or behind `from`.
+fn next_start(page: &[u16], wide: bool, from: usize) -> Option<usize>
+    requires { length page.now ≤ wide_cells }
+    ensures { MatchOption result (length page.now ≤ next_start (columns wide) page.now from)
+        (λ at. (at < length page.now) × (at ≡ next_start (columns wide) page.now from)) }
+{
+    for at in from..page.len() {
+        if starts_field(page, wide, at) {
+            return Some(at);
+        }
     }
-    let end = edit_end(page, width, true, start);
-    Field {
-        start: start,
-        size: end - start,
-        row: row_of(width, start),
-        column: column_of(width, start),
-    }
+    None
+}
+
+// The first field that starts at or behind `from`. Ruled out: one that takes a protected cell, or runs on over a row's end.
+pub fn next_field(page: &[u16], from: usize) -> Option<Field>
+    ensures by_rule { field_given result ≡ next_field_rule page.now from }
+    ensures some_cell { MatchOption result ⊤ (λ f. 0 < f.size) }
+{
+    let wide = is_wide(page.len())?;
+    let start = next_start(page, wide, from)?;
+    Some(Field {
+        start,
+        size: edit_end(page, wide, true, start) - start,
+        row: row_of(wide, start),
+        column: column_of(wide, start),
+    })
 }
 
 // The end of the cells `from` up to `end` without the last ones that go as spaces.
@@ -101,14 +131,12 @@ fn trimmed_end(page: &[u16], from: usize, end: usize) -> usize
     ensures { (from ≤ result)
         × ((result ≤ end) × (map sent (slice from result page.now) ≡ trimmed (map sent (slice from end page.now)))) }
 {
-    let mut to = end;
-    while from < to {
-        if sent_code(page[to - 1]) != 0x20 {
-            return to;
+    for at in (from..end).rev() {
+        if sent_code(page[at]) != 0x20 {
+            return at + 1;
         }
-        to -= 1;
     }
-    to
+    from
 }
 
 fn text_end(page: &[u16], from: usize, end: usize, trim: bool) -> usize
@@ -127,111 +155,89 @@ fn put(room: &mut [u8], page: &[u16], from: usize, to: usize)
     requires { (from ≤ to) × ((to ≤ length page.now) × ((length page.now ≤ wide_cells) × (to - from ≤ length room.old))) }
     ensures { room.new ≡ over (map sent (slice from to page.now)) room.old }
 {
-    let mut i = from;
-    while i < to {
+    for i in from..to {
         room[i - from] = sent_code(page[i]);
-        i += 1;
     }
 }
 
-// The text of the cells `from` up to `end`, if it fits.
-fn put_text(room: &mut [u8], page: &[u16], from: usize, end: usize, trim: bool) -> TextResult
+// The text of the cells `from` up to `end`, if it fits; how many bytes it is.
+fn put_text(
+    room: &mut [u8],
+    page: &[u16],
+    from: usize,
+    end: usize,
+    trim: bool,
+) -> Result<usize, Refusal>
     requires { (from ≤ end) × ((end ≤ length page.now) × (length page.now ≤ wide_cells)) }
-    ensures { Read (fitting (text_of trim from end page.now) (length room.old)) result room.old
+    ensures { Read (fitting (text_of trim from end page.now) (length room.old)) (text_given result) room.old
         room.new }
 {
     let to = text_end(page, from, end, trim);
     if room.len() < to - from {
-        return refused(6);
+        return Err(Refusal::NoRoom);
     }
     put(room, page, from, to);
-    TextResult {
-        answer: 0,
-        size: to - from,
-    }
+    Ok(to - from)
 }
 
-fn refused(answer: u8) -> TextResult
-    ensures { (w : List ℕ) → Read (told answer []) result w w }
+// The text of the field that starts there, and how many bytes it is. Ruled out: one with a protected cell in it, one that drops leading spaces, one
+// that is cut.
+pub fn field_text(room: &mut [u8], page: &[u16], start: usize, trim: bool) -> Result<usize, Refusal>
+    ensures { Read (field_text_rule page.now start trim (length room.old)) (text_given result) room.old room.new }
 {
-    TextResult {
-        answer: answer,
-        size: 0,
+    let Some(wide) = is_wide(page.len()) else {
+        return Err(Refusal::BadCall);
+    };
+    if page.len() <= start || !starts_field(page, wide, start) {
+        return Err(Refusal::BadArgument);
     }
-}
-
-// The text of the field that starts there. Ruled out: one with a protected cell in it, one that drops leading spaces, one that is cut.
-pub fn field_text(room: &mut [u8], page: &[u16], start: usize, trim: bool) -> TextResult
-    ensures { Read (field_text_rule page.now start trim (length room.old)) result room.old room.new }
-{
-    let width = page_width(page.len());
-    if width == 0 {
-        return refused(7);
-    }
-    if page.len() <= start {
-        return refused(3);
-    }
-    if !starts_field(page, width, start) {
-        return refused(3);
-    }
-    let end = edit_end(page, width, true, start);
-    put_text(room, page, start, end, trim)
+    put_text(room, page, start, edit_end(page, wide, true, start), trim)
 }
 
 // The text of a row, labels too.
-pub fn row_text(room: &mut [u8], page: &[u16], row: usize, trim: bool) -> TextResult
-    ensures { Read (row_text_rule page.now row trim (length room.old)) result room.old room.new }
+pub fn row_text(room: &mut [u8], page: &[u16], row: usize, trim: bool) -> Result<usize, Refusal>
+    ensures { Read (row_text_rule page.now row trim (length room.old)) (text_given result) room.old room.new }
 {
-    let width = page_width(page.len());
-    if width == 0 {
-        return refused(7);
-    }
+    let Some(wide) = is_wide(page.len()) else {
+        return Err(Refusal::BadCall);
+    };
     if 24 <= row {
-        return refused(3);
+        return Err(Refusal::BadArgument);
     }
-    let from = row * width;
-    put_text(room, page, from, from + width, trim)
+    put_text(
+        room,
+        page,
+        first_cell(wide, row),
+        first_cell(wide, row + 1),
+        trim,
+    )
 }
 
 // The row and column of a cell in a page of so many cells.
-pub fn position(cells: usize, at: usize) -> Position
-    ensures { result ≡ position_rule cells at }
+pub fn position(cells: usize, at: usize) -> Result<RowColumn, Refusal>
+    ensures { position_given result ≡ position_rule cells at }
 {
-    let width = page_width(cells);
-    if width == 0 {
-        return Position {
-            answer: 7,
-            row: 0,
-            column: 0,
-        };
-    }
+    let Some(wide) = is_wide(cells) else {
+        return Err(Refusal::BadCall);
+    };
     if cells <= at {
-        return Position {
-            answer: 3,
-            row: 0,
-            column: 0,
-        };
+        return Err(Refusal::BadArgument);
     }
-    Position {
-        answer: 0,
-        row: row_of(width, at),
-        column: column_of(width, at),
-    }
+    Ok(RowColumn {
+        row: row_of(wide, at),
+        column: column_of(wide, at),
+    })
 }
 
-// The cell at a row and column in a page of so many cells; `cells` where there is none.
-pub fn cell_at(cells: usize, row: usize, column: usize) -> usize
-    ensures { result ≡ cell_rule cells row column }
+// The cell at a row and column in a page of so many cells.
+pub fn cell_at(cells: usize, row: usize, column: usize) -> Option<usize>
+    ensures by_rule { cell_given cells result ≡ cell_rule cells row column }
+    ensures inside { MatchOption result ⊤ (λ cell. cell < cells) }
 {
-    let width = page_width(cells);
-    if width == 0 {
-        return cells;
+    let wide = is_wide(cells)?;
+    if row < 24 && column < columns(wide) {
+        Some(first_cell(wide, row) + column)
+    } else {
+        None
     }
-    if 24 <= row {
-        return cells;
-    }
-    if width <= column {
-        return cells;
-    }
-    row * width + column
 }

@@ -1,5 +1,5 @@
 -- Mending a damaged saved page (document 02, A13).
-use Rattle.std.specs.Prelude.{◌≡◌, List, [], ◌∷◌, ◌++◌, map, ℕ, suc, ◌+◌, ◌*◌, ◌/◌, leb, length, get_or, set}
+use Rattle.std.specs.Prelude.{◌≡◌, List, [], ◌∷◌, ◌++◌, map, ℕ, suc, ◌+◌, ◌*◌, ◌/◌, leb, length, get_or, set, Result, Ok, Err}
 use Rattle.std.proofs.lemmas.List.Edits.{sets}
 use Rattle.rules.specs.declared.Personality.{Personality}
 use Rattle.rules.specs.Cell.{pick, null}
@@ -7,6 +7,7 @@ use Rattle.rules.specs.Row.{row_of, column_of}
 use Rattle.rules.specs.Room.{over}
 use Rattle.rules.specs.Fields.{page_width, is_page}
 use Rattle.rules.specs.Writable.{writable}
+use Rattle.mend.specs.declared.Refusal.{Refusal}
 use Rattle.mend.specs.declared.MendResult.{MendResult}
 
 -- "unwritable ones, and no others, become unprotected nulls"
@@ -56,6 +57,12 @@ pub record CellMended (m : Personality) (w at n : ℕ) (p l : List ℕ) (n' : �
   pub cell : p' ≡ set p at (mended_cell m (get_or p at 0))
   pub listed : l' ≡ sets l (4 * n) (entries w (damaged m at (get_or p at 0 ∷ [])))
   pub count : n' ≡ n + length (damaged m at (get_or p at 0 ∷ []))
+
+-- what a call gives, as the numbers that C holds
+unfoldable pub mend_given : Result ℕ Refusal → MendResult
+mend_given (Ok n) = record { answer = 0; needed = n }
+mend_given (Err (Refusal.NoRoom n)) = record { answer = 6; needed = n }
+mend_given (Err Refusal.BadCall) = record { answer = 7; needed = 0 }
 
 -- what a call gives that leaves this page and this list
 pub record Gives (o : Outcome) (r : MendResult) (p l : List ℕ) : Type 0 where

@@ -1,21 +1,28 @@
 // Mending a damaged saved page: each cell becomes one that the terminal could have written under a named personality.
 #![tactic(auto)]
 
-ghost use Rattle.std.specs.Prelude.{◌≡◌, [], ◌∷◌, ◌+◌, ◌*◌, ◌/◌, ◌%◌, ◌<◌, ◌≤◌, leb, ltb, length, get_or};
+ghost use Rattle.std.specs.Prelude.{◌≡◌, [], ◌∷◌, ◌+◌, ◌*◌, ◌<◌, ◌≤◌, leb, ltb, length, get_or};
 ghost use Rattle.std.proofs.lemmas.List.Edits.{sets};
-ghost use Rattle.rules.specs.Cell.{pick, both};
-ghost use Rattle.rules.specs.Row.{Width, wide_cells};
+ghost use Rattle.rules.specs.Cell.{both};
+ghost use Rattle.rules.specs.Row.{columns, wide_cells};
 ghost use Rattle.rules.specs.Room.{over};
 ghost use Rattle.rules.specs.Arguments.{is_flags};
-ghost use Rattle.rules.specs.Possible.{remembered_ok};
-ghost use Rattle.rules.specs.Fields.{page_width};
 ghost use Rattle.rules.specs.Writable.{is_stored, is_attribute_cell, writable};
-ghost use Rattle.mend.specs.Mend.{mended, damaged, numbers, entries, mend_rule, CellMended, Gives};
+ghost use Rattle.mend.specs.Mend.{mended, damaged, numbers, entries, mend_rule, CellMended, mend_given, Gives};
 
 use page::cell::NULL;
+use page::search::{column_of, is_wide, row_of};
 use rules::Personality;
+use state::possible::remembered_ok;
 
-// The answer, and how many entries the list needs.
+// Why nothing is mended: no page has so many cells; a list that is too short for the entries that are needed.
+#[derive(Clone, Copy, PartialEq, Eq, Debug)]
+pub enum Refusal {
+    BadCall,
+    NoRoom { needed: u16 },
+}
+
+// As C holds it: the answer, and how many entries the list needs.
 #[repr(C)]
 #[derive(Clone, Copy)]
 pub struct MendResult {
@@ -23,86 +30,61 @@ pub struct MendResult {
     pub needed: u16,
 }
 
+#[tactic(auto, unfolding(crate::specs::Mend::mend_given))]
+pub fn mend_given(r: Result<u16, Refusal>) -> MendResult
+    ensures { result ≡ mend_given r }
+{
+    let (answer, needed) = match r {
+        Ok(needed) => (0, needed),
+        Err(Refusal::NoRoom { needed }) => (6, needed),
+        Err(Refusal::BadCall) => (7, 0),
+    };
+    MendResult { answer, needed }
+}
+
 // A number from `low` up to, not including, `high`.
 fn is_between(v: u16, low: u16, high: u16) -> bool
     ensures { result ≡ both (leb low v) (ltb v high) }
 {
-    if v < low {
-        return false;
-    }
-    v < high
+    low <= v && v < high
 }
 
 // A code of flags: 30h to 3Fh or 70h to 7Eh.
 fn is_flags(code: u16) -> bool
     ensures { result ≡ is_flags code }
 {
-    if is_between(code, 0x30, 0x40) {
-        return true;
-    }
-    is_between(code, 0x70, 0x7f)
-}
-
-// An attribute that the personality remembers.
-fn is_remembered(personality: Personality, attribute: u16) -> bool
-    ensures { result ≡ remembered_ok personality attribute }
-{
-    match personality {
-        Personality::Wy50 => attribute == 0,
-        Personality::Wy60 => attribute < 31,
-    }
+    is_between(code, 0x30, 0x40) || is_between(code, 0x70, 0x7f)
 }
 
 // Text or a graphic.
 fn is_stored(personality: Personality, v: u16) -> bool
     ensures { result ≡ is_stored personality v }
 {
-    if 32768 <= v {
+    if 32768 <= v || !remembered_ok(personality, (v / 1024 % 32) as u8) {
         return false;
     }
-    if !is_remembered(personality, v / 1024 % 32) {
-        return false;
+    match v / 256 % 4 {
+        0 => is_between(v % 128, 0x20, 0x7f),
+        2 => is_between(v % 128, 0x30, 0x40),
+        _ => false,
     }
-    if v / 256 % 4 == 0 {
-        return is_between(v % 128, 0x20, 0x7f);
-    }
-    if v / 256 % 4 == 2 {
-        return is_between(v % 128, 0x30, 0x40);
-    }
-    false
 }
 
 fn is_attribute_cell(personality: Personality, v: u16) -> bool
     ensures { result ≡ is_attribute_cell personality v }
 {
-    if !is_flags(v % 128) {
-        return false;
-    }
-    match personality {
-        Personality::Wy50 => v / 256 == 1,
-        Personality::Wy60 => v / 128 == 2,
-    }
+    is_flags(v % 128)
+        && match personality {
+            Personality::Wy50 => v / 256 == 1,
+            Personality::Wy60 => v / 128 == 2,
+        }
 }
 
 // A number that the personality writes. Ruled out: one that takes a protected null, or 7Fh for text.
 pub fn is_writable(personality: Personality, v: u16) -> bool
     ensures { result ≡ writable personality v }
 {
-    if v == NULL {
-        return true;
-    }
-    if is_stored(personality, v) {
-        return true;
-    }
-    is_attribute_cell(personality, v)
-}
-
-// One more for a cell that is not writable.
-fn counted(n: u16, writable: bool) -> u16
-    requires { n < wide_cells }
-    ensures { result ≡ pick writable n (n + 1) }
-{
-    if writable { n } else { n + 1 }
+    v == NULL || is_stored(personality, v) || is_attribute_cell(personality, v)
 }
 
 // How many cells are not writable.
@@ -111,48 +93,12 @@ fn damaged_count(page: &[u16], personality: Personality) -> u16
     ensures { result ≡ length (damaged personality 0 page.now) }
 {
     let mut n: u16 = 0;
-    let mut i = 0;
-    while i < page.len() {
-        n = counted(n, is_writable(personality, page[i]));
-        i += 1;
+    for v in page {
+        if !is_writable(personality, *v) {
+            n += 1;
+        }
     }
     n
-}
-
-// The width of a page of so many cells; 0: there is no such page.
-fn page_width(cells: usize) -> usize
-    ensures { result ≡ page_width cells }
-{
-    if cells == 1920 {
-        return 80;
-    }
-    if cells == 3168 {
-        return 132;
-    }
-    0
-}
-
-// A cell's row and column, from 1.
-fn row_number(width: usize, at: usize) -> u16
-    requires { Width width × (at < wide_cells) }
-    ensures { result ≡ at / width + 1 }
-{
-    if width == 132 {
-        (at / 132 + 1) as u16
-    } else {
-        (at / 80 + 1) as u16
-    }
-}
-
-fn column_number(width: usize, at: usize) -> u16
-    requires { Width width × (at < wide_cells) }
-    ensures { result ≡ at % width + 1 }
-{
-    if width == 132 {
-        (at % 132 + 1) as u16
-    } else {
-        (at % 80 + 1) as u16
-    }
 }
 
 // The four numbers of an entry, from place `at` of the list on.
@@ -171,15 +117,15 @@ fn mend_cell(
     page: &mut [u16],
     list: &mut [u16],
     personality: Personality,
-    width: usize,
+    wide: bool,
     at: usize,
     n: usize,
 ) -> usize
-    requires { Width width
-        × ((at < length page.old)
+    requires { (at < length page.old)
         × ((length page.old ≤ wide_cells)
-        × ((n < wide_cells) × (4 * n + length (entries width (damaged personality at (get_or page.old at 0 ∷ []))) ≤ length list.old)))) }
-    ensures { CellMended personality width at n page.old list.old result page.new list.new }
+        × ((n < wide_cells)
+        × (4 * n + length (entries (columns wide) (damaged personality at (get_or page.old at 0 ∷ []))) ≤ length list.old))) }
+    ensures { CellMended personality (columns wide) at n page.old list.old result page.new list.new }
 {
     let old = page[at];
     if is_writable(personality, old) {
@@ -189,48 +135,36 @@ fn mend_cell(
     put_entry(
         list,
         4 * n,
-        row_number(width, at),
-        column_number(width, at),
+        row_of(wide, at) as u16 + 1,
+        column_of(wide, at) as u16 + 1,
         old,
     );
     n + 1
 }
 
-fn mend_cells(page: &mut [u16], list: &mut [u16], personality: Personality, width: usize)
-    requires { Width width × ((length page.old ≤ wide_cells) × (4 * length (damaged personality 0 page.old) ≤ length list.old)) }
+fn mend_cells(page: &mut [u16], list: &mut [u16], personality: Personality, wide: bool)
+    requires { (length page.old ≤ wide_cells) × (4 * length (damaged personality 0 page.old) ≤ length list.old) }
     ensures cells { page.new ≡ mended personality page.old }
-    ensures listed { list.new ≡ over (entries width (damaged personality 0 page.old)) list.old }
+    ensures listed { list.new ≡ over (entries (columns wide) (damaged personality 0 page.old)) list.old }
 {
     let mut n = 0;
-    let mut at = 0;
-    while at < page.len() {
-        n = mend_cell(page, list, personality, width, at, n);
-        at += 1;
+    for at in 0..page.len() {
+        n = mend_cell(page, list, personality, wide, at, n);
     }
 }
 
 // Unwritable cells, and no others, become unprotected nulls, and the list has an entry of four numbers for each: row, column, old number, new
-// number. Ruled out: a page changed where the list is too short, and an entry for a cell that stays.
-pub fn mend(page: &mut [u16], personality: Personality, list: &mut [u16]) -> MendResult
-    ensures { Gives (mend_rule personality page.old list.old) result page.new list.new }
+// number. How many entries there are. Ruled out: a page changed where the list is too short, and an entry for a cell that stays.
+pub fn mend(page: &mut [u16], personality: Personality, list: &mut [u16]) -> Result<u16, Refusal>
+    ensures { Gives (mend_rule personality page.old list.old) (mend_given result) page.new list.new }
 {
-    let width = page_width(page.len());
-    if width == 0 {
-        return MendResult {
-            answer: 7,
-            needed: 0,
-        };
-    }
+    let Some(wide) = is_wide(page.len()) else {
+        return Err(Refusal::BadCall);
+    };
     let needed = damaged_count(page, personality);
     if list.len() / 4 < needed as usize {
-        return MendResult {
-            answer: 6,
-            needed: needed,
-        };
+        return Err(Refusal::NoRoom { needed });
     }
-    mend_cells(page, list, personality, width);
-    MendResult {
-        answer: 0,
-        needed: needed,
-    }
+    mend_cells(page, list, personality, wide);
+    Ok(needed)
 }

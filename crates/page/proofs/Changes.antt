@@ -10,7 +10,6 @@
 --     left_turn, left_filled                   the loop of a shift to the left: a turn, and the fill after it
 --     right_turn, right_filled                 to the right
 --     none_shifted                             where nothing moves
---     last_count                               the counts of a shift
 --     none_or_some, edit_inside, whole_rows    what is lent to it: an edit run, the cells of whole rows
 --     column_step                              one row of a column
 -- Assumes nothing.
@@ -26,11 +25,12 @@ use lib.ListN.{length, get_or, set, take, drop, replicate, length-append, length
 use lib.Seq.{length-take-le, get_or-drop, get_or-take, get_or-append-add, drop-cons, set_split, ext_get_or}
 use borrow.Rule.Slice.PartMut.{put_mid, mid_len, same_len_mid}
 use Rattle.page.proofs.Loop.{Joined, step_up, step_down}
-use Rattle.rules.specs.Row.{Width}
-use Rattle.rules.specs.Change.{within, fill_cell, filled, shift_left, shift_right, shifted, column_filled}
+use Rattle.rules.specs.Cell.{space}
+use Rattle.rules.specs.Row.{Width, columns}
+use Rattle.rules.specs.Change.{within, fill_cell, filled, shift_left, shift_right, shifted, rows_shifted, column_filled}
 use Rattle.rules.specs.Search.{guarded_at, edit_end}
 use Rattle.rules.proofs.Searching.{length_guards, edit_range}
-use Rattle.rules.proofs.Rows.{rows_le}
+use Rattle.rules.proofs.Rows.{columns_width, rows_le}
 
 -- a part was lent, `&mut page[a..e]`, and came back as q, which f makes of it
 pub lent : (a e : ℕ) (f : List ℕ → List ℕ) (p : List ℕ) {q : List ℕ} → q ≡ f (take (e - a) (drop a p)) → put_mid a (e - a) p q ≡ within a e f p
@@ -267,10 +267,7 @@ none_shifted right k v p h n =
     ext_get_or 0 p (shifted right k v p) (sym (length_shifted right k v p))
     (λ i b. absurd (⊎_elim (λ e. omega arith) (λ e. omega arith) h))
 
--- ---- the parts that move, and their counts
-
-pub last_count : {k : ℕ} → (k ≡ 1) ⊎ Width k → (k ≡ 1 → ⊥) → (k ≡ 80 → ⊥) → k ≡ 132
-last_count h n m = ⊎_elim (λ e. absurd (n e)) (⊎_elim (λ e. absurd (m e)) (λ e. e)) h
+-- ---- the parts that move
 
 pub none_or_some : (n : ℕ) → (n ≡ 0) ⊎ (1 ≤ n)
 none_or_some zero = inl refl
@@ -290,6 +287,25 @@ whole_rows {w} k top bottom p h n =
     (λ e. inl (m ∙ rw e (omega arith)))
     (λ e. inr (omega (arith, m, suc-mul top w, rows_le k {a = suc top} {b = bottom} e)))
     (eq-or-lt_of_le h)
+
+pub wide_columns : {wide : Bool} → wide ≡ true → columns wide ≡ 132
+unfolding columns
+wide_columns e = rw e
+
+pub narrow_columns : {wide : Bool} → wide ≡ false → columns wide ≡ 80
+unfolding columns
+narrow_columns e = rw e
+
+-- the rows `top` up to `bottom` are lent, and come back moved by k cells, which is one row
+pub rows_lent : (wide : Bool) {k a e : ℕ} → columns wide ≡ k → (top bottom : ℕ) → a ≡ top * columns wide → e ≡ bottom * columns wide → (p : List ℕ)
+    → top ≤ bottom → bottom * columns wide ≤ length p → (length (take (e - a) (drop a p)) ≡ 0) ⊎ (k ≤ length (take (e - a) (drop a p)))
+rows_lent wide n top bottom i j p r m = rw (← n, i, j) (whole_rows (columns_width wide) top bottom p r m)
+
+module _ (wide down : Bool) {k a e : ℕ} (n : columns wide ≡ k) (top bottom : ℕ) (i : a ≡ top * columns wide) (j : e ≡ bottom * columns wide) (p : List ℕ) where
+  pub rows_moved : {q : List ℕ} → q ≡ shifted down k space (take (e - a) (drop a p))
+      → put_mid a (e - a) p q ≡ rows_shifted (columns wide) down top bottom p
+  unfolding rows_shifted
+  rows_moved h = lent a e (shifted down k space) p h ∙ rw (i, j, ← n)
 
 -- ---- one row of a column
 

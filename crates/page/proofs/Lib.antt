@@ -7,3 +7,4 @@ pub mod Sends
 pub mod RowList
 pub mod RowSearch
 mod OpenSearch
+mod KindLaws

@@ -1,12 +1,13 @@
 -- Laws of the row list: its numbers, and counting them.
 --     numbers_at                           the numbers of a row
 --     guards_take, guards_drop, guards_part     which cells of a part are guarded
+--     row_fits                             a row's cells lie in the page
 --     all_counted, row_counted, list_all   the loop that counts rows
---     same_cons, same_none, same_length    the loop that compares two lists
+--     equal_same                           the test of two lists
 --     listed, listed_length, beside_is     a list that is there is the page's
 -- Assumes nothing.
 use mathlib.Core.Path.{◌≡◌, refl, sym, ap, subst, ◌∙◌}
-use mathlib.Core.Bool.{Bool, true, false}
+use mathlib.Core.Bool.{Bool, true, false, ◌&&◌}
 use mathlib.Core.List.{List, [], ◌∷◌}
 use mathlib.Core.Logic.{◌⊎◌, inl, inr, ⊎_elim}
 use Prim.Native.Nat.{ℕ, zero, suc, ◌+◌, ◌*◌, ◌/◌, ◌≤◌, ◌<◌}
@@ -14,14 +15,16 @@ use native.Mathlib.Nat.{zero-mul, suc-mul, not-suc-le-zero, le_of_suc-le-suc, eq
 use native.Mathlib.Numerals.{add-one}
 use native.Mathlib.Omega.{arith}
 use lib.Dec.{ltb, eqb}
+use lib.Pointwise.{pointwise}
 use lib.ListN.{length, get_or, take, drop, set, length-set, drop_of_length-le}
 use lib.Seq.{drop-cons, drop-drop, get_or-set_same, get_or-set_other, ext_get_or}
 use borrow.Author.Tests.{ltb-true, ltb-false}
 use Rattle.rules.specs.Cell.{both, guarded, same}
+use Rattle.rules.specs.Row.{columns}
 use Rattle.rules.specs.Search.{guarded_at, which_cells}
 use Rattle.rules.specs.RowList.{open_count, first_column, row_numbers, row_list, Beside}
 use Rattle.page.specs.RowList.{row_at, RowAt, AllBut}
-use Rattle.rules.proofs.RowSteps.{same_is, length_list}
+use Rattle.rules.proofs.RowSteps.{length_list}
 
 -- ---- the numbers of a row
 
@@ -67,6 +70,12 @@ guards_drop on (suc n) (v ∷ p) = guards_drop on n p
 
 pub guards_part : (on : Bool) (a n : ℕ) (p : List ℕ) → guarded_at on (take n (drop a p)) ≡ take n (drop a (guarded_at on p))
 guards_part on a n p = guards_take on n (drop a p) ∙ ap (take n) (guards_drop on a p)
+
+pub row_fits : (wide : Bool) (row : ℕ) → row < 24
+    → (row * columns wide + columns wide ≡ (row + 1) * columns wide) × (((row + 1) * columns wide ≤ 24 * columns wide) × (24 * columns wide ≤ 3168))
+unfolding columns
+row_fits true row h = omega arith
+row_fits false row h = omega arith
 
 -- ---- counting
 
@@ -134,21 +143,16 @@ module _ (w : ℕ) (g : List Bool) (l : List ℕ) where
 
 -- ---- the test of two lists
 
-pub same_length : (k l : List ℕ) → (length k ≡ length l → ⊥) → false ≡ same k l
-same_length k l n = by (same k l) refl
+pub equal_same : (k l : List ℕ) → pointwise eqb k l ≡ same k l
+unfolding same
+equal_same [] [] = refl
+equal_same [] (y ∷ l) = refl
+equal_same (x ∷ k) [] = refl
+equal_same (x ∷ k) (y ∷ l) = by (eqb x y) _ _ (equal_same k l)
   where
-    by : (t : Bool) → same k l ≡ t → false ≡ t
-    by true e = absurd (n (ap length (same_is k l e)))
-    by false e = refl
-
-pub same_cons : (k l : List ℕ) (i : ℕ) → i < length k → i < length l
-    → same (drop i k) (drop i l) ≡ both (eqb (get_or k i 0) (get_or l i 0)) (same (drop (i + 1) k) (drop (i + 1) l))
-unfolding same
-same_cons k l i h n = rw (drop-cons k i 0 h, drop-cons l i 0 n, add-one)
-
-pub same_none : (k l : List ℕ) (i : ℕ) → length k ≤ i → length k ≡ length l → same (drop i k) (drop i l) ≡ true
-unfolding same
-same_none k l i h e = rw (drop_of_length-le k {i = i} h, drop_of_length-le l {i = i} (omega arith))
+    by : (t a b : Bool) → a ≡ b → (t && a) ≡ both t b
+    by true a b e = e
+    by false a b e = refl
 
 -- ---- what is kept beside a page
 

@@ -1,6 +1,7 @@
 // One cell's number: read by remainder and quotient, and made.
-ghost use Rattle.std.specs.Prelude.{◌≡◌, ◌<◌, ◌≤◌};
+ghost use Rattle.std.specs.Prelude.{◌≡◌, ◌<◌};
 ghost use Rattle.rules.specs.Cell.{code, protected, kind, attribute, cell, written, guarded, is_open, sent};
+ghost use Rattle.page.specs.Kind.{kind_number};
 
 use rules::Contents;
 
@@ -29,12 +30,36 @@ pub fn is_protected(v: u16) -> bool
     v / 128 % 2 == 1
 }
 
-// 0 text, 1 attribute, 2 graphic, and 3 reads as graphic.
-pub fn kind_of(v: u16) -> u8
-    ensures { result ≡ kind v }
+// What a cell is, in the order of the numbers.
+#[derive(Clone, Copy, PartialEq, Eq, Debug)]
+pub enum Kind {
+    Text,
+    Attribute,
+    Graphic,
+}
+
+impl Kind {
+    // 0, 1 and 2.
+    pub fn number(self) -> u8
+        ensures { result ≡ kind_number self }
+    {
+        match self {
+            Kind::Text => 0,
+            Kind::Attribute => 1,
+            Kind::Graphic => 2,
+        }
+    }
+}
+
+// The kind; 3 reads as graphic.
+pub fn kind_of(v: u16) -> Kind
+    ensures { kind_number result ≡ kind v }
 {
-    let k = v / 256 % 4;
-    if k < 2 { k as u8 } else { 2 }
+    match v / 256 % 4 {
+        0 => Kind::Text,
+        1 => Kind::Attribute,
+        _ => Kind::Graphic,
+    }
 }
 
 // The attribute: dim 16, underscore 8, reverse 4, blink 2, blank 1.
@@ -44,16 +69,12 @@ pub fn attribute_of(v: u16) -> u8
     (v / 1024 % 32) as u8
 }
 
-fn make(code: u8, protected: bool, kind: u16, attribute: u8) -> u16
-    requires { (kind ≤ 2) × (attribute < 32) }
-    ensures { result ≡ cell code protected kind attribute }
+fn make(code: u8, protected: bool, kind: Kind, attribute: u8) -> u16
+    requires { attribute < 32 }
+    ensures { result ≡ cell code protected (kind_number kind) attribute }
 {
-    let flags = 1024 * attribute as u16;
-    if protected {
-        code as u16 + 128 + 256 * kind + flags
-    } else {
-        code as u16 + 256 * kind + flags
-    }
+    let open = code as u16 + 256 * kind.number() as u16 + 1024 * attribute as u16;
+    if protected { open + 128 } else { open }
 }
 
 // The number of a written cell.
@@ -62,9 +83,9 @@ pub fn written_cell(contents: Contents, protected: bool, attribute: u8) -> u16
     ensures { result ≡ written contents protected attribute }
 {
     match contents {
-        Contents::Text(code) => make(code, protected, 0, attribute),
-        Contents::Attribute(code) => make(code, protected, 1, attribute),
-        Contents::Graphic(code) => make(code, protected, 2, attribute),
+        Contents::Text(code) => make(code, protected, Kind::Text, attribute),
+        Contents::Attribute(code) => make(code, protected, Kind::Attribute, attribute),
+        Contents::Graphic(code) => make(code, protected, Kind::Graphic, attribute),
     }
 }
 
@@ -72,7 +93,7 @@ pub fn written_cell(contents: Contents, protected: bool, attribute: u8) -> u16
 pub fn is_guarded(protect: bool, v: u16) -> bool
     ensures { result ≡ guarded protect v }
 {
-    if protect { is_protected(v) } else { false }
+    protect && is_protected(v)
 }
 
 pub fn is_open(protect: bool, v: u16) -> bool
@@ -85,13 +106,10 @@ pub fn is_open(protect: bool, v: u16) -> bool
 pub fn sent_code(v: u16) -> u8
     ensures { result ≡ sent v }
 {
-    if kind_of(v) == 0 {
-        let code = code_of(v);
-        if 0x20 <= code {
-            if code <= 0x7e {
-                return code;
-            }
-        }
+    let code = code_of(v);
+    if kind_of(v) == Kind::Text && 0x20 <= code && code <= 0x7e {
+        code
+    } else {
+        0x20
     }
-    0x20
 }

@@ -25,10 +25,8 @@ pub fn convert_page(page: &[u16], wide: bool, target: &mut [u16])
     requires { (length page.now ≡ 24 * columns wide) × (length target.old ≡ 24 * other_width wide) }
     ensures { target.new ≡ converted wide page.now }
 {
-    let mut i = 0;
-    while i < target.len() {
+    for i in 0..target.len() {
         target[i] = cell_for(page, wide, i);
-        i += 1;
     }
 }
 
@@ -36,10 +34,7 @@ pub fn convert_page(page: &[u16], wide: bool, target: &mut [u16])
 fn is_lost(v: u16, i: usize) -> bool
     ensures { result ≡ both (leb 80 (i % 132)) (not (eqb v 0)) }
 {
-    if i % 132 < 80 {
-        return false;
-    }
-    v != 0
+    80 <= i % 132 && v != NULL
 }
 
 // Whether narrowing loses a cell: one beyond column 80 is not 0. Widening loses none.
@@ -50,12 +45,10 @@ pub fn loses_cells(page: &[u16], wide: bool) -> bool
     if !wide {
         return false;
     }
-    let mut i = 0;
-    while i < page.len() {
-        if is_lost(page[i], i) {
+    for (i, v) in page.iter().enumerate() {
+        if is_lost(*v, i) {
             return true;
         }
-        i += 1;
     }
     false
 }

@@ -1,13 +1,13 @@
 // The row list: for each row the number of its open cells, and the column of the first. Settling by it skips the rows that have none.
 ghost use Rattle.std.specs.Prelude.{◌≡◌, ◌+◌, ◌-◌, ◌*◌, ◌/◌, ◌%◌, ◌<◌, ◌≤◌, [], ◌∷◌, length, set};
-ghost use Rattle.rules.specs.Row.{Width, row_end};
+ghost use Rattle.rules.specs.Row.{columns, row_end};
 ghost use Rattle.rules.specs.Search.{guarded_at, others, first_in, settled};
 ghost use Rattle.rules.specs.Cell.{same as same_list};
 ghost use Rattle.rules.specs.RowList.{open_count, first_column, row_list};
 ghost use Rattle.page.specs.RowList.{row_at, AllBut, FirstRow};
 
 use crate::cell::is_guarded;
-use crate::search::{first_sought, row_end, row_of};
+use crate::search::{first_cell, first_sought, row_end, row_of};
 use rules::Sought;
 
 fn open_cell(protect: bool, v: u16) -> u16
@@ -21,10 +21,8 @@ fn open_count(part: &[u16], protect: bool) -> u16
     ensures { result ≡ open_count (guarded_at protect part.now) }
 {
     let mut n: u16 = 0;
-    let mut i = 0;
-    while i < part.len() {
-        n += open_cell(protect, part[i]);
-        i += 1;
+    for v in part {
+        n += open_cell(protect, *v);
     }
     n
 }
@@ -41,14 +39,14 @@ fn first_column(part: &[u16], protect: bool, count: u16) -> u16
 }
 
 // The numbers of one row.
-fn count_row(rows: &mut [u16], page: &[u16], width: usize, protect: bool, row: usize)
-    requires { Width width × ((length page.now ≡ 24 * width) × ((length rows.old ≡ 48) × (row < 24))) }
+fn count_row(rows: &mut [u16], page: &[u16], wide: bool, protect: bool, row: usize)
+    requires { (length page.now ≡ 24 * columns wide) × ((length rows.old ≡ 48) × (row < 24)) }
     ensures { rows.new
-        ≡ set (set rows.old (2 * row) (open_count (row_at width (guarded_at protect page.now) row))) (2 * row + 1)
-        (first_column (row_at width (guarded_at protect page.now) row)) }
+        ≡ set (set rows.old (2 * row) (open_count (row_at (columns wide) (guarded_at protect page.now) row))) (2 * row + 1)
+        (first_column (row_at (columns wide) (guarded_at protect page.now) row)) }
 {
-    let from = row * width;
-    let to = from + width;
+    let from = first_cell(wide, row);
+    let to = first_cell(wide, row + 1);
     let count = open_count(&page[from..to], protect);
     let first = first_column(&page[from..to], protect, count);
     rows[2 * row] = count;
@@ -56,62 +54,32 @@ fn count_row(rows: &mut [u16], page: &[u16], width: usize, protect: bool, row: u
 }
 
 // The numbers of the rows `top` up to `bottom`, where those of the others are right.
-pub fn recount(
-    rows: &mut [u16],
-    page: &[u16],
-    width: usize,
-    protect: bool,
-    top: usize,
-    bottom: usize,
-)
-    requires { Width width
-        × ((length page.now ≡ 24 * width)
-        × ((length rows.old ≡ 48) × ((top ≤ bottom) × ((bottom ≤ 24) × AllBut width (guarded_at protect page.now) rows.old top bottom)))) }
-    ensures { rows.new ≡ row_list width (guarded_at protect page.now) }
+pub fn recount(rows: &mut [u16], page: &[u16], wide: bool, protect: bool, top: usize, bottom: usize)
+    requires { (length page.now ≡ 24 * columns wide)
+        × ((length rows.old ≡ 48) × ((top ≤ bottom) × ((bottom ≤ 24) × AllBut (columns wide) (guarded_at protect page.now) rows.old top bottom))) }
+    ensures { rows.new ≡ row_list (columns wide) (guarded_at protect page.now) }
 {
-    let mut row = top;
-    while row < bottom {
-        count_row(rows, page, width, protect, row);
-        row += 1;
+    for row in top..bottom {
+        count_row(rows, page, wide, protect, row);
     }
 }
 
 // All of it, whatever stood there.
-pub fn rebuild(rows: &mut [u16], page: &[u16], width: usize, protect: bool)
-    requires { Width width × ((length page.now ≡ 24 * width) × (length rows.old ≡ 48)) }
-    ensures { rows.new ≡ row_list width (guarded_at protect page.now) }
+pub fn rebuild(rows: &mut [u16], page: &[u16], wide: bool, protect: bool)
+    requires { (length page.now ≡ 24 * columns wide) × (length rows.old ≡ 48) }
+    ensures { rows.new ≡ row_list (columns wide) (guarded_at protect page.now) }
 {
-    recount(rows, page, width, protect, 0, 24);
-}
-
-fn same(a: &[u16], b: &[u16]) -> bool
-    requires { (length a.now ≤ 48) × (length b.now ≤ 48) }
-    ensures { result ≡ same_list a.now b.now }
-{
-    if a.len() != b.len() {
-        return false;
-    }
-    let mut i = 0;
-    while i < a.len() {
-        if a[i] != b[i] {
-            return false;
-        }
-        i += 1;
-    }
-    true
+    recount(rows, page, wide, protect, 0, 24);
 }
 
 // Whether a list is that of the page.
-pub fn is_row_list(rows: &[u16], page: &[u16], width: usize, protect: bool) -> bool
-    requires { Width width × (length page.now ≡ 24 * width) }
-    ensures { result ≡ same_list rows.now (row_list width (guarded_at protect page.now)) }
+pub fn is_row_list(rows: &[u16], page: &[u16], wide: bool, protect: bool) -> bool
+    requires { length page.now ≡ 24 * columns wide }
+    ensures { result ≡ same_list rows.now (row_list (columns wide) (guarded_at protect page.now)) }
 {
-    if rows.len() != 48 {
-        return false;
-    }
     let mut right: [u16; 48] = [0; 48];
-    rebuild(&mut right, page, width, protect);
-    same(rows, &right)
+    rebuild(&mut right, page, wide, protect);
+    rows == right.as_slice()
 }
 
 // The first of the rows `from` up to `bottom` that has an open cell, or `bottom`.
@@ -119,28 +87,26 @@ fn row_with_room(rows: &[u16], from: usize, bottom: usize) -> usize
     requires { (from ≤ bottom) × ((bottom ≤ 24) × (length rows.now ≡ 48)) }
     ensures { FirstRow rows.now from bottom result }
 {
-    let mut row = from;
-    while row < bottom {
+    for row in from..bottom {
         if rows[2 * row] != 0 {
             return row;
         }
-        row += 1;
     }
-    row
+    bottom
 }
 
 // The first open cell from `from` up to the end of its row, or that end.
-fn first_in_row(page: &[u16], rows: &[u16], width: usize, protect: bool, from: usize) -> usize
-    requires { Width width
-        × ((length page.now ≡ 24 * width) × ((rows.now ≡ row_list width (guarded_at protect page.now)) × (from < 24 * width))) }
-    ensures { result ≡ first_in (others (guarded_at protect page.now)) from (row_end width from) }
+fn first_in_row(page: &[u16], rows: &[u16], wide: bool, protect: bool, from: usize) -> usize
+    requires { (length page.now ≡ 24 * columns wide)
+        × ((rows.now ≡ row_list (columns wide) (guarded_at protect page.now)) × (from < 24 * columns wide)) }
+    ensures { result ≡ first_in (others (guarded_at protect page.now)) from (row_end (columns wide) from) }
 {
-    let stop = row_end(width, from);
-    let row = row_of(width, from);
+    let stop = row_end(wide, from);
+    let row = row_of(wide, from);
     if rows[2 * row] == 0 {
         return stop;
     }
-    let first = row * width + rows[2 * row + 1] as usize - 1;
+    let first = first_cell(wide, row) + rows[2 * row + 1] as usize - 1;
     if from <= first {
         return first;
     }
@@ -151,26 +117,25 @@ fn first_in_row(page: &[u16], rows: &[u16], width: usize, protect: bool, from: u
 fn first_open(
     page: &[u16],
     rows: &[u16],
-    width: usize,
+    wide: bool,
     protect: bool,
     from: usize,
     bottom: usize,
 ) -> usize
-    requires { Width width
-        × ((length page.now ≡ 24 * width)
-        × ((rows.now ≡ row_list width (guarded_at protect page.now)) × ((from < bottom * width) × (bottom ≤ 24)))) }
-    ensures { result ≡ first_in (others (guarded_at protect page.now)) from (bottom * width) }
+    requires { (length page.now ≡ 24 * columns wide)
+        × ((rows.now ≡ row_list (columns wide) (guarded_at protect page.now)) × ((from < bottom * columns wide) × (bottom ≤ 24))) }
+    ensures { result ≡ first_in (others (guarded_at protect page.now)) from (bottom * columns wide) }
 {
-    let here = first_in_row(page, rows, width, protect, from);
-    if here < row_end(width, from) {
+    let here = first_in_row(page, rows, wide, protect, from);
+    if here < row_end(wide, from) {
         return here;
     }
-    let next = row_of(width, from) + 1;
+    let next = row_of(wide, from) + 1;
     let row = row_with_room(rows, next, bottom);
     if row < bottom {
-        row * width + rows[2 * row + 1] as usize - 1
+        first_cell(wide, row) + rows[2 * row + 1] as usize - 1
     } else {
-        bottom * width
+        first_cell(wide, bottom)
     }
 }
 
@@ -178,23 +143,22 @@ fn first_open(
 pub fn settle_rows(
     page: &[u16],
     rows: &[u16],
-    width: usize,
+    wide: bool,
     protect: bool,
     first: usize,
     end: usize,
     from: usize,
 ) -> usize
-    requires { Width width
-        × ((length page.now ≡ 24 * width)
-        × ((rows.now ≡ row_list width (guarded_at protect page.now))
-        × ((first < end) × ((from < end) × ((end ≤ 24 * width) × (end / width * width ≡ end)))))) }
+    requires { (length page.now ≡ 24 * columns wide)
+        × ((rows.now ≡ row_list (columns wide) (guarded_at protect page.now))
+        × ((first < end) × ((from < end) × ((end ≤ 24 * columns wide) × (end / columns wide * columns wide ≡ end))))) }
     ensures { result ≡ settled (guarded_at protect page.now) first end from }
 {
-    let bottom = row_of(width, end);
-    let after = first_open(page, rows, width, protect, from, bottom);
+    let bottom = row_of(wide, end);
+    let after = first_open(page, rows, wide, protect, from, bottom);
     if after < end {
         return after;
     }
-    let wrapped = first_open(page, rows, width, protect, first, bottom);
+    let wrapped = first_open(page, rows, wide, protect, first, bottom);
     if wrapped < end { wrapped } else { first }
 }

@@ -1,7 +1,8 @@
 // Searches: one loop up and one down over the cells, and the same over the tab stops.
-ghost use Rattle.std.specs.Prelude.{◌≡◌, true, false, ℕ, ◌+◌, ◌-◌, ◌*◌, ◌/◌, ◌<◌, ◌≤◌, eqb, length, get_or};
+ghost use Rattle.std.specs.Prelude.{◌≡◌, true, false, ℕ, ◌+◌, ◌-◌, ◌*◌, ◌/◌, ◌%◌, ◌<◌, ◌≤◌, eqb, length, get_or, MatchOption};
 ghost use Rattle.rules.specs.Cell.{either};
-ghost use Rattle.rules.specs.Row.{Width, row_end};
+ghost use Rattle.rules.specs.Row.{columns, row_end};
+ghost use Rattle.rules.specs.Fields.{page_width};
 ghost use Rattle.rules.specs.Search.{guarded_at, sought_at, first_in, last_in, around};
 ghost use Rattle.rules.specs.Search.{around_back, settled, previous_open, next_field, previous_field};
 ghost use Rattle.rules.specs.Search.{next_tab, previous_tab, edit_end};
@@ -21,24 +22,14 @@ fn is_start(page: &[u16], protect: bool, first: usize, at: usize) -> bool
     requires { at < length page.now }
     ensures { result ≡ either (eqb at first) (either (eqb at 0) (get_or (guarded_at protect page.now) (at - 1) false)) }
 {
-    if at == first {
-        return true;
-    }
-    if at == 0 {
-        return true;
-    }
-    is_guarded_at(page, protect, at - 1)
+    at == first || (at == 0 || is_guarded_at(page, protect, at - 1))
 }
 
 fn is_field_start(page: &[u16], protect: bool, first: usize, at: usize) -> bool
     requires { at < length page.now }
     ensures { result ≡ get_or (sought_at (Sought.FieldStart first) (guarded_at protect page.now)) at false }
 {
-    if is_guarded_at(page, protect, at) {
-        false
-    } else {
-        is_start(page, protect, first, at)
-    }
+    !is_guarded_at(page, protect, at) && is_start(page, protect, first, at)
 }
 
 // Whether the cell is what is looked for.
@@ -53,22 +44,20 @@ fn is_sought(page: &[u16], protect: bool, sought: Sought, at: usize) -> bool
     }
 }
 
-// The first cell sought from `from` up to `end`, or `end`.
+// The first cell sought from `from` up to `end`, or `end`: what an edit run, a row and a field take where there is none.
 pub fn first_sought(page: &[u16], protect: bool, sought: Sought, from: usize, end: usize) -> usize
     requires { (from ≤ end) × (end ≤ length page.now) }
     ensures { result ≡ first_in (sought_at sought (guarded_at protect page.now)) from end }
 {
-    let mut at = from;
-    while at < end {
+    for at in from..end {
         if is_sought(page, protect, sought, at) {
             return at;
         }
-        at += 1;
     }
-    at
+    end
 }
 
-// The last cell sought from `first` up to `end`, or `none`.
+// The last cell sought from `first` up to `end`, or `none`: each caller has a cell of its own for that.
 fn last_sought(
     page: &[u16],
     protect: bool,
@@ -80,9 +69,7 @@ fn last_sought(
     requires { (first ≤ end) × (end ≤ length page.now) }
     ensures { result ≡ last_in none (sought_at sought (guarded_at protect page.now)) first end }
 {
-    let mut at = end;
-    while first < at {
-        at -= 1;
+    for at in (first..end).rev() {
         if is_sought(page, protect, sought, at) {
             return at;
         }
@@ -141,10 +128,8 @@ fn are_guarded(page: &[u16], protect: bool, at: usize) -> bool
     ensures { result ≡ true → (j : ℕ) → j < 8 → get_or (guarded_at protect page.now) (at + j) false ≡ true }
 {
     let mut all = true;
-    let mut i = 0;
-    while i < 8 {
+    for i in 0..8 {
         all = both(all, is_guarded_at(page, protect, at + i));
-        i += 1;
     }
     all
 }
@@ -156,6 +141,7 @@ fn near_open(page: &[u16], protect: bool, from: usize, end: usize) -> usize
         × (first_in (sought_at Sought.Open (guarded_at protect page.now)) from end
         ≡ first_in (sought_at Sought.Open (guarded_at protect page.now)) result end) }
 {
+    // A `for` with steps of eight would not stop before the last few cells.
     let mut at = from;
     while at + 8 <= end {
         if !are_guarded(page, protect, at) {
@@ -202,41 +188,74 @@ pub fn previous_field(page: &[u16], protect: bool, first: usize, end: usize, at:
     sought_back(page, protect, Sought::FieldStart(first), first, end, at)
 }
 
-// A cell's row. Each division is by a number that is known when the program is built: these are fast.
-pub fn row_of(width: usize, at: usize) -> usize
-    requires { Width width }
-    ensures { result ≡ at / width }
+// How many columns a page has, wide or not. Here in usize, as slices are indexed; state::width has these in u16, as cells are kept in a state.
+#[tactic(auto, unfolding(rules::specs::Row::columns))]
+pub fn columns(wide: bool) -> usize
+    ensures { result ≡ columns wide }
 {
-    if width == 132 { at / 132 } else { at / 80 }
+    if wide { 132 } else { 80 }
+}
+
+// Whether a page of so many cells is wide; `None`: no page has so many.
+pub fn is_wide(cells: usize) -> Option<bool>
+    ensures { MatchOption result (page_width cells ≡ 0) (λ wide. page_width cells ≡ columns wide) }
+{
+    match cells {
+        1920 => Some(false),
+        3168 => Some(true),
+        _ => None,
+    }
+}
+
+// A cell's row and its column. Each division is by a number that is known when the program is built: these are fast.
+#[tactic(auto, unfolding(rules::specs::Row::columns))]
+pub fn row_of(wide: bool, at: usize) -> usize
+    ensures { result ≡ at / columns wide }
+{
+    if wide { at / 132 } else { at / 80 }
+}
+
+#[tactic(auto, unfolding(rules::specs::Row::columns))]
+pub fn column_of(wide: bool, at: usize) -> usize
+    ensures { result ≡ at % columns wide }
+{
+    if wide { at % 132 } else { at % 80 }
+}
+
+// The first cell of a row; of row 24, the end of the page.
+#[tactic(auto, unfolding(rules::specs::Row::columns))]
+pub fn first_cell(wide: bool, row: usize) -> usize
+    requires { row ≤ 24 }
+    ensures { result ≡ row * columns wide }
+{
+    if wide { row * 132 } else { row * 80 }
 }
 
 // The end of a cell's row.
-pub fn row_end(width: usize, at: usize) -> usize
-    requires { Width width × (at < 24 * width) }
-    ensures { result ≡ row_end width at }
+pub fn row_end(wide: bool, at: usize) -> usize
+    requires { at < 24 * columns wide }
+    ensures { result ≡ row_end (columns wide) at }
 {
-    row_of(width, at) * width + width
+    first_cell(wide, row_of(wide, at) + 1)
 }
 
 // The end of the edit run: the next guarded cell, or the end of the row.
-pub fn edit_end(page: &[u16], width: usize, protect: bool, at: usize) -> usize
-    requires { Width width × ((length page.now ≡ 24 * width) × (at < 24 * width)) }
-    ensures { result ≡ edit_end width (guarded_at protect page.now) at }
+pub fn edit_end(page: &[u16], wide: bool, protect: bool, at: usize) -> usize
+    requires { (length page.now ≡ 24 * columns wide) × (at < 24 * columns wide) }
+    ensures { result ≡ edit_end (columns wide) (guarded_at protect page.now) at }
 {
-    first_sought(page, protect, Sought::Guarded, at, row_end(width, at))
+    first_sought(page, protect, Sought::Guarded, at, row_end(wide, at))
 }
 
 // 09h with protect off: the next tab stop to the right, or `column`.
-pub fn next_tab(tabs: [bool; 132], width: usize, column: usize) -> usize
-    requires { (column < width) × (width ≤ 132) }
-    ensures { result ≡ next_tab width tabs column }
+pub fn next_tab(tabs: [bool; 132], wide: bool, column: usize) -> usize
+    requires { column < columns wide }
+    ensures { result ≡ next_tab (columns wide) tabs column }
 {
-    let mut stop = column + 1;
-    while stop < width {
+    for stop in column + 1..columns(wide) {
         if tabs[stop] {
             return stop;
         }
-        stop += 1;
     }
     column
 }
@@ -246,9 +265,7 @@ pub fn previous_tab(tabs: [bool; 132], column: usize) -> usize
     requires { column ≤ 132 }
     ensures { result ≡ previous_tab tabs column }
 {
-    let mut stop = column;
-    while 0 < stop {
-        stop -= 1;
+    for stop in (0..column).rev() {
         if tabs[stop] {
             return stop;
         }

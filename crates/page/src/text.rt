@@ -1,13 +1,13 @@
 // What a send puts into a room: the text from one of its places on, a row at a time, as much as fits; bytes; and the one cell of ESC M.
 ghost use Rattle.std.specs.Prelude.{◌≡◌, ◌+◌, ◌-◌, ◌*◌, ◌<◌, ◌≤◌, eqb, length, get_or, drop};
 ghost use Rattle.rules.specs.Cell.{pick};
-ghost use Rattle.rules.specs.Row.{Width, wide_cells};
+ghost use Rattle.rules.specs.Row.{columns, wide_cells};
 ghost use Rattle.rules.specs.Send.{open_cell, each, leaves_out, left_out, follows_left_out, text_at};
 ghost use Rattle.page.specs.Room.{stands, gone};
 ghost use Rattle.page.specs.Text.{GoodAt, Stretch, Skipped, RowSent};
 
 use crate::cell::{is_guarded, is_protected, sent_code};
-use crate::search::row_end;
+use crate::search::{column_of, columns, row_end};
 use rules::{Place, Sending, Short};
 
 // What a send comes to: how many bytes went, and the send that is left.
@@ -43,8 +43,7 @@ pub fn send_bytes(room: &mut [u8], bytes: &[u8], reply: Short, from: u8) -> Sent
         ≡ gone (each reply from (drop from bytes.now)) 0 room.old }
 {
     let mut n = 0;
-    let mut i = from as usize;
-    while i < bytes.len() {
+    for i in from as usize..bytes.len() {
         if n == room.len() {
             return Sent {
                 replied: n,
@@ -53,7 +52,6 @@ pub fn send_bytes(room: &mut [u8], bytes: &[u8], reply: Short, from: u8) -> Sent
         }
         room[n] = bytes[i];
         n += 1;
-        i += 1;
     }
     Sent {
         replied: n,
@@ -65,7 +63,7 @@ pub fn send_bytes(room: &mut [u8], bytes: &[u8], reply: Short, from: u8) -> Sent
 fn left_out(all: bool, v: u16) -> bool
     ensures { result ≡ left_out (leaves_out all) v }
 {
-    if all { false } else { is_protected(v) }
+    !all && is_protected(v)
 }
 
 // The end, or as many cells from `from` on as there is room for.
@@ -73,7 +71,7 @@ fn cut(from: usize, end: usize, room: usize) -> usize
     requires { (from ≤ end) × (end ≤ wide_cells) }
     ensures { (from ≤ result) × ((result ≤ end) × ((result ≤ from + room) × (result < end → result ≡ from + room))) }
 {
-    if end - from <= room { end } else { from + room }
+    from + room.min(end - from)
 }
 
 // The cells from `from` on that are sent, up to the first that is left out or `end`, into the room from place n on; where they end.
@@ -89,16 +87,14 @@ fn send_stretch(
     ensures { Stretch page.now all from end n room.old result room.new }
 {
     let mut k = n;
-    let mut i = from;
-    while i < end {
+    for i in from..end {
         if left_out(all, page[i]) {
             return i;
         }
         room[k] = sent_code(page[i]);
         k += 1;
-        i += 1;
     }
-    i
+    end
 }
 
 // The first cell from `from` on that is sent, where the one before it is left out; or the end.
@@ -106,17 +102,15 @@ fn stretch_end(page: &[u16], all: bool, after: bool, from: usize, end: usize) ->
     requires { (from ≤ end) × ((end ≤ length page.now) × (length page.now ≤ wide_cells)) }
     ensures { Skipped page.now all after from end result }
 {
-    let mut i = from;
     if !after {
-        return i;
+        return from;
     }
-    while i < end {
+    for i in from..end {
         if !left_out(all, page[i]) {
             return i;
         }
-        i += 1;
     }
-    i
+    end
 }
 
 // Where a row's cells stand: the next cell, and its place in the room.
@@ -143,31 +137,29 @@ fn send_row(
     let mut n = start;
     let mut at = from;
     let mut after = follows;
+    // The room and the row both run out, at their own pace: no one range to go over.
     while n < room.len() {
         let first = stretch_end(page, all, after, at, end);
         let stop = cut(first, end, room.len() - n);
         let next = send_stretch(room, n, page, all, first, stop);
         n += next - first;
         if next == stop {
-            return RowResult { n: n, at: next };
+            return RowResult { n, at: next };
         }
         room[n] = 0x1c;
         n += 1;
         at = next + 1;
         after = true;
     }
-    RowResult { n: n, at: at }
+    RowResult { n, at }
 }
 
 // Whether the cell before this one in its row is left out.
-fn follows_left_out(page: &[u16], width: usize, all: bool, at: usize) -> bool
-    requires { Width width × ((at < length page.now) × (length page.now ≤ wide_cells)) }
-    ensures { result ≡ follows_left_out width all page.now at }
+fn follows_left_out(page: &[u16], wide: bool, all: bool, at: usize) -> bool
+    requires { (at < length page.now) × (length page.now ≤ wide_cells) }
+    ensures { result ≡ follows_left_out (columns wide) all page.now at }
 {
-    if at % width == 0 {
-        return false;
-    }
-    left_out(all, page[at - 1])
+    column_of(wide, at) != 0 && left_out(all, page[at - 1])
 }
 
 // What stands behind the last cell of a row in the text before `to`.
@@ -188,11 +180,7 @@ fn stop_at(n: usize, all: bool, segment: bool, at: Place) -> Sent
 {
     Sent {
         replied: n,
-        left: Sending::Text {
-            all: all,
-            segment: segment,
-            at: at,
-        },
+        left: Sending::Text { all, segment, at },
     }
 }
 
@@ -201,20 +189,21 @@ fn send_rows(
     room: &mut [u8],
     start: usize,
     page: &[u16],
-    width: usize,
+    wide: bool,
     to: usize,
     all: bool,
     segment: bool,
     from: usize,
 ) -> Sent
-    requires { Width width × ((from < to) × ((to ≤ length page.now) × ((length page.now ≡ 24 * width) × (start ≤ length room.old)))) }
+    requires { (from < to) × ((to ≤ length page.now) × ((length page.now ≡ 24 * columns wide) × (start ≤ length room.old))) }
     ensures { stands room.new result.replied result.left
-        ≡ gone (text_at width page.now to all segment (Place.Cell from)) start room.old }
+        ≡ gone (text_at (columns wide) page.now to all segment (Place.Cell from)) start room.old }
 {
     let mut replied = start;
     let mut at = from;
-    let mut after = follows_left_out(page, width, all, from);
-    let mut end = cut(at, to, row_end(width, from) - from);
+    let mut after = follows_left_out(page, wide, all, from);
+    let mut end = cut(at, to, row_end(wide, from) - from);
+    // The same for the rows.
     while replied < room.len() {
         let row = send_row(room, replied, page, all, after, at, end);
         replied = row.n;
@@ -235,7 +224,7 @@ fn send_rows(
         room[replied] = 0x1f;
         replied += 1;
         after = false;
-        end = cut(at, to, width);
+        end = cut(at, to, columns(wide));
     }
     stop_at(replied, all, segment, Place::Cell(at as u16))
 }
@@ -244,21 +233,21 @@ fn send_rows(
 pub fn send_text(
     room: &mut [u8],
     page: &[u16],
-    width: usize,
+    wide: bool,
     to: usize,
     all: bool,
     segment: bool,
     at: Place,
 ) -> Sent
-    requires { Width width × (GoodAt width to at × ((to ≤ length page.now) × ((length page.now ≡ 24 * width) × (0 < length room.old)))) }
+    requires { GoodAt (columns wide) to at × ((to ≤ length page.now) × ((length page.now ≡ 24 * columns wide) × (0 < length room.old))) }
     ensures { stands room.new result.replied result.left
-        ≡ gone (text_at width page.now to all segment at) 0 room.old }
+        ≡ gone (text_at (columns wide) page.now to all segment at) 0 room.old }
 {
     match at {
-        Place::Cell(i) => send_rows(room, 0, page, width, to, all, segment, i as usize),
+        Place::Cell(i) => send_rows(room, 0, page, wide, to, all, segment, i as usize),
         Place::Break(i) => {
             room[0] = 0x1f;
-            send_rows(room, 1, page, width, to, all, segment, i as usize)
+            send_rows(room, 1, page, wide, to, all, segment, i as usize)
         }
         Place::Return => {
             room[0] = 0x0d;

@@ -5,11 +5,11 @@ ghost use Rattle.rules.specs.Plan.{replying as replying_of, changing as changing
 
 use rules::{Answer, Core, Land, Plan, Sending, SetupChange, Write};
 
-pub fn refusing(c: Core, a: Answer) -> Plan
-    ensures { result ≡ refusing_of c a }
+pub fn refusing(c: Core, answer: Answer) -> Plan
+    ensures { result ≡ refusing_of c answer }
 {
     Plan {
-        answer: a,
+        answer,
         first: Write::Nothing,
         second: Write::Nothing,
         change: SetupChange::Nothing,
@@ -29,13 +29,10 @@ pub fn writing_two(c: Core, w: Write, v: Write, l: Land) -> Plan
     ensures { result ≡ writing_two c w v l }
 {
     Plan {
-        answer: Answer::Done,
         first: w,
         second: v,
-        change: SetupChange::Nothing,
-        reply: Sending::Nothing,
-        next: c,
         land: l,
+        ..plain(c)
     }
 }
 
@@ -55,13 +52,8 @@ pub fn replying(c: Core, x: Sending) -> Plan
     ensures { result ≡ replying_of c x }
 {
     Plan {
-        answer: Answer::Done,
-        first: Write::Nothing,
-        second: Write::Nothing,
-        change: SetupChange::Nothing,
         reply: x,
-        next: c,
-        land: Land::Stay,
+        ..plain(c)
     }
 }
 
@@ -69,12 +61,7 @@ pub fn changing(c: Core, x: SetupChange) -> Plan
     ensures { result ≡ changing_of c x }
 {
     Plan {
-        answer: Answer::Done,
-        first: Write::Nothing,
-        second: Write::Nothing,
         change: x,
-        reply: Sending::Nothing,
-        next: c,
-        land: Land::Stay,
+        ..plain(c)
     }
 }

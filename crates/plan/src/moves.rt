@@ -23,7 +23,7 @@ pub fn among(first: u16, n: u16, v: u16) -> bool
     requires { first + n < 65536 }
     ensures { result ≡ among_of first n v }
 {
-    if first <= v { v < first + n } else { false }
+    first <= v && v < first + n
 }
 
 // The rows of the active segment move by one.
@@ -31,7 +31,7 @@ pub fn scroll(x: Screen, down: bool) -> Write
     ensures { result ≡ scroll_of x down }
 {
     Write::Rows {
-        down: down,
+        down,
         top: segment_top(x),
         bottom: segment_bottom(x),
     }
@@ -40,7 +40,7 @@ pub fn scroll(x: Screen, down: bool) -> Write
 pub fn scrolls(m: Modes) -> bool
     ensures { result ≡ scrolls_of m }
 {
-    if m.autoscroll { !m.protect } else { false }
+    m.autoscroll && !m.protect
 }
 
 fn next_cell(x: Screen) -> u16
@@ -79,13 +79,13 @@ fn reverse_plan(core: Core) -> Plan
 {
     let x = core.screen;
     let at = cursor_of(x);
-    if at_top(x) {
-        if core.modes.protect {
-            return settling(core, at);
-        }
-        return writing(core, scroll(x, true), Land::Settle(at));
+    if !at_top(x) {
+        return settling(core, at - width_of(x));
     }
-    settling(core, at - width_of(x))
+    if core.modes.protect {
+        return settling(core, at);
+    }
+    writing(core, scroll(x, true), Land::Settle(at))
 }
 
 fn down_plan(core: Core, from: u16) -> Plan
@@ -125,7 +125,7 @@ fn tab_cell(page: &[u16], tabs: [bool; 132], core: Core) -> u16
         let end = segment_end(x);
         return search::next_field(page, true, start as usize, end as usize, at as usize) as u16;
     }
-    let column = search::next_tab(tabs, width_of(x) as usize, cursor_column(x) as usize);
+    let column = search::next_tab(tabs, x.wide, cursor_column(x) as usize);
     row_start(x) + column as u16
 }
 
@@ -159,13 +159,11 @@ pub fn address_plan(core: Core, x: Screen, base: u16, most: u16, row: u16, colum
 {
     let top = segment_top(x);
     let rows = segment_bottom(x) - top;
-    if among(base, rows, row) {
-        if among(base, most, column) {
-            return settling(
-                with_screen(core, x),
-                cell_at(x.wide, top, base, row, column),
-            );
-        }
+    if among(base, rows, row) && among(base, most, column) {
+        return settling(
+            with_screen(core, x),
+            cell_at(x.wide, top, base, row, column),
+        );
     }
     refusing(core, Answer::BadArgument)
 }

@@ -50,8 +50,8 @@ fn text(core: Core, all: bool, segment: bool) -> Plan
     ensures { result ≡ text_of core all segment }
 {
     let x = Sending::Text {
-        all: all,
-        segment: segment,
+        all,
+        segment,
         at: Place::Cell(text_start(core.screen, segment)),
     };
     replying(core, x)

@@ -7,7 +7,6 @@ use super::forms::{plain, refusing, settling};
 use super::moves::address_plan;
 use rules::{Answer, Core, Plan, Screen, Window};
 use state::core_parts::with_screen;
-use state::logic::between;
 use state::screen::{activated, cursor_of};
 use state::width::{ADDRESSED, cells};
 
@@ -15,7 +14,7 @@ fn unsplit_screen(wide: bool) -> Screen
     ensures { result ≡ unsplit_screen wide }
 {
     Screen {
-        wide: wide,
+        wide,
         active: 0,
         split: 0,
         cursor0: 0,
@@ -29,7 +28,7 @@ fn split_screen(wide: bool, s: u8) -> Screen
     ensures { result ≡ split_screen wide s }
 {
     Screen {
-        wide: wide,
+        wide,
         active: 0,
         split: s,
         cursor0: 0,
@@ -47,10 +46,7 @@ fn activate(core: Core, n: u8) -> Plan
 fn is_segment(x: Screen, n: u8) -> bool
     ensures { result ≡ is_segment x n }
 {
-    if n == 0x30 {
-        return true;
-    }
-    if n == 0x31 { x.split != 0 } else { false }
+    n == 0x30 || n == 0x31 && x.split != 0
 }
 
 // ESC - n r c: a place in segment n, which becomes active.
@@ -75,13 +71,13 @@ fn place(core: Core, n: u8, r: u8, k: u8) -> Plan
 fn split(core: Core, r: u8) -> Plan
     ensures { result ≡ window_plan core (Window.Split r) }
 {
-    if between(0x21, 0x37, r) {
-        return settling(
+    match r {
+        0x21..=0x37 => settling(
             with_screen(core, split_screen(core.screen.wide, r - 0x1f)),
             0,
-        );
+        ),
+        _ => refusing(core, Answer::BadArgument),
     }
-    refusing(core, Answer::BadArgument)
 }
 
 fn other(core: Core) -> Plan

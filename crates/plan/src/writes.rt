@@ -33,16 +33,17 @@ fn storing(insert: bool, at: u16, v: u16) -> Write
     ensures { result ≡ storing_of insert at v }
 {
     if insert {
-        return Write::Edit {
+        Write::Edit {
             right: true,
-            at: at,
+            at,
             value: v,
-        };
-    }
-    Write::Fill {
-        from: at,
-        to: at + 1,
-        value: v,
+        }
+    } else {
+        Write::Fill {
+            from: at,
+            to: at + 1,
+            value: v,
+        }
     }
 }
 
@@ -91,10 +92,7 @@ fn takes_cell(m: Personality, a: u8) -> bool
 fn attribute_of(a: u8) -> u8
     ensures { result ≡ attribute_of a }
 {
-    if a < 0x70 {
-        return a % 16;
-    }
-    a % 16 + 16
+    if a < 0x70 { a % 16 } else { a % 16 + 16 }
 }
 
 // ESC G.
@@ -121,8 +119,8 @@ fn edit_cells(page: &[u16], core: Core, right: bool) -> Plan
         return refusing(core, Answer::Barred);
     }
     let w = Write::Edit {
-        right: right,
-        at: at,
+        right,
+        at,
         value: SPACE,
     };
     writing(core, w, Land::Stay)
@@ -138,7 +136,7 @@ fn edit_rows(core: Core, down: bool) -> Plan
         return refusing(core, Answer::Barred);
     }
     let w = Write::Rows {
-        down: down,
+        down,
         top: cursor_row(x),
         bottom: segment_bottom(x),
     };
@@ -162,8 +160,8 @@ fn clearing(core: Core, k: Contents, from: u16, to: u16, land: Land) -> Plan
     ensures { result ≡ writing_of core (Write.Fill from to (written k false normal)) land }
 {
     let w = Write::Fill {
-        from: from,
-        to: to,
+        from,
+        to,
         value: written_cell(k, false, NORMAL),
     };
     writing(core, w, land)

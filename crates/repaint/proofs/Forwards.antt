@@ -4,6 +4,9 @@
 --     put_none, put_then, put_one, put_done            numbers put one after the other
 -- Assumes nothing.
 use Rattle.std.specs.Prelude.{◌≡◌, ℕ, suc, ◌+◌, ◌-◌, ◌/◌, ◌%◌, ◌<◌, ◌≤◌, Bool, true, false, not, eqb, ltb, leb, ◌⊎◌, List, [], ◌∷◌, ◌++◌, length, get_or, take, drop, set}
+use Rattle.std.specs.List.{list_all}
+use Rattle.std.proofs.lemmas.List.Edits.{sets-eq}
+use borrow.Rule.Slice.PartMut.{put_mid}
 use mathlib.Core.Path.{refl, sym, ap, ap₂, subst, ◌∙◌}
 use mathlib.Core.List.{append-nil, append_assoc}
 use mathlib.Core.Logic.{inl, inr}
@@ -19,6 +22,7 @@ use Rattle.rules.proofs.Tests.{pick_if, either_way}
 use Rattle.repaint.specs.Proposal.{Stretch, stretch, ends_row, lengthened, differing, attribute_code, cell_bytes, cells_bytes, last_shown}
 use Rattle.repaint.specs.Proposal.{start_bytes, stretch_bytes, stretches_bytes, stretches, rows_of, columns_of, lengths_of, paint_bytes, is_text}
 use Rattle.repaint.specs.Proposal.{all_text, served}
+use Rattle.repaint.proofs.Passing.{and_both}
 use Rattle.repaint.specs.Forward.{reach, stretches_from, one_of, beyond, shown_after, Put, SpansPut}
 
 spans_equal : (at x y : ℕ) (a b : List ℕ) → eqb x y ≡ true → differing at (x ∷ a) (y ∷ b) ≡ differing (suc at) a b
@@ -170,28 +174,18 @@ pub put_then : {n r s : ℕ} {a b w v z : List ℕ} → Put n a w r v → Put r 
 put_then {n} {r} {s} {a} {b} {w} {v} {z} x y =
     record { place = omega (arith, x.place, y.place, length-append a b); room = y.room ∙ rw (x.place, x.room) (sym (sets_append a b n w)) }
 
-pub put_one : (l : List ℕ) (i n m : ℕ) (w : List ℕ) → i < length l → m ≡ n + 1 → sets (set w n (get_or l i 0)) m (drop (i + 1) l) ≡ sets w n (drop i l)
-put_one l i n m w h e = rw (e, add-one n, add-one i, drop-cons l i 0 h)
-
-pub put_done : {v : List ℕ} (l : List ℕ) (i n : ℕ) (w : List ℕ) → length l ≤ i → sets w n (drop i l) ≡ v → w ≡ v
-put_done l i n w h e = sym (ap (λ (t : List ℕ). sets w n t) (drop_of_length-le l h)) ∙ e
+pub put_copied : (n k : ℕ) (l w : List ℕ) {v : List ℕ} → n + length l ≤ length w → v ≡ l → k ≡ length l → Put n l w (n + length l) (put_mid n k w v)
+put_copied n k l w {v} h e f = record {
+  place = refl;
+  room = rw (e, f, drop-drop (length l) n w) (sym (append_assoc (take n w) l (drop (n + length l) w)) ∙ sym (sets-eq l w n h));
+}
 
 -- ---- which pages are served
 
-text_next : (m : Personality) (p : List ℕ) (i : ℕ) → i < length p → all_text m (drop i p) ≡ both (is_text m (get_or p i 0)) (all_text m (drop (i + 1) p))
+pub text_each : (m : Personality) (p : List ℕ) → list_all (is_text m) p ≡ all_text m p
 unfolding all_text
-text_next m p i h = rw (add-one i, drop-cons p i 0 h)
-
-pub text_stops : (m : Personality) (p : List ℕ) (i : ℕ) → i < length p → is_text m (get_or p i 0) ≡ false → all_text m (drop i p) ≡ false
-text_stops m p i h e = text_next m p i h ∙ rw e
-
-pub text_goes : (m : Personality) (p : List ℕ) (i : ℕ) → i < length p → is_text m (get_or p i 0) ≡ true
-    → all_text m (drop (i + 1) p) ≡ all_text m (drop i p)
-text_goes m p i h e = sym (text_next m p i h ∙ rw e)
-
-pub text_ends : (m : Personality) (p : List ℕ) (i : ℕ) → length p ≤ i → all_text m (drop i p) ≡ true
-unfolding all_text
-text_ends m p i h = rw (drop_of_length-le p {i = i} h)
+text_each m [] = refl
+text_each m (v ∷ p) = and_both (is_text m v) (text_each m p)
 
 module _ (m : Personality) (a b : List ℕ) where
   pub served_from : (length a ≡ 1920 → ⊥) → false ≡ served m a b

@@ -1,10 +1,11 @@
 -- Laws of the one pass, over plain values.
 -- Assumes nothing.
-use Rattle.std.specs.Prelude.{◌≡◌, ℕ, suc, ◌+◌, ◌-◌, ◌*◌, ◌<◌, ◌≤◌, Bool, true, false, eqb, leb, ◌⊎◌, List, length, get_or}
+use Rattle.std.specs.Prelude.{◌≡◌, ℕ, zero, suc, ◌+◌, ◌-◌, ◌*◌, ◌<◌, ◌≤◌, Bool, true, false, eqb, leb, ◌⊎◌, List, length, get_or, take, drop, nat_eq, ◌&&◌}
+use lib.Pointwise.{pointwise}
+use lib.Seq.{drop-cons}
 use mathlib.Core.Path.{refl, sym, ◌∙◌}
 use mathlib.Core.Logic.{inl, inr}
 use native.Mathlib.Omega.{arith}
-use native.Mathlib.Numerals.{add-one}
 use borrow.Author.Tests.{leb-true, eqb-true, eqb-false, ne_eqb, eq-eqb, le-leb, lt-leb}
 use Rattle.rules.specs.Cell.{both}
 use Rattle.rules.specs.Fields.{page_width}
@@ -40,19 +41,22 @@ pub same_alike : (a b : List ℕ) (k e : ℕ) → k ≤ e → alike a b k (e - k
 unfolding equal
 same_alike a b k e l = rw (le-leb k e l)
 
-pub alike_none : (a b : List ℕ) (k e : ℕ) → e ≤ k → true ≡ alike a b k (e - k)
+pub and_both : (t : Bool) {x y : Bool} → x ≡ y → (t && x) ≡ both t y
+and_both true e = e
+and_both false e = refl
+
+alike_parts : (a b : List ℕ) (k n : ℕ) → k + n ≤ length a → k + n ≤ length b
+    → pointwise nat_eq (take n (drop k a)) (take n (drop k b)) ≡ alike a b k n
 unfolding alike
-alike_none a b k e l = let z : e - k ≡ 0 = omega arith in rw z
+alike_parts a b k zero h i = refl
+alike_parts a b k (suc n) h i =
+    rw (drop-cons a k 0 (omega arith), drop-cons b k 0 (omega arith))
+    (and_both (eqb (get_or a k 0) (get_or b k 0)) (alike_parts a b (suc k) n (omega arith) (omega arith)))
 
-alike_some : (a b : List ℕ) (k e : ℕ) → k < e → alike a b k (e - k) ≡ both (eqb (get_or a k 0) (get_or b k 0)) (alike a b (k + 1) (e - (k + 1)))
-unfolding alike
-alike_some a b k e l = let z : e - k ≡ suc (e - (k + 1)) = omega arith in rw (z, add-one)
-
-pub alike_differs : (a b : List ℕ) (k e : ℕ) → k < e → (get_or a k 0 ≡ get_or b k 0 → ⊥) → false ≡ alike a b k (e - k)
-alike_differs a b k e l n = sym (alike_some a b k e l ∙ rw (ne_eqb (get_or a k 0) (get_or b k 0) n))
-
-pub alike_equal : (a b : List ℕ) (k e : ℕ) → k < e → get_or a k 0 ≡ get_or b k 0 → alike a b (k + 1) (e - (k + 1)) ≡ alike a b k (e - k)
-alike_equal a b k e l n = sym (alike_some a b k e l ∙ rw (eq-eqb (get_or a k 0) (get_or b k 0) n))
+-- the cells as two parts of the pages
+pub same_parts : (a b : List ℕ) (k e : ℕ) {r : Bool} → k ≤ e → e ≤ length a → length a ≡ length b
+    → r ≡ pointwise nat_eq (take (e - k) (drop k a)) (take (e - k) (drop k b)) → r ≡ equal a b k e
+same_parts a b k e l h z f = f ∙ (alike_parts a b k (e - k) (omega arith) (omega arith) ∙ same_alike a b k e l)
 
 -- ---- a span that fits
 all_not : {p q r s t : Bool} {P Q R S T : Type 0} → (p ≡ true → P) → (q ≡ true → Q) → (r ≡ true → R) → (s ≡ true → S) → (t ≡ true → T)
@@ -246,3 +250,10 @@ page_lengths a b w ew n = by_case (widths a b)
     by_case : ((pages_width a b ≡ 0) × ((w : ℕ) → Pages w a b → ⊥)) ⊎ Pages (pages_width a b) a b → (length a ≡ length b) × (length a ≤ 3168)
     by_case (inl z) = absurd (n (ew ∙ z.0))
     by_case (inr p) = by_pages p.alike p.width
+
+pub no_width : (a b : List ℕ) → ((pages_width a b ≡ 0 → ⊥) → ⊥) → pages_width a b ≡ 0
+no_width a b h = by (eq_or_not (pages_width a b) 0)
+  where
+    by : (pages_width a b ≡ 0) ⊎ (pages_width a b ≡ 0 → ⊥) → pages_width a b ≡ 0
+    by (inl e) = e
+    by (inr n) = absurd (h n)

@@ -1,12 +1,12 @@
 -- What request A12 says of the proposer, and power-on at a width.
 --     proposing, power_ons     the statements of specs/Theorems
 -- Assumes nothing.
-use Rattle.std.specs.Prelude.{◌≡◌, ℕ, zero, suc, ◌+◌, ◌-◌, ◌≤◌, Bool, true, false, not, eqb, leb, ◌⊎◌, List, [], ◌∷◌, ◌++◌, length, take, drop, replicate}
+use Rattle.std.specs.Prelude.{◌≡◌, ℕ, zero, suc, ◌+◌, ◌≤◌, Bool, true, false, not, eqb, leb, ◌⊎◌, List, [], ◌∷◌, ◌++◌, length, take, drop, replicate, Ok, Err}
 use mathlib.Core.Path.{refl, sym, ap, subst, ◌∙◌}
 use mathlib.Core.Logic.{inl, inr}
 use native.Mathlib.Omega.{arith}
 use lib.ListN.{length-replicate}
-use lib.Seq.{sets, sets-eq, length-sets, take_at}
+use lib.Seq.{sets, sets-eq, length-sets, take_at, length-take-le}
 use borrow.Author.Tests.{leb-true, eq-eqb, le-leb}
 use Rattle.rules.specs.declared.Personality.{Personality}
 use Rattle.rules.specs.Cell.{pick, both, either}
@@ -26,9 +26,9 @@ use Rattle.repaint.specs.Spans.{Accepts, Pages}
 use Rattle.repaint.specs.Pass.{pages_width}
 use Rattle.repaint.specs.Bytes.{power_on_at}
 use Rattle.repaint.specs.Proposal.{differing, stretches, paint_bytes, served, Proposed, refused_with, fitting, rows_of, columns_of, lengths_of}
-use Rattle.repaint.specs.Proposal.{propose_rule, Proposes}
+use Rattle.repaint.specs.Proposal.{propose_rule, refusal_number, told, Proposes}
 use Rattle.repaint.specs.Forward.{Put, SpansPut, Holding}
-use Rattle.repaint.specs.declared.ProposeResult.{ProposeResult}
+use Rattle.repaint.specs.declared.ProposeRefusal.{ProposeRefusal}
 use Rattle.repaint.specs.Theorems.{spans_for, Served, Proposing, PowerOns}
 use Rattle.repaint.proofs.Passing.{width_80, widths}
 use Rattle.repaint.proofs.Verdicts.{Run, run_accepts}
@@ -202,11 +202,9 @@ put_front {l} {w} {v} {n} {k} p h e =
     front : (l w : List ℕ) → length l ≤ length w → sets w 0 l ≡ l ++ drop (length l) w
     front l w h = let z : 0 + length l ≡ length l = omega arith in sets-eq l w 0 (omega arith) ∙ rw z
 
-pub over_part : (r w : List ℕ) {x : List ℕ} (n : ℕ) → x ≡ over (take (n - 0) r) w → x ≡ over (take n r) w
-over_part r w n e = let z : n - 0 ≡ n = omega arith in e ∙ rw z
-
-abbrev pub gave : ℕ → ProposeResult
-gave n = record { answer = n; spans = 0; bytes = 0 }
+pub over_part : (r w : List ℕ) {v : List ℕ} (n : ℕ) → n ≤ length r → v ≡ take n r → v ++ drop n w ≡ over (take n r) w
+unfolding over
+over_part r w n h e = rw e (ap (λ (k : ℕ). take n r ++ drop k w) (sym (length-take-le n r h)))
 
 module _ (m : Personality) (a b x y z o : List ℕ) where
   abbrev test : Bool
@@ -234,26 +232,25 @@ module _ (m : Personality) (a b x y z o : List ℕ) where
   abbrev rule : Proposed
   rule = propose_rule m a b x y z o
 
-  same_of : {n : ℕ} {r : ProposeResult} → r ≡ gave n → rule ≡ refused_with n x y z o → Proposes rule r x y z o
-  same_of {n} {r} e f =
-      subst (λ (q : Proposed). Proposes q r x y z o) (sym f)
-      (subst (λ (t : ProposeResult). Proposes (refused_with n x y z o) t x y z o) (sym e)
-      (record { answer = refl; spans = refl; bytes = refl; rows = refl; columns = refl; lengths = refl; out = refl }))
+  same_of : (e : ProposeRefusal) → rule ≡ refused_with (refusal_number e) x y z o → Proposes rule (told (Err e)) x y z o
+  same_of e f =
+      subst (λ (q : Proposed). Proposes q (told (Err e)) x y z o) (sym f)
+      (record { answer = refl; spans = refl; bytes = refl; rows = refl; columns = refl; lengths = refl; out = refl })
 
   rule_seven : pages_width a b ≡ 0 → rule ≡ refused_with 7 x y z o
   unfolding propose_rule
   rule_seven e = rw (no_test e)
 
-  pub gives_seven : {w : ℕ} {r : ProposeResult} → w ≡ pages_width a b → w ≡ 0 → r ≡ gave 7 → Proposes rule r x y z o
-  gives_seven e f g = same_of g (rule_seven (sym e ∙ f))
+  pub gives_seven : pages_width a b ≡ 0 → Proposes rule (told (Err ProposeRefusal.WrongLength)) x y z o
+  gives_seven e = same_of ProposeRefusal.WrongLength (rule_seven e)
 
   module _ (t : pages_width a b ≡ 0 → ⊥) where
     rule_three : served m a b ≡ false → rule ≡ refused_with 3 x y z o
     unfolding propose_rule
     rule_three f = rw (is_test t, f)
 
-    pub gives_three : {r : ProposeResult} → served m a b ≡ false → r ≡ gave 3 → Proposes rule r x y z o
-    gives_three f g = same_of g (rule_three f)
+    pub gives_three : served m a b ≡ false → Proposes rule (told (Err ProposeRefusal.NotServed)) x y z o
+    gives_three f = same_of ProposeRefusal.NotServed (rule_three f)
 
     module _ (s : served m a b ≡ true) {n k : ℕ} (en : n ≡ length (stretches a b)) (ek : k ≡ length (paint_bytes a b)) where
       fits_as : (v : Bool) → both (both (leb n (length x)) (both (leb n (length y)) (leb n (length z)))) (leb k (length o)) ≡ v
@@ -264,10 +261,9 @@ module _ (m : Personality) (a b x y z o : List ℕ) where
       unfolding propose_rule
       rule_six f = rw (is_test t, s, f)
 
-      pub gives_six : {r : ProposeResult} → both (both (leb n (length x)) (both (leb n (length y)) (leb n (length z)))) (leb k (length o)) ≡ false
-          → r ≡ gave 6
-          → Proposes rule r x y z o
-      gives_six f g = same_of g (rule_six (fits_as false f))
+      pub gives_six : both (both (leb n (length x)) (both (leb n (length y)) (leb n (length z)))) (leb k (length o)) ≡ false
+          → Proposes rule (told (Err ProposeRefusal.NoRoom)) x y z o
+      gives_six f = same_of ProposeRefusal.NoRoom (rule_six (fits_as false f))
 
       abbrev all : Proposed
       all = record {
@@ -287,9 +283,9 @@ module _ (m : Personality) (a b x y z o : List ℕ) where
       pub gives_all : {x' y' z' o' : List ℕ} → both (both (leb n (length x)) (both (leb n (length y)) (leb n (length z)))) (leb k (length o)) ≡ true
           → x' ≡ over (rows_of (stretches a b)) x → y' ≡ over (columns_of (stretches a b)) y → z' ≡ over (lengths_of (stretches a b)) z
           → o' ≡ over (paint_bytes a b) o
-          → Proposes rule (record { answer = 0; spans = n; bytes = k }) x' y' z' o'
+          → Proposes rule (told (Ok (record { spans = n; bytes = k }))) x' y' z' o'
       gives_all {x'} {y'} {z'} {o'} f ex ey ez eo =
-          subst (λ (q : Proposed). Proposes q (record { answer = 0; spans = n; bytes = k }) x' y' z' o') (sym (rule_done (fits_as true f)))
+          subst (λ (q : Proposed). Proposes q (told (Ok (record { spans = n; bytes = k }))) x' y' z' o') (sym (rule_done (fits_as true f)))
           (record { answer = refl; spans = en; bytes = ek; rows = ex; columns = ey; lengths = ez; out = eo })
 
 -- ---- what is made beside the rooms
@@ -343,7 +339,7 @@ module _ (m : Personality) (a b : List ℕ) (s : served m a b ≡ true) {n k : �
   pub made_given : (t : pages_width a b ≡ 0 → ⊥) (x y z w : List ℕ) {x' y' z' w' : List ℕ}
       → both (both (leb n (length x)) (both (leb n (length y)) (leb n (length z)))) (leb k (length w)) ≡ true
       → (x' ≡ over (take n r) x) × ((y' ≡ over (take n c) y) × ((z' ≡ over (take n l) z) × (w' ≡ over (take k o) w)))
-      → Proposes (propose_rule m a b x y z w) (record { answer = 0; spans = n; bytes = k }) x' y' z' w'
+      → Proposes (propose_rule m a b x y z w) (told (Ok (record { spans = n; bytes = k }))) x' y' z' w'
   made_given t x y z w f g =
       let q = made_few in
       gives_all m a b x y z w t s made_count made_size f

@@ -320,6 +320,26 @@ pub pass_on : (a b : List ℕ) (ss : List Span) (next i r : ℕ) → i < length 
     → r ≡ turned a b next (span_at ss i) → passed a b r (drop (i + 1) ss) ≡ passed a b 0 ss
 pass_on a b ss next i r l e t = rw (t, pass_step a b ss next i l) e
 
+-- no pages, and a span that is refused
+module _ (a b : List ℕ) (ss : List Span) where
+  pub spans_wrong : ((pages_width a b ≡ 0 → ⊥) → ⊥) → SpansVerdict a b ss 7
+  spans_wrong h = by (widths a b)
+    where
+      by : ((pages_width a b ≡ 0) × ((w : ℕ) → Pages w a b → ⊥)) ⊎ Pages (pages_width a b) a b → SpansVerdict a b ss 7
+      by (inl z) = SpansVerdict.wrong z.1
+      by (inr p) = absurd (h (some_width a b ss p))
+
+  pub spans_lost : (next i : ℕ) → (pages_width a b ≡ 0 → ⊥) → i < length ss → passed a b next (drop i ss) ≡ passed a b 0 ss
+      → beyond ≡ turned a b next (span_at ss i) → SpansVerdict a b ss 3
+  spans_lost next i n l e t = by (widths a b)
+    where
+      by : ((pages_width a b ≡ 0) × ((w : ℕ) → Pages w a b → ⊥)) ⊎ Pages (pages_width a b) a b → SpansVerdict a b ss 3
+      by (inl z) = absurd (n z.0)
+      by (inr p) =
+          let k : passed a b 0 ss ≡ beyond = sym (pass_on a b ss next i beyond l e t) ∙ lost a b p (drop (i + 1) ss) in
+          let q : equal a b (passed a b 0 ss) (length a) ≡ false = rw k (sym (same_beyond a b beyond (length a) (omega (arith, most a b p)))) in
+          SpansVerdict.refused (pages_width a b) p (λ x. false≢true (sym q ∙ of_accepts a b p ss x))
+
 -- ---- parallel lists
 pub spans_length : (rs cs ls : List ℕ) → length rs ≡ length cs → length rs ≡ length ls → length (spans_of rs cs ls) ≡ length rs
 spans_length [] cs ls e f = refl
@@ -343,3 +363,10 @@ module _ (a b rs cs ls : List ℕ) (next i : ℕ) (e : length rs ≡ length cs) 
 
   pub lists_verdict : length rs ≤ i → (r : Verdict) → r ≡ finished a b next → ListsVerdict a b rs cs ls (verdict_number r)
   lists_verdict l r t = ListsVerdict.parallel e f (pass_verdict a b (spans_of rs cs ls) next i r (omega (arith, spans_length rs cs ls e f)) inv t)
+
+  pub lists_lost : (pages_width a b ≡ 0 → ⊥) → i < length rs
+      → beyond ≡ turned a b next (record { row = get_or rs i 0; column = get_or cs i 0; size = get_or ls i 0 })
+      → ListsVerdict a b rs cs ls 3
+  lists_lost n l t =
+      ListsVerdict.parallel e f
+      (spans_lost a b (spans_of rs cs ls) next i n (omega (arith, spans_length rs cs ls e f)) inv (t ∙ ap (turned a b next) (spans_at rs cs ls i l e f)))

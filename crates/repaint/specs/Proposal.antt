@@ -1,11 +1,14 @@
 -- Our own proposer (document 02, A12): its spans, its bytes, which pages it serves, and what it answers.
 use Rattle.std.specs.Prelude.{◌≡◌, ℕ, suc, ◌+◌, ◌-◌, ◌/◌, ◌%◌, Bool, true, not, List, [], ◌∷◌, ◌++◌, map, length, ◌==◌, nat_le, nat_lt, slice_index}
+use Rattle.std.specs.Prelude.{Result, Ok, Err}
 use Rattle.rules.specs.declared.Personality.{Personality}
 use Rattle.rules.specs.Cell.{pick, both, between, code, normal}
 use Rattle.rules.specs.Row.{addressed, narrow_cells, row_of, column_of}
 use Rattle.rules.specs.Room.{over}
 use Rattle.rules.specs.Fields.{is_page}
 use Rattle.rules.specs.Possible.{remembered_ok}
+use Rattle.repaint.specs.declared.Counts.{Counts}
+use Rattle.repaint.specs.declared.ProposeRefusal.{ProposeRefusal}
 use Rattle.repaint.specs.declared.ProposeResult.{ProposeResult}
 use Rattle.repaint.specs.declared.Span.{Span}
 
@@ -142,6 +145,17 @@ propose_rule m a b rows columns lengths out =
     (pick (served m a b)
     (pick (fitting (length l) (length bytes) rows columns lengths out) done (refused_with 6 rows columns lengths out))
     (refused_with 3 rows columns lengths out)) (refused_with 7 rows columns lengths out)
+
+-- the paper's number of each refusal
+abbrev pub refusal_number : ProposeRefusal → ℕ
+refusal_number ProposeRefusal.WrongLength = 7
+refusal_number ProposeRefusal.NotServed = 3
+refusal_number ProposeRefusal.NoRoom = 6
+
+-- the answer in numbers
+abbrev pub told : Result Counts ProposeRefusal → ProposeResult
+told (Ok n) = record { answer = 0; spans = n.spans; bytes = n.bytes }
+told (Err e) = record { answer = refusal_number e; spans = 0; bytes = 0 }
 
 -- what a call gives that leaves these lists
 pub record Proposes (o : Proposed) (r : ProposeResult) (x y z w : List ℕ) : Type 0 where

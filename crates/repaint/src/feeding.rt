@@ -3,14 +3,12 @@ ghost use Rattle.std.specs.Prelude.{◌≡◌, ◌*◌, ◌≤◌, length, ◌==
 ghost use Rattle.rules.specs.Cell.{both};
 ghost use Rattle.rules.specs.Row.{columns, wide_cells};
 ghost use Rattle.rules.specs.State.{number};
-ghost use Rattle.rules.specs.Room.{over};
 ghost use Rattle.repaint.specs.Spans.{verdict_number};
 ghost use Rattle.repaint.specs.Bytes.{power_on_at, paints as paints_rule, BytesVerdict};
 
 use crate::{Verdict, same_cells, width_of};
 use rules::{Answer, Personality, Screen, State};
 use state::core_parts::with_screen;
-use state::logic::and;
 use state::{answer_number, power_on_state};
 use terminal::run;
 
@@ -19,35 +17,16 @@ fn power_on_at(wide: bool, personality: Personality) -> State
     ensures { result ≡ power_on_at wide personality }
 {
     let s = power_on_state(personality);
-    let core = s.core;
-    let sending = s.sending;
-    let gathered = s.gathered;
-    let setup = s.setup;
-    let x = Screen {
-        wide: wide,
+    let screen = Screen {
+        wide,
         active: 0,
         split: 0,
         cursor0: 0,
         cursor1: 0,
     };
-    let c = with_screen(core, x);
     State {
-        core: c,
-        sending: sending,
-        gathered: gathered,
-        setup: setup,
-    }
-}
-
-// Cells copied to the front of others; the rest of these is untouched.
-pub(crate) fn copy_cells(from: &[u16], to: &mut [u16])
-    requires { (length from.now ≤ length to.old) × (length from.now ≤ wide_cells) }
-    ensures { to.new ≡ over from.now to.old }
-{
-    let mut i = 0;
-    while i < from.len() {
-        to[i] = from[i];
-        i += 1;
+        core: with_screen(s.core, screen),
+        ..s
     }
 }
 
@@ -55,8 +34,7 @@ pub(crate) fn copy_cells(from: &[u16], to: &mut [u16])
 fn is_clean(answer: Answer, taken: usize, refused: usize, n: usize) -> bool
     ensures { result ≡ both ((number answer) == 0) (both (taken == n) (refused == 0)) }
 {
-    let number = answer_number(answer);
-    and(number == 0, and(taken == n, refused == 0))
+    answer_number(answer) == 0 && taken == n && refused == 0
 }
 
 // Whether the bytes, fed over the scratch page, answer 0 each and make the second page of the first.
@@ -72,14 +50,11 @@ fn paints(
         × ((length scratch.old ≡ length before.now) × (length before.now ≤ wide_cells)) }
     ensures { result ≡ paints_rule personality wide before.now after.now bytes.now }
 {
-    copy_cells(before, scratch);
+    scratch.copy_from_slice(before);
     let mut room: [u8; 0] = [0; 0];
-    let s = power_on_at(wide, personality);
-    let t = run(scratch, s, bytes, &mut room);
-    let answer = t.answer;
-    let clean = is_clean(answer, t.taken, t.refused, bytes.len());
-    let equal = same_cells(scratch, after, 0, after.len());
-    and(clean, equal)
+    let t = run(scratch, power_on_at(wide, personality), bytes, &mut room);
+    is_clean(t.answer, t.taken, t.refused, bytes.len())
+        && same_cells(scratch, after, 0, after.len())
 }
 
 // Accepts bytes exactly if the ruled terminal makes the second page of the first with them. Ruled out: one that takes bytes of which the terminal
@@ -87,14 +62,13 @@ fn paints(
 pub fn judge_bytes(before: &[u16], after: &[u16], personality: Personality, bytes: &[u8]) -> Verdict
     ensures { BytesVerdict personality before.now after.now bytes.now (verdict_number result) }
 {
-    let width = width_of(before, after);
-    if width == 0 {
+    let Some(width) = width_of(before, after) else {
         return Verdict::WrongLength;
-    }
+    };
     let mut scratch: [u16; 3168] = [0; 3168];
     let n = before.len();
     if paints(
-        &mut scratch[0..n],
+        &mut scratch[..n],
         before,
         after,
         width == 132,

@@ -4,9 +4,11 @@
 mod feeding; // the judge of bytes
 mod painter; // our own proposer
 
-ghost use Rattle.std.specs.Prelude.{◌≡◌, ◌+◌, ◌<◌, ◌≤◌, length};
+ghost use Rattle.std.specs.Prelude.{◌≡◌, ◌≢◌, ◌+◌, ◌<◌, ◌≤◌, length};
+ghost use Rattle.std.specs.Option.{SomeIff, unwrap_or};
 ghost use Rattle.repaint.specs.Spans.{verdict_number, SpansVerdict, ListsVerdict};
-ghost use Rattle.repaint.specs.Pass.{pages_width, equal, fits, turned, finished};
+ghost use Rattle.repaint.specs.Proposal.{refusal_number, told};
+ghost use Rattle.repaint.specs.Pass.{pages_width, equal, fits, beyond, turned, finished};
 
 pub use feeding::judge_bytes;
 pub use painter::propose;
@@ -21,14 +23,53 @@ pub struct Span {
 }
 
 // What a judge answers.
-#[derive(Clone, Copy)]
+#[derive(Clone, Copy, PartialEq, Eq)]
 pub enum Verdict {
     Accepted,
     NotAccepted,
     WrongLength,
 }
 
-// The proposer's answer, and how many spans and bytes there are; none where it refuses.
+impl Verdict {
+    pub fn number(self) -> u8
+        ensures { result ≡ verdict_number self }
+    {
+        match self {
+            Verdict::Accepted => 0,
+            Verdict::NotAccepted => 3,
+            Verdict::WrongLength => 7,
+        }
+    }
+}
+
+// Why the proposer refuses: pages of unlike or wrong lengths, pages that it does not serve, and too little room.
+#[derive(Clone, Copy, PartialEq, Eq)]
+pub enum ProposeRefusal {
+    WrongLength,
+    NotServed,
+    NoRoom,
+}
+
+impl ProposeRefusal {
+    pub fn number(self) -> u8
+        ensures { result ≡ refusal_number self }
+    {
+        match self {
+            ProposeRefusal::WrongLength => 7,
+            ProposeRefusal::NotServed => 3,
+            ProposeRefusal::NoRoom => 6,
+        }
+    }
+}
+
+// How many spans and bytes were proposed.
+#[derive(Clone, Copy)]
+pub struct Counts {
+    pub spans: u16,
+    pub bytes: u16,
+}
+
+// The proposer's answer as C is given it: the number of a refusal, or 0 and the counts.
 #[repr(C)]
 #[derive(Clone, Copy)]
 pub struct ProposeResult {
@@ -37,45 +78,43 @@ pub struct ProposeResult {
     pub bytes: u16,
 }
 
-// The width of two pages; 0: they are of unlike lengths, or of no page's.
-fn width_of(before: &[u16], after: &[u16]) -> usize
-    ensures { result ≡ pages_width before.now after.now }
+pub fn told(r: Result<Counts, ProposeRefusal>) -> ProposeResult
+    ensures { result ≡ told r }
 {
-    let n = before.len();
-    if n != after.len() {
-        return 0;
+    match r {
+        Ok(Counts { spans, bytes }) => ProposeResult {
+            answer: 0,
+            spans,
+            bytes,
+        },
+        Err(e) => ProposeResult {
+            answer: e.number(),
+            spans: 0,
+            bytes: 0,
+        },
     }
-    if n == 1920 {
-        return 80;
+}
+
+// The width of two pages; none where they are of unlike lengths, or of no page's.
+fn width_of(before: &[u16], after: &[u16]) -> Option<usize>
+    ensures { SomeIff result (pages_width before.now after.now ≢ 0) (pages_width before.now after.now) }
+{
+    if before.len() != after.len() {
+        return None;
     }
-    if n == 3168 {
-        return 132;
+    match before.len() {
+        1920 => Some(80),
+        3168 => Some(132),
+        _ => None,
     }
-    0
 }
 
 // The cells from `from` up to `to` are equal, and `from` is not beyond `to`.
 fn same_cells(before: &[u16], after: &[u16], from: usize, to: usize) -> bool
-    requires { (to ≤ length before.now) × (length before.now ≡ length after.now) × (length before.now ≤ 3168) }
+    requires { (to ≤ length before.now) × (length before.now ≡ length after.now) }
     ensures { result ≡ equal before.now after.now from to }
 {
-    if to < from {
-        return false;
-    }
-    let mut i = from;
-    while i < to {
-        if before[i] != after[i] {
-            return false;
-        }
-        i += 1;
-    }
-    true
-}
-
-fn wide(x: u16) -> usize
-    ensures { result ≡ x }
-{
-    x as usize
+    from <= to && before[from..to] == after[from..to]
 }
 
 // A span that is not empty and lies within its row.
@@ -83,46 +122,33 @@ fn fits_row(width: usize, s: Span) -> bool
     requires { width ≤ 132 }
     ensures { result ≡ fits width s }
 {
-    let row = wide(s.row);
-    let column = wide(s.column);
-    let length = wide(s.size);
-    if row < 1 {
-        return false;
-    }
-    if 24 < row {
-        return false;
-    }
-    if column < 1 {
-        return false;
-    }
-    if length < 1 {
-        return false;
-    }
-    column + length <= width + 1
+    1 <= s.row
+        && s.row <= 24
+        && 1 <= s.column
+        && 1 <= s.size
+        && usize::from(s.column) + usize::from(s.size) <= width + 1
 }
 
-// One span: `next` moved past it, or 4000 where the list is refused.
-fn turn(before: &[u16], after: &[u16], next: usize, s: Span) -> usize
-    ensures { result ≡ turned before.now after.now next s }
+// One span: `next` moved past it, or none where the list is refused.
+fn turn(before: &[u16], after: &[u16], width: usize, next: usize, s: Span) -> Option<usize>
+    requires { width ≡ pages_width before.now after.now }
+    ensures { unwrap_or result beyond ≡ turned before.now after.now next s }
 {
-    let width = width_of(before, after);
     if !fits_row(width, s) {
-        return 4000;
+        return None;
     }
-    let start = (wide(s.row) - 1) * width + (wide(s.column) - 1);
+    let start = (usize::from(s.row) - 1) * width + (usize::from(s.column) - 1);
     if !same_cells(before, after, next, start) {
-        return 4000;
+        return None;
     }
-    start + wide(s.size)
+    Some(start + usize::from(s.size))
 }
 
 // After the last span: the cells that are left must be equal.
 fn finish(before: &[u16], after: &[u16], next: usize) -> Verdict
+    requires { pages_width before.now after.now ≢ 0 }
     ensures { result ≡ finished before.now after.now next }
 {
-    if width_of(before, after) == 0 {
-        return Verdict::WrongLength;
-    }
     if same_cells(before, after, next, before.len()) {
         Verdict::Accepted
     } else {
@@ -143,35 +169,40 @@ pub fn judge_lists(
     ensures { ListsVerdict before.now after.now rows.now columns.now lengths.now
         (verdict_number result) }
 {
-    if rows.len() != columns.len() {
+    if rows.len() != columns.len() || rows.len() != lengths.len() {
         return Verdict::WrongLength;
     }
-    if rows.len() != lengths.len() {
+    let Some(width) = width_of(before, after) else {
         return Verdict::WrongLength;
-    }
+    };
     let mut next = 0;
-    let mut i = 0;
-    while i < rows.len() {
+    for i in 0..rows.len() {
         let s = Span {
             row: rows[i],
             column: columns[i],
             size: lengths[i],
         };
-        next = turn(before, after, next, s);
-        i += 1;
+        let Some(reached) = turn(before, after, width, next, s) else {
+            return Verdict::NotAccepted;
+        };
+        next = reached;
     }
     finish(before, after, next)
 }
 
-// The same for a slice of spans: each is taken out of it and handed to `turn`.
+// The same for a slice of spans.
 pub fn judge_spans(before: &[u16], after: &[u16], spans: &[Span]) -> Verdict
     ensures { SpansVerdict before.now after.now spans.now (verdict_number result) }
 {
+    let Some(width) = width_of(before, after) else {
+        return Verdict::WrongLength;
+    };
     let mut next = 0;
-    let mut i = 0;
-    while i < spans.len() {
-        next = turn(before, after, next, spans[i]);
-        i += 1;
+    for s in spans {
+        let Some(reached) = turn(before, after, width, next, *s) else {
+            return Verdict::NotAccepted;
+        };
+        next = reached;
     }
     finish(before, after, next)
 }

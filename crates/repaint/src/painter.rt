@@ -1,67 +1,38 @@
 // Our own proposer: the longest stretches of differing cells, and the bytes that paint them.
 ghost use Rattle.std.specs.Prelude.{◌≡◌, ℕ, ◌+◌, ◌-◌, ◌<◌, ◌≤◌, true, List, length, take, drop, nat_le};
 ghost use Rattle.rules.specs.Cell.{both};
-ghost use Rattle.rules.specs.Possible.{remembered_ok};
 ghost use Rattle.rules.specs.Room.{over};
 ghost use Rattle.repaint.specs.Proposal.{attribute_code, cell_bytes, cells_bytes, last_shown, stretches, stretches_bytes, paint_bytes, is_text};
-ghost use Rattle.repaint.specs.Proposal.{all_text, served, propose_rule, Proposes};
+ghost use Rattle.repaint.specs.Proposal.{all_text, served, propose_rule, told, Proposes};
 ghost use Rattle.repaint.specs.Forward.{reach, one_of, beyond, shown_after, Put, SpansPut, Holding};
 
-use crate::feeding::copy_cells;
-use crate::{ProposeResult, width_of};
+use crate::{Counts, ProposeRefusal, width_of};
 use rules::Personality;
-use state::logic::and;
-
-// An attribute that the personality remembers.
-fn is_remembered(personality: Personality, attribute: u16) -> bool
-    ensures { result ≡ remembered_ok personality attribute }
-{
-    match personality {
-        Personality::Wy50 => attribute == 0,
-        Personality::Wy60 => attribute < 31,
-    }
-}
+use state::possible::remembered_ok;
 
 // Unprotected text of code 20h to 7Eh, written by the personality.
 fn is_text(personality: Personality, v: u16) -> bool
     ensures { result ≡ is_text personality v }
 {
     let c = v % 1024;
-    let remembered = is_remembered(personality, v / 1024);
-    and(remembered, and(0x20 <= c, c < 0x7f))
+    remembered_ok(personality, (v / 1024) as u8) && 0x20 <= c && c < 0x7f
 }
 
 fn is_all_text(personality: Personality, page: &[u16]) -> bool
-    requires { length page.now ≤ 3168 }
     ensures { result ≡ all_text personality page.now }
 {
-    let mut i = 0;
-    while i < page.len() {
-        if !is_text(personality, page[i]) {
-            return false;
-        }
-        i += 1;
-    }
-    true
+    page.iter().all(|v| is_text(personality, *v))
 }
 
 // Two pages that the proposer serves.
 fn is_served(personality: Personality, before: &[u16], after: &[u16]) -> bool
     ensures { result ≡ served personality before.now after.now }
 {
-    if before.len() != 1920 {
-        return false;
-    }
-    if after.len() != 1920 {
-        return false;
-    }
-    if !is_all_text(personality, before) {
-        return false;
-    }
-    if !is_all_text(personality, after) {
-        return false;
-    }
-    before[1919] == after[1919]
+    before.len() == 1920
+        && after.len() == 1920
+        && is_all_text(personality, before)
+        && is_all_text(personality, after)
+        && before[1919] == after[1919]
 }
 
 // The end of the stretch of differing cells that begins at a cell.
@@ -70,6 +41,7 @@ fn stretch_end(before: &[u16], after: &[u16], at: usize) -> usize
     ensures { result ≡ at + reach at (drop at before.now) (drop at after.now) }
 {
     let mut i = at;
+    // the index is what is given back
     while i < 1920 {
         if before[i] == after[i] {
             return i;
@@ -95,12 +67,9 @@ fn put(out: &mut [u8], start: usize, bytes: &[u8]) -> usize
     requires { start + length bytes.now ≤ length out.old }
     ensures { Put start bytes.now out.old result out.new }
 {
-    let mut i = 0;
-    while i < bytes.len() {
-        out[start + i] = bytes[i];
-        i += 1;
-    }
-    start + i
+    let end = start + bytes.len();
+    out[start..end].copy_from_slice(bytes);
+    end
 }
 
 // The code of an attribute for ESC G.
@@ -140,19 +109,13 @@ fn put_cells(out: &mut [u8], start: usize, remembered: u16, part: &[u16]) -> Pai
     ensures { Put start (cells_bytes remembered part.now) out.old result.place out.new
         × (result.remembered ≡ last_shown remembered part.now) }
 {
-    let mut n = start;
-    let mut a = remembered;
-    let mut i = 0;
-    while i < part.len() {
-        let v = part[i];
-        n = put_cell(out, n, a, v);
-        a = v / 1024;
-        i += 1;
+    let mut place = start;
+    let mut remembered = remembered;
+    for v in part {
+        place = put_cell(out, place, remembered, *v);
+        remembered = *v / 1024;
     }
-    Painted {
-        place: n,
-        remembered: a,
-    }
+    Painted { place, remembered }
 }
 
 // The span of a stretch, if it has cells: the next numbers of three lists. How many there are then.
@@ -201,13 +164,13 @@ fn put_stretch(
     }
     Painted {
         place: n,
-        remembered: remembered,
+        remembered,
     }
 }
 
-// How many spans and bytes there are.
+// How many spans and bytes were made.
 #[derive(Clone, Copy)]
-struct Counts {
+struct Made {
     spans: usize,
     bytes: usize,
 }
@@ -220,7 +183,7 @@ fn paint(
     out: &mut [u8],
     before: &[u16],
     after: &[u16],
-) -> Counts
+) -> Made
     requires { ((length before.now ≡ 1920) × (length after.now ≡ 1920))
         × Holding before.now after.now rows.old columns.old lengths.old out.old }
     ensures { SpansPut 0 (stretches before.now after.now) rows.old columns.old
@@ -231,6 +194,7 @@ fn paint(
     let mut k = 0;
     let mut a: u16 = 0;
     let mut at = 0;
+    // `at` moves past each stretch
     while at < 1920 {
         let end = stretch_end(before, after, at);
         n = put_span(rows, columns, lengths, n, at, end);
@@ -239,26 +203,14 @@ fn paint(
         a = p.remembered;
         at = past(at, end);
     }
-    Counts { spans: n, bytes: k }
-}
-
-// Bytes copied to the front of others; the rest of these is untouched.
-fn copy_bytes(from: &[u8], to: &mut [u8])
-    requires { length from.now ≤ length to.old }
-    ensures { to.new ≡ over from.now to.old }
-{
-    let mut i = 0;
-    while i < from.len() {
-        to[i] = from[i];
-        i += 1;
-    }
+    Made { spans: n, bytes: k }
 }
 
 // Whether n spans fit into three lists, and k bytes into a fourth.
 fn has_room(n: usize, k: usize, rows: usize, columns: usize, lengths: usize, out: usize) -> bool
     ensures { result ≡ both (both (nat_le n rows) (both (nat_le n columns) (nat_le n lengths))) (nat_le k out) }
 {
-    and(and(n <= rows, and(n <= columns, n <= lengths)), k <= out)
+    n <= rows && n <= columns && n <= lengths && k <= out
 }
 
 // The first n spans and k bytes of some lists, at the front of others.
@@ -281,20 +233,10 @@ fn give(
         × ((lengths.new ≡ over (take n l.now) lengths.old)
         × (out.new ≡ over (take k o.now) out.old))) }
 {
-    copy_cells(&r[0..n], rows);
-    copy_cells(&c[0..n], columns);
-    copy_cells(&l[0..n], lengths);
-    copy_bytes(&o[0..k], out);
-}
-
-fn refuse(answer: u8) -> ProposeResult
-    ensures { result ≡ record { answer = answer; spans = 0; bytes = 0 } }
-{
-    ProposeResult {
-        answer: answer,
-        spans: 0,
-        bytes: 0,
-    }
+    rows[..n].copy_from_slice(&r[..n]);
+    columns[..n].copy_from_slice(&c[..n]);
+    lengths[..n].copy_from_slice(&l[..n]);
+    out[..k].copy_from_slice(&o[..k]);
 }
 
 // Proposes the spans and the bytes that bring a display from one page to another. They are made beside the rooms first, which are written only if all
@@ -307,16 +249,16 @@ pub fn propose(
     columns: &mut [u16],
     lengths: &mut [u16],
     out: &mut [u8],
-) -> ProposeResult
+) -> Result<Counts, ProposeRefusal>
     ensures { Proposes
         (propose_rule personality before.now after.now rows.old columns.old lengths.old
-        out.old) result rows.new columns.new lengths.new out.new }
+        out.old) (told result) rows.new columns.new lengths.new out.new }
 {
-    if width_of(before, after) == 0 {
-        return refuse(7);
+    if width_of(before, after).is_none() {
+        return Err(ProposeRefusal::WrongLength);
     }
     if !is_served(personality, before, after) {
-        return refuse(3);
+        return Err(ProposeRefusal::NotServed);
     }
     let mut r: [u16; 960] = [0; 960];
     let mut c: [u16; 960] = [0; 960];
@@ -326,12 +268,11 @@ pub fn propose(
     let n = t.spans;
     let k = t.bytes;
     if !has_room(n, k, rows.len(), columns.len(), lengths.len(), out.len()) {
-        return refuse(6);
+        return Err(ProposeRefusal::NoRoom);
     }
     give(n, k, &r, &c, &l, &o, rows, columns, lengths, out);
-    ProposeResult {
-        answer: 0,
+    Ok(Counts {
         spans: n as u16,
         bytes: k as u16,
-    }
+    })
 }

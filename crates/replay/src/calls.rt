@@ -1,270 +1,158 @@
 // Lines that call: each writes what stands behind its word, up to the state. Rooms and lists are all EEh and EEEEh before a call.
+use crate::bench::Bench;
+use crate::lists::{BYTES, CELLS};
 use crate::script::{AboveLine, Call, PageLine, StoreLine, TerminalLine};
-use crate::sizes::{BYTES, CELLS, NUMBERS};
 use replay_above::{counting, mending, repainting, store};
-use replay_terminal::calls::Called;
 use replay_terminal::{calls, reading};
-use replay_text::bounds::{within, within_list};
-use replay_text::rooms::front;
+use replay_text::rooms::split;
 use replay_text::words::later;
-use rules::{Personality, State};
+use rules::Personality;
 use std::io;
+use std::io::Write;
 
-fn kept(s: State, at: usize) -> Called {
-    Called { state: s, at: at }
-}
-
-fn step(
-    to: &impl Print,
-    s: State,
-    is_listed: bool,
-    byte: u8,
-    room: usize,
-    page: &mut [u16],
-    rows: &mut [u16],
-    out: &mut [u8],
-    at: usize,
-) -> io::Result<Called> {
-    let mut reply = [0xeeu8; CELLS];
-    let k = within(room, &reply);
-    calls::step(to, s, byte, is_listed, page, rows, &mut reply[..k], out, at)
-}
-
-fn run(
-    to: &impl Print,
-    s: State,
-    is_next: bool,
-    is_listed: bool,
-    input: &[u8],
-    room: usize,
-    page: &mut [u16],
-    rows: &mut [u16],
-    out: &mut [u8],
-    at: usize,
-) -> io::Result<Called> {
-    let mut reply = [0xeeu8; CELLS];
-    let k = within(room, &reply);
-    calls::run(
-        to,
-        s,
-        is_next,
-        is_listed,
-        input,
-        page,
-        rows,
-        &mut reply[..k],
-        out,
-        at,
-    )
-}
-
-fn press(
-    to: &impl Print,
-    s: State,
-    key: u8,
-    room: usize,
-    page: &[u16],
-    out: &mut [u8],
-    at: usize,
-) -> io::Result<usize> {
-    let mut reply = [0xeeu8; CELLS];
-    let k = within(room, &reply);
-    calls::press(to, s, key, page, &mut reply[..k], out, at)
-}
+// The numbers of the longest list of entries of a mending.
+const NUMBERS: usize = 65536;
 
 fn of_terminal(
-    to: &impl Print,
-    s: State,
+    to: &mut impl Write,
+    b: &mut Bench,
     x: TerminalLine,
     input: &[u8],
-    page: &mut [u16],
-    rows: &mut [u16],
-    out: &mut [u8],
-    at: usize,
-) -> io::Result<Called> {
+) -> io::Result<()> {
+    let mut reply = [0xee; CELLS];
+    let page = b.page.as_mut_slice();
+    let rows = b.rows.as_mut_slice();
     match x {
-        TerminalLine::On(m) => calls::on(to, m, page, out, at),
-        TerminalLine::Step(is_listed, b, room) => {
-            step(to, s, is_listed, b, room, page, rows, out, at)
+        TerminalLine::On(m) => b.state = calls::on(to, m, page)?,
+        TerminalLine::Step { listed, byte, room } => {
+            let rows = listed.then_some(rows);
+            let room = &mut reply[..room.min(CELLS)];
+            b.state = calls::step(to, b.state, byte, page, rows, room)?;
         }
-        TerminalLine::Run(is_next, is_listed, n, room) => run(
-            to,
-            s,
-            is_next,
-            is_listed,
-            front(input, n),
+        TerminalLine::Run {
+            next,
+            listed,
+            length,
             room,
-            page,
-            rows,
-            out,
-            at,
-        ),
-        TerminalLine::Press(key, room) => Ok(kept(s, press(to, s, key, room, page, out, at)?)),
-        TerminalLine::Rebuild => Ok(kept(s, calls::rebuild(to, s, page, rows, out, at)?)),
+        } => {
+            let rows = listed.then_some(rows);
+            let (input, _) = split(input, length);
+            let room = &mut reply[..room.min(CELLS)];
+            b.state = if next {
+                calls::next(to, b.state, input, page, rows, room)?
+            } else {
+                calls::run(to, b.state, input, page, rows, room)?
+            };
+        }
+        TerminalLine::Press { key, room } => {
+            calls::press(to, b.state, key, page, &mut reply[..room.min(CELLS)])?;
+        }
+        TerminalLine::Rebuild => calls::rebuild(to, b.state, page, rows)?,
     }
+    Ok(())
 }
 
-fn field_text(
-    to: &impl Print,
-    start: usize,
-    trim: bool,
-    room: usize,
-    page: &[u16],
-    out: &mut [u8],
-    at: usize,
-) -> io::Result<usize> {
-    let mut text = [0xeeu8; CELLS];
-    let k = within(room, &text);
-    reading::field_text(to, start, trim, page, &mut text[..k], out, at)
-}
-
-fn row_text(
-    to: &impl Print,
-    row: usize,
-    trim: bool,
-    room: usize,
-    page: &[u16],
-    out: &mut [u8],
-    at: usize,
-) -> io::Result<usize> {
-    let mut text = [0xeeu8; CELLS];
-    let k = within(room, &text);
-    reading::row_text(to, row, trim, page, &mut text[..k], out, at)
-}
-
-fn of_page(
-    to: &impl Print,
-    x: PageLine,
-    page: &[u16],
-    out: &mut [u8],
-    at: usize,
-) -> io::Result<usize> {
+fn of_page(to: &mut impl Write, x: PageLine, page: &[u16]) -> io::Result<()> {
+    let mut text = [0xee; CELLS];
     match x {
-        PageLine::Show => calls::show(to, page, out, at),
-        PageLine::Field(n) => reading::field(to, n, page, out, at),
-        PageLine::FieldText(n, trim, room) => field_text(to, n, trim, room, page, out, at),
-        PageLine::RowText(n, trim, room) => row_text(to, n, trim, room, page, out, at),
-        PageLine::Position(n) => reading::position(to, n, page, out, at),
-        PageLine::Place(row, column) => reading::place(to, row, column, page, out, at),
+        PageLine::Show => calls::show(to, page),
+        PageLine::Field(cell) => reading::field(to, cell, page),
+        PageLine::FieldText { start, trim, room } => {
+            reading::field_text(to, start, trim, page, &mut text[..room.min(CELLS)])
+        }
+        PageLine::RowText { row, trim, room } => {
+            reading::row_text(to, row, trim, page, &mut text[..room.min(CELLS)])
+        }
+        PageLine::Position(cell) => reading::position(to, cell, page),
+        PageLine::Place { row, column } => reading::place(to, row, column, page),
     }
 }
 
-fn restore(
-    to: &impl Print,
-    s: State,
-    n: u16,
-    store: &[u8],
-    out: &mut [u8],
-    at: usize,
-) -> io::Result<Called> {
-    let r = store::restore(to, s, n, store, out, at)?;
-    let next = r.state;
-    Ok(Called {
-        state: next,
-        at: r.at,
-    })
-}
-
-fn of_store(
-    to: &impl Print,
-    s: State,
-    x: StoreLine,
-    store: &mut [u8],
-    out: &mut [u8],
-    at: usize,
-) -> io::Result<Called> {
+fn of_store(to: &mut impl Write, b: &mut Bench, x: StoreLine) -> io::Result<()> {
     match x {
-        StoreLine::Save => Ok(kept(s, store::save(to, s, store, out, at)?)),
-        StoreLine::Restore(n) => restore(to, s, n, store, out, at),
+        StoreLine::Save => store::save(to, b.state, b.store.as_mut_slice()),
+        StoreLine::Restore(n) => {
+            b.state = store::restore(to, b.state, n, b.store.as_slice())?;
+            Ok(())
+        }
     }
 }
 
-fn mend(
-    to: &impl Print,
-    m: Personality,
-    n: usize,
-    page: &mut [u16],
-    out: &mut [u8],
-    at: usize,
-) -> io::Result<usize> {
-    let mut list = [0xeeeeu16; NUMBERS];
-    let k = within_list(n, &list);
-    mending::mend(to, m, page, &mut list[..k], out, at)
+fn mend(to: &mut impl Write, m: Personality, numbers: usize, page: &mut [u16]) -> io::Result<()> {
+    let mut list = [0xeeee; NUMBERS];
+    mending::mend(to, m, page, &mut list[..numbers.min(NUMBERS)])
 }
 
 fn propose(
-    to: &impl Print,
+    to: &mut impl Write,
     m: Personality,
     spans: usize,
     bytes: usize,
-    page: &[u16],
     display: &[u16],
-    out: &mut [u8],
-    at: usize,
-) -> io::Result<usize> {
-    let mut rows = [0xeeeeu16; CELLS];
-    let mut columns = [0xeeeeu16; CELLS];
-    let mut lengths = [0xeeeeu16; CELLS];
-    let mut room = [0xeeu8; BYTES];
-    let r = within_list(spans, &rows);
-    let c = within_list(spans, &columns);
-    let l = within_list(spans, &lengths);
-    let k = within(bytes, &room);
+    page: &[u16],
+) -> io::Result<()> {
+    let mut rows = [0xeeee; CELLS];
+    let mut columns = [0xeeee; CELLS];
+    let mut lengths = [0xeeee; CELLS];
+    let mut room = [0xee; BYTES];
+    let n = spans.min(CELLS);
     repainting::propose(
         to,
         m,
         display,
         page,
-        &mut rows[..r],
-        &mut columns[..c],
-        &mut lengths[..l],
-        &mut room[..k],
-        out,
-        at,
+        &mut rows[..n],
+        &mut columns[..n],
+        &mut lengths[..n],
+        &mut room[..bytes.min(BYTES)],
     )
 }
 
 fn of_above(
-    to: &impl Print,
+    to: &mut impl Write,
+    b: &mut Bench,
     x: AboveLine,
     line: &[u8],
     input: &[u8],
-    page: &mut [u16],
-    display: &[u16],
-    out: &mut [u8],
-    at: usize,
-) -> io::Result<usize> {
+) -> io::Result<()> {
+    let display = b.display.as_slice();
     match x {
-        AboveLine::Count(n, first, last) => {
-            counting::count(to, front(input, n), first, last, out, at)
+        AboveLine::Count {
+            length,
+            first,
+            last,
+        } => counting::count(to, split(input, length).0, first, last),
+        AboveLine::Entry(length) => counting::entry(to, split(input, length).0),
+        AboveLine::Mend { model, numbers } => mend(to, model, numbers, b.page.as_mut_slice()),
+        AboveLine::Spans => repainting::spans(to, later(line), display, b.page.as_slice()),
+        AboveLine::Bytes { model, length } => {
+            repainting::bytes(
+                to,
+                model,
+                split(input, length).0,
+                display,
+                b.page.as_slice(),
+            )
         }
-        AboveLine::Entry(n) => counting::entry(to, front(input, n), out, at),
-        AboveLine::Mend(m, n) => mend(to, m, n, page, out, at),
-        AboveLine::Spans => repainting::spans(to, later(line), display, page, out, at),
-        AboveLine::Bytes(m, n) => repainting::bytes(to, m, front(input, n), display, page, out, at),
-        AboveLine::Propose(m, spans, bytes) => {
-            propose(to, m, spans, bytes, page, display, out, at)
-        }
+        AboveLine::Propose {
+            model,
+            spans,
+            bytes,
+        } => propose(to, model, spans, bytes, display, b.page.as_slice()),
     }
 }
 
 pub fn call(
-    to: &impl Print,
-    s: State,
+    to: &mut impl Write,
+    b: &mut Bench,
     x: Call,
     line: &[u8],
     input: &[u8],
-    page: &mut [u16],
-    rows: &mut [u16],
-    store: &mut [u8],
-    display: &[u16],
-    out: &mut [u8],
-    at: usize,
-) -> io::Result<Called> {
+) -> io::Result<()> {
     match x {
-        Call::Terminal(t) => of_terminal(to, s, t, input, page, rows, out, at),
-        Call::Page(p) => Ok(kept(s, of_page(to, p, page, out, at)?)),
-        Call::Store(t) => of_store(to, s, t, store, out, at),
-        Call::Above(a) => Ok(kept(s, of_above(to, a, line, input, page, display, out, at)?)),
+        Call::Terminal(x) => of_terminal(to, b, x, input),
+        Call::Page(x) => of_page(to, x, b.page.as_slice()),
+        Call::Store(x) => of_store(to, b, x),
+        Call::Above(x) => of_above(to, b, x, line, input),
     }
 }

@@ -1,119 +1,65 @@
-// Lines that change what is lent to calls: the page, the row list, the store, the display's page.
-use crate::script::ListLine;
-use replay_terminal::noise::noise;
-use replay_text::bounds::{within, within_list};
-use replay_text::rooms::{clear, copy, fill};
+// What is lent to calls: pages, row lists and stores.
 
-// How long they are: each is the front of its buffer.
+// Pages, row lists, reply rooms and lists of spans have no more.
+pub const CELLS: usize = 4000;
+
+// Stores, and rooms for bytes.
+pub const BYTES: usize = 16384;
+
+pub type List = Front<u16, CELLS>;
+
+pub type Store = Front<u8, BYTES>;
+
+// The front of a buffer.
 #[derive(Clone, Copy)]
-pub struct Lengths {
-    pub cells: usize,
-    pub rows: usize,
-    pub store: usize,
-    pub display: usize,
+pub struct Front<T, const N: usize> {
+    all: [T; N],
+    len: usize,
 }
 
-// After a line: the lengths, and whether the line is good.
-#[derive(Clone, Copy)]
-pub struct Changed {
-    pub good: bool,
-    pub lengths: Lengths,
-}
-
-fn done(z: Lengths) -> Changed {
-    Changed {
-        good: true,
-        lengths: z,
+impl<T: Copy + Default, const N: usize> Front<T, N> {
+    // All 0.
+    pub fn new(len: usize) -> Self {
+        Front {
+            all: [T::default(); N],
+            len,
+        }
     }
-}
 
-fn new_page(z: Lengths, n: usize, page: &mut [u16]) -> Changed {
-    let k = within_list(n, page);
-    fill(&mut page[..k], 0);
-    let mut t = z;
-    t.cells = k;
-    done(t)
-}
-
-fn new_rows(z: Lengths, n: usize, rows: &mut [u16]) -> Changed {
-    let k = within_list(n, rows);
-    fill(&mut rows[..k], 0);
-    let mut t = z;
-    t.rows = k;
-    done(t)
-}
-
-fn new_store(z: Lengths, n: usize, store: &mut [u8]) -> Changed {
-    let k = within(n, store);
-    clear(&mut store[..k]);
-    let mut t = z;
-    t.store = k;
-    done(t)
-}
-
-fn new_display(z: Lengths, page: &[u16], display: &mut [u16]) -> Changed {
-    let k = within_list(z.cells, page);
-    copy(&page[..k], display);
-    let mut t = z;
-    t.display = k;
-    done(t)
-}
-
-// n numbers from i on, if the first k numbers of a list have them.
-fn numbers(z: Lengths, k: usize, i: usize, n: usize, v: u16, list: &mut [u16]) -> Changed {
-    let end = within_list(k, list);
-    let good = filled(i, n, v, &mut list[..end]);
-    Changed {
-        good: good,
-        lengths: z,
+    pub fn as_slice(&self) -> &[T] {
+        &self.all[..self.len.min(N)]
     }
-}
 
-fn filled(i: usize, n: usize, v: u16, list: &mut [u16]) -> bool {
-    if list.len() < i {
-        return false;
+    // That the length lies within the buffer is no ghost field, since a part of a struct that has one is not lent as `&mut`.
+    pub fn as_mut_slice(&mut self) -> &mut [T] {
+        &mut self.all[..self.len.min(N)]
     }
-    if list.len() - i < n {
-        return false;
-    }
-    fill(&mut list[i..i + n], v);
-    true
-}
 
-fn store_byte(z: Lengths, i: usize, v: u8, store: &mut [u8]) -> Changed {
-    let k = within(z.store, store);
-    if i < k {
-        store[i] = v;
-        return done(z);
+    // All 0 again, with a new length.
+    pub fn reset(&mut self, len: usize) {
+        self.len = len;
+        // `fill` clones, and of a type parameter nothing says that its clone cannot fail
+        for x in self.as_mut_slice() {
+            *x = T::default();
+        }
     }
-    Changed {
-        good: false,
-        lengths: z,
+
+    // What another list holds.
+    pub fn take_over(&mut self, list: &[T]) {
+        let n = list.len().min(N);
+        self.all[..n].copy_from_slice(&list[..n]);
+        self.len = n;
     }
-}
 
-fn new_noise(z: Lengths, seed: usize, mask: usize, share: usize, page: &mut [u16]) -> Changed {
-    let k = within_list(z.cells, page);
-    noise(&mut page[..k], seed, mask, share);
-    done(z)
-}
-
-pub fn change(
-    z: Lengths,
-    x: ListLine,
-    page: &mut [u16],
-    rows: &mut [u16],
-    store: &mut [u8],
-    display: &mut [u16],
-) -> Changed {
-    match x {
-        ListLine::Page(n) => new_page(z, n, page),
-        ListLine::Rows(n) => new_rows(z, n, rows),
-        ListLine::Store(n) => new_store(z, n, store),
-        ListLine::Cells(i, n, v) => numbers(z, z.cells, i, n, v, page),
-        ListLine::Row(i, v) => numbers(z, z.rows, i, 1, v, rows),
-        ListLine::Byte(i, v) => store_byte(z, i, v, store),
-        ListLine::Noise(seed, mask, share) => new_noise(z, seed, mask, share, page),
-        ListLine::Display => new_display(z, page, display),
+    // `count` values from `first` on, if it has them.
+    pub fn put(&mut self, first: usize, count: usize, value: T) -> Option<()> {
+        let list = self.as_mut_slice();
+        if list.len() < first || list.len() - first < count {
+            return None;
+        }
+        for x in list[first..first + count].iter_mut() {
+            *x = value;
+        }
+        Some(())
     }
 }

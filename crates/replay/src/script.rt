@@ -1,8 +1,13 @@
 // A line of a script as a command of numbers. Its byte string, if it has one, is put to the front of a room, and the command has its length.
-use crate::sizes::{BYTES, CELLS, ENTRIES, INPUT};
+use crate::lists::{BYTES, CELLS};
 use replay_above::repainting::are_spans;
-use replay_text::words::{NONE, byte, byte_string, first, later, number, which, word_count};
+use replay_text::words::{
+    at_most, byte, byte_string, first, flag, later, number, number_as, personality, word_count,
+};
 use rules::Personality;
+
+// The longest list of entries of a mending.
+const ENTRIES: usize = 16384;
 
 // Lines that change what is lent to calls: a new length, or numbers of it.
 #[derive(Clone, Copy)]
@@ -10,23 +15,41 @@ pub enum ListLine {
     Page(usize),
     Rows(usize),
     Store(usize),
-    // first cell, how many, value
-    Cells(usize, usize, u16),
+    Cells {
+        first: usize,
+        count: usize,
+        value: u16,
+    },
     Row(usize, u16),
     Byte(usize, u8),
-    Noise(usize, usize, usize),
+    Noise {
+        seed: usize,
+        mask: usize,
+        share: usize,
+    },
     Display,
 }
 
-// Lines that call the terminal. A room has its length.
+// Lines that call the terminal: with the row list or not; the length of the input and of the room.
 #[derive(Clone, Copy)]
 pub enum TerminalLine {
     On(Personality),
-    // with the row list, the byte, the room
-    Step(bool, u8, usize),
-    // up to the first event, with the row list, the length of the input, the room
-    Run(bool, bool, usize, usize),
-    Press(u8, usize),
+    Step {
+        listed: bool,
+        byte: u8,
+        room: usize,
+    },
+    // `next` is up to the first event
+    Run {
+        next: bool,
+        listed: bool,
+        length: usize,
+        room: usize,
+    },
+    Press {
+        key: u8,
+        room: usize,
+    },
     Rebuild,
 }
 
@@ -35,11 +58,21 @@ pub enum TerminalLine {
 pub enum PageLine {
     Show,
     Field(usize),
-    // the first cell or the row, trimmed, the room
-    FieldText(usize, bool, usize),
-    RowText(usize, bool, usize),
+    FieldText {
+        start: usize,
+        trim: bool,
+        room: usize,
+    },
+    RowText {
+        row: usize,
+        trim: bool,
+        room: usize,
+    },
     Position(usize),
-    Place(usize, usize),
+    Place {
+        row: usize,
+        column: usize,
+    },
 }
 
 #[derive(Clone, Copy)]
@@ -52,12 +85,26 @@ pub enum StoreLine {
 // the list; the lengths of the rooms.
 #[derive(Clone, Copy)]
 pub enum AboveLine {
-    Count(usize, usize, usize),
+    Count {
+        length: usize,
+        first: usize,
+        last: usize,
+    },
     Entry(usize),
-    Mend(Personality, usize),
+    Mend {
+        model: Personality,
+        numbers: usize,
+    },
     Spans,
-    Bytes(Personality, usize),
-    Propose(Personality, usize, usize),
+    Bytes {
+        model: Personality,
+        length: usize,
+    },
+    Propose {
+        model: Personality,
+        spans: usize,
+        bytes: usize,
+    },
 }
 
 #[derive(Clone, Copy)]
@@ -71,7 +118,6 @@ pub enum Call {
 // A setting is read where it is carried out.
 #[derive(Clone, Copy)]
 pub enum Command {
-    Bad,
     Skip,
     Set,
     List(ListLine),
@@ -80,283 +126,182 @@ pub enum Command {
     Call(Call),
 }
 
-// What a line says.
-pub fn read(line: &[u8], input: &mut [u8]) -> Command {
-    if line.len() == 0 {
-        return Command::Skip;
+// What a line says; nothing where it fits none of the forms.
+pub fn read(line: &[u8], input: &mut [u8]) -> Option<Command> {
+    if matches!(line, [] | [b'#', ..]) {
+        return Some(Command::Skip);
     }
-    if line[0] == b'#' {
-        return Command::Skip;
-    }
-    let n = word_count(line);
     let word = first(line);
     let words = later(line);
-    match n {
-        1 => one_word(line),
+    match word_count(line) {
+        1 => one_word(word),
         2 => two_words(word, words, input),
         3 => three_words(word, first(words), later(words), input),
-        4 => four_words(word, first(words), later(words), input),
-        _ => Command::Bad,
+        4 => {
+            let others = later(words);
+            four_words(word, first(words), first(others), later(others), input)
+        }
+        _ => None,
     }
 }
 
-fn given(fits: bool, c: Command) -> Command {
-    if fits { c } else { Command::Bad }
+fn list(x: ListLine) -> Option<Command> {
+    Some(Command::List(x))
 }
 
-fn list(x: ListLine) -> Command {
-    Command::List(x)
+fn terminal(x: TerminalLine) -> Option<Command> {
+    Some(Command::Call(Call::Terminal(x)))
 }
 
-fn terminal(x: TerminalLine) -> Command {
-    Command::Call(Call::Terminal(x))
+fn page(x: PageLine) -> Option<Command> {
+    Some(Command::Call(Call::Page(x)))
 }
 
-fn page(x: PageLine) -> Command {
-    Command::Call(Call::Page(x))
+fn store(x: StoreLine) -> Option<Command> {
+    Some(Command::Call(Call::Store(x)))
 }
 
-fn store(x: StoreLine) -> Command {
-    Command::Call(Call::Store(x))
+fn above(x: AboveLine) -> Option<Command> {
+    Some(Command::Call(Call::Above(x)))
 }
 
-fn above(x: AboveLine) -> Command {
-    Command::Call(Call::Above(x))
-}
-
-fn one_word(word: &[u8]) -> Command {
-    let k = which(word, b"on show rebuild save display");
-    match k {
-        0 => terminal(TerminalLine::On(Personality::Wy50)),
-        1 => page(PageLine::Show),
-        2 => terminal(TerminalLine::Rebuild),
-        3 => store(StoreLine::Save),
-        4 => list(ListLine::Display),
-        _ => Command::Bad,
+fn one_word(word: &[u8]) -> Option<Command> {
+    match word {
+        b"on" => terminal(TerminalLine::On(Personality::Wy50)),
+        b"show" => page(PageLine::Show),
+        b"rebuild" => terminal(TerminalLine::Rebuild),
+        b"save" => store(StoreLine::Save),
+        b"display" => list(ListLine::Display),
+        _ => None,
     }
 }
 
-fn two_words(word: &[u8], value: &[u8], input: &mut [u8]) -> Command {
-    let k = which(word, b"entry spans");
-    match k {
-        0 => entry(byte_string(value, input)),
-        1 => given(are_spans(value), above(AboveLine::Spans)),
-        _ => one_number(word, number(value)),
+fn two_words(word: &[u8], value: &[u8], input: &mut [u8]) -> Option<Command> {
+    match word {
+        b"entry" => above(AboveLine::Entry(byte_string(value, input)?)),
+        b"spans" => spans(value),
+        b"length" => list(ListLine::Page(at_most(CELLS, value)?)),
+        b"rows" => list(ListLine::Rows(at_most(CELLS, value)?)),
+        b"store" => list(ListLine::Store(at_most(BYTES, value)?)),
+        b"convert" => Some(Command::Convert(at_most(CELLS, value)?)),
+        b"field" => page(PageLine::Field(number(value)?)),
+        b"position" => page(PageLine::Position(number(value)?)),
+        b"restore" => store(StoreLine::Restore(number_as(value)?)),
+        b"on" => terminal(TerminalLine::On(personality(value)?)),
+        _ => Some(Command::Set),
     }
 }
 
-fn entry(length: usize) -> Command {
-    given(length <= INPUT, above(AboveLine::Entry(length)))
-}
-
-fn one_number(word: &[u8], n: usize) -> Command {
-    let k = which(word, b"length rows store convert field position restore on");
-    match k {
-        0 => given(n <= CELLS, list(ListLine::Page(n))),
-        1 => given(n <= CELLS, list(ListLine::Rows(n))),
-        2 => given(n <= BYTES, list(ListLine::Store(n))),
-        3 => given(n <= CELLS, Command::Convert(n)),
-        4 => given(n != NONE, page(PageLine::Field(n))),
-        5 => given(n != NONE, page(PageLine::Position(n))),
-        6 => restore(n),
-        7 => given(
-            is_personality(n),
-            terminal(TerminalLine::On(personality(n))),
-        ),
-        _ => Command::Set,
+fn spans(word: &[u8]) -> Option<Command> {
+    if are_spans(word) {
+        above(AboveLine::Spans)
+    } else {
+        None
     }
 }
 
-fn restore(n: usize) -> Command {
-    if 65535 < n {
-        return Command::Bad;
-    }
-    store(StoreLine::Restore(n as u16))
-}
-
-// A personality is 50 or 60.
-fn is_personality(n: usize) -> bool {
-    if n == 50 {
-        return true;
-    }
-    n == 60
-}
-
-fn personality(n: usize) -> Personality {
-    if n == 60 {
-        return Personality::Wy60;
-    }
-    Personality::Wy50
-}
-
-fn three_words(word: &[u8], a: &[u8], b: &[u8], input: &mut [u8]) -> Command {
-    let k = which(word, b"run next listrun listnext bytes");
-    match k {
-        0 => run(false, false, byte_string(a, input), number(b)),
-        1 => run(true, false, byte_string(a, input), number(b)),
-        2 => run(false, true, byte_string(a, input), number(b)),
-        3 => run(true, true, byte_string(a, input), number(b)),
-        4 => judged(number(a), byte_string(b, input)),
+fn three_words(word: &[u8], a: &[u8], b: &[u8], input: &mut [u8]) -> Option<Command> {
+    match word {
+        b"run" => run(false, false, a, b, input),
+        b"listrun" => run(false, true, a, b, input),
+        b"next" => run(true, false, a, b, input),
+        b"listnext" => run(true, true, a, b, input),
+        b"bytes" => above(AboveLine::Bytes {
+            model: personality(a)?,
+            length: byte_string(b, input)?,
+        }),
         _ => byte_call(word, a, b),
     }
 }
 
-fn run(is_next: bool, is_listed: bool, length: usize, room: usize) -> Command {
-    if INPUT < length {
-        return Command::Bad;
-    }
-    given(
-        room <= CELLS,
-        terminal(TerminalLine::Run(is_next, is_listed, length, room)),
-    )
+fn run(next: bool, listed: bool, a: &[u8], b: &[u8], input: &mut [u8]) -> Option<Command> {
+    terminal(TerminalLine::Run {
+        next,
+        listed,
+        length: byte_string(a, input)?,
+        room: at_most(CELLS, b)?,
+    })
 }
 
-fn judged(p: usize, length: usize) -> Command {
-    if INPUT < length {
-        return Command::Bad;
-    }
-    given(
-        is_personality(p),
-        above(AboveLine::Bytes(personality(p), length)),
-    )
-}
-
-fn byte_call(word: &[u8], a: &[u8], b: &[u8]) -> Command {
-    let k = which(word, b"step liststep press");
-    if 2 < k {
-        return two_numbers(word, number(a), number(b));
-    }
-    let v = byte(a);
-    if 255 < v {
-        return Command::Bad;
-    }
-    let room = number(b);
-    given(room <= CELLS, terminal(with_byte(k, v as u8, room)))
-}
-
-// `step`, `liststep` or `press`, from 0.
-fn with_byte(k: usize, b: u8, room: usize) -> TerminalLine {
-    match k {
-        0 => TerminalLine::Step(false, b, room),
-        1 => TerminalLine::Step(true, b, room),
-        _ => TerminalLine::Press(b, room),
+fn byte_call(word: &[u8], a: &[u8], b: &[u8]) -> Option<Command> {
+    match word {
+        b"step" => step(false, a, b),
+        b"liststep" => step(true, a, b),
+        b"press" => terminal(TerminalLine::Press {
+            key: byte(a)?,
+            room: at_most(CELLS, b)?,
+        }),
+        _ => two_numbers(word, a, b),
     }
 }
 
-fn two_numbers(word: &[u8], i: usize, n: usize) -> Command {
-    let k = which(word, b"place mend cell row byte");
-    match k {
-        0 => place(i, n),
-        1 => mend(i, n),
-        2 => cells(i, 1, n),
-        3 => row(i, n),
-        4 => store_byte(i, n),
-        _ => Command::Set,
+fn step(listed: bool, a: &[u8], b: &[u8]) -> Option<Command> {
+    terminal(TerminalLine::Step {
+        listed,
+        byte: byte(a)?,
+        room: at_most(CELLS, b)?,
+    })
+}
+
+fn two_numbers(word: &[u8], a: &[u8], b: &[u8]) -> Option<Command> {
+    match word {
+        b"place" => page(PageLine::Place {
+            row: number(a)?,
+            column: number(b)?,
+        }),
+        b"mend" => above(AboveLine::Mend {
+            model: personality(a)?,
+            numbers: at_most(ENTRIES, b)? * 4,
+        }),
+        b"cell" => list(ListLine::Cells {
+            first: number(a)?,
+            count: 1,
+            value: number_as(b)?,
+        }),
+        b"row" => list(ListLine::Row(number(a)?, number_as(b)?)),
+        b"byte" => list(ListLine::Byte(number(a)?, number_as(b)?)),
+        _ => Some(Command::Set),
     }
 }
 
-fn place(row: usize, column: usize) -> Command {
-    if row == NONE {
-        return Command::Bad;
-    }
-    given(column != NONE, page(PageLine::Place(row, column)))
-}
-
-// A personality, and how many entries the list has.
-fn mend(p: usize, n: usize) -> Command {
-    if ENTRIES < n {
-        return Command::Bad;
-    }
-    given(
-        is_personality(p),
-        above(AboveLine::Mend(personality(p), 4 * n)),
-    )
-}
-
-fn cells(i: usize, n: usize, v: usize) -> Command {
-    if 65535 < v {
-        return Command::Bad;
-    }
-    list(ListLine::Cells(i, n, v as u16))
-}
-
-fn row(i: usize, v: usize) -> Command {
-    if 65535 < v {
-        return Command::Bad;
-    }
-    list(ListLine::Row(i, v as u16))
-}
-
-fn store_byte(i: usize, v: usize) -> Command {
-    if 255 < v {
-        return Command::Bad;
-    }
-    list(ListLine::Byte(i, v as u8))
-}
-
-fn four_words(word: &[u8], a: &[u8], words: &[u8], input: &mut [u8]) -> Command {
-    let b = number(first(words));
-    let c = number(later(words));
-    if which(word, b"count") == 0 {
-        return count(byte_string(a, input), b, c);
-    }
-    three_numbers(word, number(a), b, c)
-}
-
-fn count(length: usize, first: usize, last: usize) -> Command {
-    if INPUT < length {
-        return Command::Bad;
-    }
-    if first == NONE {
-        return Command::Bad;
-    }
-    given(last != NONE, above(AboveLine::Count(length, first, last)))
-}
-
-fn three_numbers(word: &[u8], a: usize, b: usize, c: usize) -> Command {
-    let k = which(word, b"fill noise propose fieldtext rowtext");
-    match k {
-        0 => cells(a, b, c),
-        1 => noise(a, b, c),
-        2 => propose(a, b, c),
-        3 => given(is_text(a, b, c), page(PageLine::FieldText(a, b == 1, c))),
-        4 => given(is_text(a, b, c), page(PageLine::RowText(a, b == 1, c))),
-        _ => Command::Bad,
+fn four_words(word: &[u8], a: &[u8], b: &[u8], c: &[u8], input: &mut [u8]) -> Option<Command> {
+    match word {
+        b"count" => above(AboveLine::Count {
+            length: byte_string(a, input)?,
+            first: number(b)?,
+            last: number(c)?,
+        }),
+        b"propose" => above(AboveLine::Propose {
+            model: personality(a)?,
+            spans: at_most(CELLS, b)?,
+            bytes: at_most(BYTES, c)?,
+        }),
+        _ => three_numbers(word, a, b, c),
     }
 }
 
-// Numbers of any size.
-fn noise(x: usize, mask: usize, share: usize) -> Command {
-    if x == NONE {
-        return Command::Bad;
+fn three_numbers(word: &[u8], a: &[u8], b: &[u8], c: &[u8]) -> Option<Command> {
+    match word {
+        b"fill" => list(ListLine::Cells {
+            first: number(a)?,
+            count: number(b)?,
+            value: number_as(c)?,
+        }),
+        b"noise" => list(ListLine::Noise {
+            seed: number(a)?,
+            mask: number(b)?,
+            share: number(c)?,
+        }),
+        b"fieldtext" => page(PageLine::FieldText {
+            start: number(a)?,
+            trim: flag(b)?,
+            room: at_most(CELLS, c)?,
+        }),
+        b"rowtext" => page(PageLine::RowText {
+            row: number(a)?,
+            trim: flag(b)?,
+            room: at_most(CELLS, c)?,
+        }),
+        _ => None,
     }
-    if mask == NONE {
-        return Command::Bad;
-    }
-    given(share != NONE, list(ListLine::Noise(x, mask, share)))
-}
-
-// A personality, and how many spans and bytes the rooms hold.
-fn propose(p: usize, spans: usize, bytes: usize) -> Command {
-    if CELLS < spans {
-        return Command::Bad;
-    }
-    if BYTES < bytes {
-        return Command::Bad;
-    }
-    given(
-        is_personality(p),
-        above(AboveLine::Propose(personality(p), spans, bytes)),
-    )
-}
-
-// A number, a flag and a room.
-fn is_text(n: usize, trim: usize, room: usize) -> bool {
-    if n == NONE {
-        return false;
-    }
-    if 1 < trim {
-        return false;
-    }
-    room <= CELLS
 }

@@ -1,31 +1,22 @@
 // Lines that count.
-use counter::Counted;
-use replay_text::trace::{named, text};
+use counter::{Refusal, Size};
 use std::io;
+use std::io::Write;
 
-fn result(to: &impl Print, out: &mut [u8], at: usize, c: Counted) -> io::Result<usize> {
+fn result(to: &mut impl Write, c: Result<Size, Refusal>) -> io::Result<()> {
     match c {
-        Counted::Text(_, parts) => named(to, out, at, b" result=parts:", parts as usize),
-        Counted::NoReturn => text(to, out, at, b" result=no-cr"),
-        Counted::BadFirst => text(to, out, at, b" result=first"),
-        Counted::BadLast => text(to, out, at, b" result=last"),
-        Counted::BadByte(place) => named(to, out, at, b" result=byte:", place),
+        Ok(Size { units: _, parts }) => write!(to, " result=parts:{parts}"),
+        Err(Refusal::NoReturn) => write!(to, " result=no-cr"),
+        Err(Refusal::BadFirst) => write!(to, " result=first"),
+        Err(Refusal::BadLast) => write!(to, " result=last"),
+        Err(Refusal::BadByte(place)) => write!(to, " result=byte:{place}"),
     }
 }
 
-pub fn count(
-    to: &impl Print,
-    input: &[u8],
-    first: usize,
-    last: usize,
-    out: &mut [u8],
-    at: usize,
-) -> io::Result<usize> {
-    let c = counter::count(input, first, last);
-    result(to, out, at, c)
+pub fn count(to: &mut impl Write, input: &[u8], first: usize, last: usize) -> io::Result<()> {
+    result(to, counter::count(input, first, last))
 }
 
-pub fn entry(to: &impl Print, input: &[u8], out: &mut [u8], at: usize) -> io::Result<usize> {
-    let parts = wy50_counter::wy50_count_parts(input);
-    named(to, out, at, b" parts=", parts as usize)
+pub fn entry(to: &mut impl Write, input: &[u8]) -> io::Result<()> {
+    write!(to, " parts={}", wy50_counter::wy50_count_parts(input))
 }

@@ -1,22 +1,18 @@
 -- Laws of the loop that reads a decimal number. Assumes nothing.
-use Rattle.std.proofs.Common.{◌≡◌, ℕ, ◌+◌, ◌-◌, ◌*◌, ◌<◌, ◌≤◌, Bool, true, false, ltb, List, [], ◌∷◌, length, get_or, drop, refl, ◌∙◌, add-one, arith, drop_of_length-le, drop-cons, le-ltb, lt-ltb, le-leb}
-use borrow.Author.Tests.{lt-leb}
+use Rattle.std.proofs.Common.{◌≡◌, ℕ, ◌+◌, ◌*◌, ◌<◌, ◌≤◌, Bool, true, false, ltb, Option, Some, None, List, [], ◌∷◌, length, get_or, drop, sym, refl, ◌∙◌, add-one, arith, drop_of_length-le, drop-cons, le-ltb, lt-ltb}
 use Rattle.rules.specs.Cell.{both}
-use Rattle.replay_text.specs.Text.{none, limit, decimal_digit, are_digits, value, number_of}
+use Rattle.replay_text.specs.Text.{below, limit, decimal_digit, are_digits, value, number_of}
 
 pub both_false : (t : Bool) → both t false ≡ false
 both_false true = refl
 both_false false = refl
 
--- a digit, or none
-pub digit_is : (c : ℕ) → 48 ≤ c → c ≤ 57 → c - 48 ≡ decimal_digit c
-digit_is c h k = rw (le-leb 48 c h, lt-ltb c 58 (omega arith))
+-- a number below n, or nothing
+pub below_none : (n x : ℕ) → below n x ≡ None → n ≤ x
+below_none n x e = grind arith
 
-pub digit_below : (c : ℕ) → c < 48 → 10 ≡ decimal_digit c
-digit_below c h = rw (lt-leb 48 c h)
-
-pub digit_above : (c : ℕ) → 57 < c → 10 ≡ decimal_digit c
-digit_above c h = rw (le-leb 48 c (omega arith), le-ltb c 58 (omega arith))
+pub below_some : (n x : ℕ) {d : ℕ} → below n x ≡ Some d → (d ≡ x) × (d < n)
+below_some n x e = (grind arith, grind arith)
 
 pub value_grows : (n : ℕ) (w : List ℕ) → n ≤ value n w
 unfolding value
@@ -34,11 +30,11 @@ pub read_start : (w : List ℕ) → Reading w 0 0
 read_start w = record { within = omega arith; small = omega arith; digits = refl; number = refl }
 
 -- an empty word spells no number
-pub read_none : (w : List ℕ) → length w ≡ 0 → none ≡ number_of w
+pub read_none : (w : List ℕ) → length w ≡ 0 → None ≡ number_of w
 read_none w e = rw (le-ltb 0 (length w) (omega arith))
 
 module _ {w : List ℕ} {n i : ℕ} (v : Reading w n i) where
-  pub read_end : 0 < length w → length w ≤ i → n ≡ number_of w
+  pub read_end : 0 < length w → length w ≤ i → Some n ≡ number_of w
   unfolding are_digits value
   read_end p h =
       let d : are_digits w ≡ true = v.digits ∙ rw (drop_of_length-le w h) in
@@ -46,29 +42,35 @@ module _ {w : List ℕ} {n i : ℕ} (v : Reading w n i) where
       rw (lt-ltb 0 (length w) p, d, e, lt-ltb n limit v.small)
 
   -- the next byte, as a digit
-  module _ {d : ℕ} (h : i < length w) (q : d ≡ decimal_digit (get_or w i 0)) where
-    next_digits : are_digits (drop i w) ≡ both (ltb d 10) (are_digits (drop (i + 1) w))
+  module _ (h : i < length w) where
+    next_digits : {d : ℕ} → d ≡ decimal_digit (get_or w i 0) → are_digits (drop i w) ≡ both (ltb d 10) (are_digits (drop (i + 1) w))
     unfolding are_digits
-    next_digits = rw (add-one, drop-cons w i 0 h, q)
+    next_digits q = rw (add-one, drop-cons w i 0 h, q)
 
-    next_value : value n (drop i w) ≡ value (n * 10 + d) (drop (i + 1) w)
+    next_value : {d : ℕ} → d ≡ decimal_digit (get_or w i 0) → value n (drop i w) ≡ value (n * 10 + d) (drop (i + 1) w)
     unfolding value
-    next_value = rw (add-one, drop-cons w i 0 h, q)
+    next_value q = rw (add-one, drop-cons w i 0 h, q)
 
-    pub read_on : d ≤ 9 → n * 10 + d < limit → Reading w (n * 10 + d) (i + 1)
-    read_on k l = record {
-      within = omega arith;
-      small = l;
-      digits = v.digits ∙ next_digits ∙ rw (lt-ltb d 10 (omega arith));
-      number = v.number ∙ next_value;
-    }
-
-    pub read_bad : 9 < d → none ≡ number_of w
-    read_bad k =
-        let e : are_digits w ≡ false = v.digits ∙ next_digits ∙ rw (le-ltb d 10 (omega arith)) in
+    pub read_bad : {r : Option ℕ} → r ≡ below 10 (decimal_digit (get_or w i 0)) → r ≡ None → None ≡ number_of w
+    read_bad q k =
+        let l : 10 ≤ decimal_digit (get_or w i 0) = below_none _ _ (sym q ∙ k) in
+        let e : are_digits w ≡ false = v.digits ∙ next_digits refl ∙ rw (le-ltb (decimal_digit (get_or w i 0)) 10 l) in
         rw (lt-ltb 0 (length w) (omega arith), e)
 
-    pub read_large : limit ≤ n * 10 + d → none ≡ number_of w
-    read_large k =
-        let l : limit ≤ value 0 w = omega (arith, v.number, next_value, value_grows (n * 10 + d) (drop (i + 1) w)) in
-        rw (lt-ltb 0 (length w) (omega arith), le-ltb (value 0 w) limit l, both_false (are_digits w))
+    -- a digit
+    module _ {r : Option ℕ} {d : ℕ} (q : r ≡ below 10 (decimal_digit (get_or w i 0))) (k : r ≡ Some d) where
+      digit : (d ≡ decimal_digit (get_or w i 0)) × (d < 10)
+      digit = below_some _ _ (sym q ∙ k)
+
+      pub read_on : n * 10 + d < limit → Reading w (n * 10 + d) (i + 1)
+      read_on l = record {
+        within = omega arith;
+        small = l;
+        digits = v.digits ∙ next_digits digit.0 ∙ rw (lt-ltb d 10 digit.1);
+        number = v.number ∙ next_value digit.0;
+      }
+
+      pub read_large : limit ≤ n * 10 + d → None ≡ number_of w
+      read_large j =
+          let l : limit ≤ value 0 w = omega (arith, v.number, next_value digit.0, value_grows (n * 10 + d) (drop (i + 1) w)) in
+          rw (lt-ltb 0 (length w) (omega arith), le-ltb (value 0 w) limit l, both_false (are_digits w))

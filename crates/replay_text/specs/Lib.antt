@@ -1,4 +1,3 @@
 pub mod Text
 pub mod Room
 pub mod Digest
-pub mod Prefix

@@ -1,19 +1,12 @@
 -- What the words of a line spell.
-use Rattle.std.specs.Prelude.{◌≡◌, ℕ, suc, ◌+◌, ◌-◌, ◌*◌, ◌<◌, ◌≤◌, Bool, true, false, List, [], ◌∷◌, length, take, drop, ◌==◌, nat_le, nat_lt}
+use Rattle.std.specs.Prelude.{◌≡◌, ℕ, ◌+◌, ◌-◌, ◌*◌, Bool, true, false, ◌==◌, nat_le, nat_lt, Option, Some, None}
+use Rattle.std.specs.Prelude.{List, [], ◌∷◌, length, take, drop, count_by}
+use Rattle.std.specs.List.{position_or_len}
 use Rattle.rules.specs.Cell.{pick, both, between}
 
--- stands for no number and no byte string
-abbrev pub none : ℕ
-none = 0xffff_ffff_ffff_ffff
-
 -- where b first stands, or the length
-unfoldable pub place : ℕ → List ℕ → ℕ
-place b [] = 0
-place b (c ∷ l) = let r = suc (place b l) in pick (c == b) 0 r
-
-pub record Found (b : ℕ) (l : List ℕ) (r : ℕ) : Type 0 where
-  pub first : r ≡ place b l
-  pub within : r ≤ length l
+abbrev pub place : ℕ → List ℕ → ℕ
+place b l = position_or_len (λ c. c == b) l
 
 -- the words of a line: the first, those after it, and how many there are
 abbrev pub first_word : List ℕ → List ℕ
@@ -22,12 +15,12 @@ first_word l = take (place 0x20 l) l
 abbrev pub later_words : List ℕ → List ℕ
 later_words l = drop (place 0x20 l + 1) l
 
-abbrev pub parting : ℕ → ℕ
-parting c = pick (c == 0x20) 1 0
+abbrev pub word_count : List ℕ → ℕ
+word_count l = count_by (λ c. c == 0x20) l + 1
 
-unfoldable pub word_count : List ℕ → ℕ
-word_count [] = 1
-word_count (c ∷ l) = parting c + word_count l
+-- a number below n, or nothing
+abbrev pub below : ℕ → ℕ → Option ℕ
+below n x = pick (nat_lt x n) (Some x) None
 
 -- a decimal digit, or 10
 abbrev pub decimal_digit : ℕ → ℕ
@@ -46,8 +39,8 @@ value n (c ∷ l) = value (n * 10 + decimal_digit c) l
 abbrev pub limit : ℕ
 limit = 0x1000_0000_0000_0000
 
-abbrev pub number_of : List ℕ → ℕ
-number_of w = pick (both (nat_lt 0 (length w)) (both (are_digits w) (nat_lt (value 0 w) limit))) (value 0 w) none
+abbrev pub number_of : List ℕ → Option ℕ
+number_of w = pick (both (nat_lt 0 (length w)) (both (are_digits w) (nat_lt (value 0 w) limit))) (Some (value 0 w)) None
 
 -- a hexadecimal digit in lower case, or 16; the byte that two of them spell, or 256
 abbrev pub hex_digit : ℕ → ℕ
@@ -56,11 +49,11 @@ hex_digit c = pick (between 0x30 0x39 c) (c - 0x30) (pick (between 0x61 0x66 c) 
 abbrev pub hex_byte : ℕ → ℕ → ℕ
 hex_byte h l = pick (both (nat_lt (hex_digit h) 16) (nat_lt (hex_digit l) 16)) (hex_digit h * 16 + hex_digit l) 256
 
-unfoldable pub byte_of : List ℕ → ℕ
-byte_of [] = none
-byte_of (h ∷ []) = none
-byte_of (h ∷ l ∷ []) = pick (nat_lt (hex_byte h l) 256) (hex_byte h l) none
-byte_of (h ∷ l ∷ c ∷ w) = none
+unfoldable pub byte_of : List ℕ → Option ℕ
+byte_of [] = None
+byte_of (h ∷ []) = None
+byte_of (h ∷ l ∷ []) = below 256 (hex_byte h l)
+byte_of (h ∷ l ∷ c ∷ w) = None
 
 -- pairs of hexadecimal digits, and the bytes that they spell
 unfoldable pub is_hex : List ℕ → Bool
@@ -79,7 +72,7 @@ is_string [] = false
 is_string (c ∷ []) = c == 0x2d
 is_string (h ∷ l ∷ w) = is_hex (h ∷ l ∷ w)
 
--- the front of a room takes bytes, if they are good and fit: how many there are, or none
-pub record Put (good : Bool) (bytes : List ℕ) (r : ℕ) (old new : List ℕ) : Type 0 where
-  pub count : r ≡ pick (both good (nat_le (length bytes) (length old))) (length bytes) none
-  pub front : r < none → take r new ≡ bytes
+-- the front of a room takes bytes, if they are good and fit: how many there are, or nothing
+pub record Put (good : Bool) (bytes : List ℕ) (r : Option ℕ) (old new : List ℕ) : Type 0 where
+  pub count : r ≡ pick (both good (nat_le (length bytes) (length old))) (Some (length bytes)) None
+  pub front : (n : ℕ) → r ≡ Some n → take n new ≡ bytes

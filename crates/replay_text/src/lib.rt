@@ -1,7 +1,6 @@
 // The text of scripts and traces: what the words of a line spell, the output buffer and what is written to it, rooms and lists, digests.
 #![tactic(auto)]
 
-pub mod bounds;
 pub mod digest;
 pub mod rooms;
 pub mod trace;

@@ -16,7 +16,7 @@ use lib.ListN.{length, length-take, replicate}
 use borrow.Author.Tests.{ltb-true, eqb-true, eqb-false, ne_eqb}
 use Rattle.rules.specs.declared.Core.{Core}
 use Rattle.rules.specs.declared.Screen.{Screen}
-use Rattle.rules.specs.declared.ShortText.{ShortText}
+use Rattle.rules.specs.declared.Text.{Text}
 use Rattle.rules.specs.declared.Setup.{Setup}
 use Rattle.rules.specs.declared.State.{State}
 use Rattle.rules.specs.declared.Pending.TheVariants as Pending
@@ -235,7 +235,7 @@ reply_bound = record {
 
 -- ---- a key press
 
-key_bound : (k : ShortText) (v : ℕ) → text_ok 0 8 k.len k.bytes ≡ true → length (key_sends k v) ≤ 8
+key_bound : (k : Text 8) (v : ℕ) → text_ok 0 8 k.len k.bytes ≡ true → length (key_sends k v) ≤ 8
 unfolding key_sends
 key_bound k v h =
     pick_if (λ (l : List ℕ). length l ≤ 8) (eqb k.len 0) (λ e. omega arith)

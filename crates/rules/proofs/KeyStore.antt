@@ -8,7 +8,7 @@ use mathlib.Core.List.{List, [], ◌∷◌}
 use Prim.Native.Nat.{ℕ, ◌*◌, ◌≤◌}
 use native.Mathlib.Omega.{arith}
 use lib.ListN.{length, take, set, length-set}
-use Rattle.rules.specs.declared.ShortText.{ShortText}
+use Rattle.rules.specs.declared.Text.{Text}
 use Rattle.rules.specs.State.{short_text, key_place, stored}
 use Rattle.rules.specs.Slot.{text_ok, texts_ok}
 use Rattle.rules.specs.Theorems.KeyStore.{key_bytes, KeyStores, Unused}
@@ -18,7 +18,7 @@ use Rattle.rules.proofs.Kept.{possible_parts}
 use Rattle.rules.proofs.Left.{step_unused}
 
 -- eight bytes a key
-bytes_most : (l : List ShortText) → texts_ok 0 l ≡ true → key_bytes l ≤ 8 * length l
+bytes_most : (l : List (Text 8)) → texts_ok 0 l ≡ true → key_bytes l ≤ 8 * length l
 unfolding texts_ok key_bytes
 bytes_most [] e = omega arith
 bytes_most (k ∷ l) e =
@@ -26,7 +26,7 @@ bytes_most (k ∷ l) e =
     omega (arith, bytes_most l r.1, (text_parts 0 8 k.len k.bytes r.0).0)
 
 -- also after one of them has another text
-set_most : (l : List ShortText) (n m : ℕ) (g : List ℕ) → length l ≡ 32 → texts_ok 0 l ≡ true → text_ok 0 8 m g ≡ true
+set_most : (l : List (Text 8)) (n m : ℕ) (g : List ℕ) → length l ≡ 32 → texts_ok 0 l ≡ true → text_ok 0 8 m g ≡ true
     → key_bytes (set l n (short_text (take m g))) ≤ 256
 set_most l n m g k e h =
     let t = short_text (take m g) in

@@ -10,7 +10,7 @@ use lib.Dec.{leb}
 use lib.ListN.{length, take, set, get_or, replicate, length-take}
 use lib.Seq.{take-take, take-append_seam}
 use borrow.Author.Tests.{le-leb, leb-true}
-use Rattle.rules.specs.declared.ShortText.{ShortText}
+use Rattle.rules.specs.declared.Text.{Text}
 use Rattle.rules.specs.State.{padded}
 use Rattle.rules.specs.Slot.{is_text, all_text, text_ok, texts_ok}
 use Rattle.rules.proofs.Tests.{both_parts, both_true}
@@ -58,7 +58,7 @@ unfolding text_ok
 text_grown low most n g b e l h =
     both_true (le-leb (n + 1) most (omega arith)) (rw (add-one n) (all_gathered low g n b (text_parts low most n g e).1 h))
 
-pub texts_set : (low : ℕ) (l : List ShortText) (n : ℕ) (t : ShortText) → texts_ok low l ≡ true → text_ok low 8 t.len t.bytes ≡ true
+pub texts_set : (low : ℕ) (l : List (Text 8)) (n : ℕ) (t : Text 8) → texts_ok low l ≡ true → text_ok low 8 t.len t.bytes ≡ true
     → texts_ok low (set l n t) ≡ true
 unfolding texts_ok
 texts_set low [] n t e h = refl
@@ -67,7 +67,7 @@ texts_set low (x ∷ l) (suc n) t e h =
     let r = both_parts (text_ok low 8 x.len x.bytes) (texts_ok low l) e in
     both_true r.0 (texts_set low l n t r.1 h)
 
-pub texts_at : (low : ℕ) (l : List ShortText) (n : ℕ) (d : ShortText) → texts_ok low l ≡ true → text_ok low 8 d.len d.bytes ≡ true
+pub texts_at : (low : ℕ) (l : List (Text 8)) (n : ℕ) (d : Text 8) → texts_ok low l ≡ true → text_ok low 8 d.len d.bytes ≡ true
     → text_ok low 8 (get_or l n d).len (get_or l n d).bytes ≡ true
 unfolding texts_ok
 texts_at low [] n d e h = h

@@ -1,7 +1,7 @@
 -- The public calls: power-on, the run over many bytes, the key press; and lists of calls.
 use Rattle.std.specs.Prelude.{Bool, true, false, List, [], ◌∷◌, ◌++◌, ℕ, suc, ◌+◌, ◌-◌, leb, eqb, length, get_or}
 use Rattle.rules.specs.declared.State.{State}
-use Rattle.rules.specs.declared.ShortText.{ShortText}
+use Rattle.rules.specs.declared.Text.{Text}
 use Rattle.rules.specs.declared.Personality.{Personality}
 use Rattle.rules.specs.Cell.{pick, between}
 use Rattle.rules.specs.Row.{narrow_cells}
@@ -89,10 +89,10 @@ pub record Pressed : Type 0 where
 abbrev pub pressed : ℕ → List ℕ → Pressed
 pressed n r = record { answer = n; reply = r }
 
-unfoldable pub key_sends : ShortText → ℕ → List ℕ
+unfoldable pub key_sends : Text 8 → ℕ → List ℕ
 key_sends k v = pick (eqb k.len 0) (0x01 ∷ v ∷ 0x0d ∷ []) (short_bytes k)
 
-abbrev pub key_at : State → ℕ → ShortText
+abbrev pub key_at : State → ℕ → Text 8
 key_at s v = get_or s.setup.keys (key_place v) record { len = 0; bytes = [] }
 
 unfoldable pub press_rule : List ℕ → State → ℕ → ℕ → Pressed

@@ -1,6 +1,6 @@
 -- Texts under way: where they go, what ends them, and which bytes they may hold (document 02, A1, amends 01: a message and labels beside keys).
 use Rattle.std.specs.Prelude.{ℕ, List, [], ◌∷◌, Bool, true, ltb, leb, take}
-use Rattle.rules.specs.declared.ShortText.{ShortText}
+use Rattle.rules.specs.declared.Text.{Text}
 use Rattle.rules.specs.declared.Slot.{Slot}
 use Rattle.rules.specs.declared.Slot.TheVariants as Slot
 use Rattle.rules.specs.Cell.{both}
@@ -41,6 +41,6 @@ all_text low (b ∷ l) = both (is_text low b) (all_text low l)
 unfoldable pub text_ok : ℕ → ℕ → ℕ → List ℕ → Bool
 text_ok low most n bytes = both (leb n most) (all_text low (take n bytes))
 
-unfoldable pub texts_ok : ℕ → List ShortText → Bool
+unfoldable pub texts_ok : ℕ → List (Text 8) → Bool
 texts_ok low [] = true
 texts_ok low (t ∷ l) = both (text_ok low 8 t.len t.bytes) (texts_ok low l)

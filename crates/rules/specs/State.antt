@@ -7,8 +7,7 @@ use Rattle.rules.specs.declared.Screen.{Screen}
 use Rattle.rules.specs.declared.Modes.{Modes}
 use Rattle.rules.specs.declared.Mode.{Mode}
 use Rattle.rules.specs.declared.Mode.TheVariants as Mode
-use Rattle.rules.specs.declared.ShortText.{ShortText}
-use Rattle.rules.specs.declared.LongText.{LongText}
+use Rattle.rules.specs.declared.Text.{Text}
 use Rattle.rules.specs.declared.Slot.{Slot}
 use Rattle.rules.specs.declared.Slot.TheVariants as Slot
 use Rattle.rules.specs.declared.Change.{Change}
@@ -95,23 +94,29 @@ pub record Inside (x : Screen) : Type 0 where
   pub placed : Placed (width_of x) (segment_top x) (segment_bottom x) (cursor_of x)
 
 -- a text's bytes, and the text that holds some bytes, with zeros behind them
-abbrev pub short_bytes : ShortText → List ℕ
+abbrev pub short_bytes : Text 8 → List ℕ
 short_bytes t = take t.len t.bytes
 
 abbrev pub padded : ℕ → List ℕ → List ℕ
 padded most l = take most (l ++ replicate most 0)
 
-abbrev pub short_text : List ℕ → ShortText
-short_text l = record { len = length l; bytes = padded 8 l }
+abbrev pub text_of : (most : ℕ) → List ℕ → Text most
+text_of most l = record { len = length l; bytes = padded most l }
 
-abbrev pub long_text : List ℕ → LongText
-long_text l = record { len = length l; bytes = padded 46 l }
+abbrev pub empty : (most : ℕ) → Text most
+empty most = record { len = 0; bytes = replicate most 0 }
 
-abbrev pub no_text : ShortText
-no_text = record { len = 0; bytes = replicate 8 0 }
+abbrev pub short_text : List ℕ → Text 8
+short_text = text_of 8
 
-abbrev pub no_long : LongText
-no_long = record { len = 0; bytes = replicate 46 0 }
+abbrev pub long_text : List ℕ → Text 46
+long_text = text_of 46
+
+abbrev pub no_text : Text 8
+no_text = empty 8
+
+abbrev pub no_long : Text 46
+no_long = empty 46
 
 -- keys 40h to 4Fh and 60h to 6Fh are the places 0 to 15 and 16 to 31
 abbrev pub key_place : ℕ → ℕ
@@ -281,7 +286,7 @@ with_features u x = record {
   wish = u.wish;
 }
 
-abbrev pub with_keys : Setup → List ShortText → Setup
+abbrev pub with_keys : Setup → List (Text 8) → Setup
 with_keys u x = record {
   tabs = u.tabs;
   attributes = u.attributes;
@@ -293,7 +298,7 @@ with_keys u x = record {
   wish = u.wish;
 }
 
-abbrev pub with_labels : Setup → List ShortText → Bool → Setup
+abbrev pub with_labels : Setup → List (Text 8) → Bool → Setup
 with_labels u l s = record {
   tabs = u.tabs;
   attributes = u.attributes;
@@ -305,7 +310,7 @@ with_labels u l s = record {
   wish = u.wish;
 }
 
-abbrev pub with_message : Setup → LongText → Setup
+abbrev pub with_message : Setup → Text 46 → Setup
 with_message u x = record {
   tabs = u.tabs;
   attributes = u.attributes;

@@ -1,8 +1,9 @@
-// The types of the alert terminal. The rules over them are the definitions in specs/; there is no executable code here.
+// The types of the alert terminal. The rules over them are the definitions in specs/; there is no executable code here but what a derive writes, so
+// the types have no methods.
 #![tactic(auto)]
 
-// A wide page has 132 columns, another 80. The split row counts from 1, and 0 is none. A cursor is a cell of the page, counted from 0, one for
-// each segment.
+// A wide page has 132 columns, another 80. The split row counts from 1, and 0 is none, as C has it and `split_ok` of the definitions. A cursor is a
+// cell of the page, counted from 0, one for each segment.
 #[derive(Clone, Copy)]
 pub struct Screen {
     pub wide: bool,
@@ -23,17 +24,11 @@ pub struct Modes {
     pub local: bool,
 }
 
-// A short text, a key's or a label's, and a long one, the host message: the first `len` of `bytes`.
+// A text: the first `len` of `bytes`, since nothing allocates. A key and a label have room for 8, the host message for 46.
 #[derive(Clone, Copy)]
-pub struct ShortText {
+pub struct Text<const N: usize> {
     pub len: u8,
-    pub bytes: [u8; 8],
-}
-
-#[derive(Clone, Copy)]
-pub struct LongText {
-    pub len: u8,
-    pub bytes: [u8; 46],
+    pub bytes: [u8; N],
 }
 
 // Features: cursor shown, cursor style, protected look, screen shown, scrolling.
@@ -43,9 +38,9 @@ pub struct Setup {
     pub tabs: [bool; 132],
     pub attributes: [u8; 4],
     pub features: [u8; 5],
-    pub keys: [ShortText; 32],
-    pub labels: [ShortText; 16],
-    pub message: LongText,
+    pub keys: [Text<8>; 32],
+    pub labels: [Text<8>; 16],
+    pub message: Text<46>,
     pub shifted: bool,
     // a wide page is wished for
     pub wish: bool,
@@ -97,11 +92,11 @@ pub enum Pending {
     Spoilt(Slot),
 }
 
-// Whose rules the terminal follows: chosen at power-on, changed by no byte.
-#[derive(Clone, Copy)]
+// Whose rules the terminal follows, by its number: chosen at power-on, changed by no byte.
+#[derive(Clone, Copy, PartialEq, Eq)]
 pub enum Personality {
-    Wy50,
-    Wy60,
+    Wy50 = 50,
+    Wy60 = 60,
 }
 
 // What the bytes of the host change most. `attribute` is the one that ESC G sets in WY-60, remembered for the cells stored later: dim 16,
@@ -158,17 +153,17 @@ pub struct State {
     pub setup: Setup,
 }
 
-// What a call answers: 0 to 4 and 6 to 8 in this order.
-#[derive(Clone, Copy)]
+// What a call answers, by its number; 5 is unused.
+#[derive(Clone, Copy, PartialEq, Eq)]
 pub enum Answer {
-    Done,
-    HighByte,
-    Unknown,
-    BadArgument,
-    Barred,
-    NoRoom,
-    BadCall,
-    Locked,
+    Done = 0,
+    HighByte = 1,
+    Unknown = 2,
+    BadArgument = 3,
+    Barred = 4,
+    NoRoom = 6,
+    BadCall = 7,
+    Locked = 8,
 }
 
 // What a search looks for. FieldStart holds the first cell of the segment.
@@ -386,6 +381,8 @@ pub struct Plan {
     pub land: Land,
 }
 
+// What calls give. The definitions (`Outcome`, `Ran`) give a state, a page and counts on refusals too: so these are no Result.
+
 // What one byte gives: the set-up is not handed through, only its change.
 #[derive(Clone, Copy)]
 pub struct CoreResult {
@@ -417,12 +414,6 @@ pub struct RunResult {
     pub replied: usize,
     pub refused: usize,
     pub state: State,
-}
-
-#[derive(Clone, Copy)]
-pub struct PressResult {
-    pub answer: Answer,
-    pub replied: usize,
 }
 
 // What is read of a page, as C holds it. A field: its first cell, how many cells it has, and the first one's row and column; 0 cells: there is none.

@@ -1,18 +1,20 @@
 -- Laws of bytes put one after the other.
---     put_one, put_done, put_none, put_then     a turn of the loop over bytes, and its end; nothing; bytes after bytes
+--     put_copied, put_none, put_then     bytes copied; nothing; bytes after bytes
 --     Putting     a loop that puts a piece for each element
 -- Assumes nothing.
 use mathlib.Core.Path.{◌≡◌, refl, sym, ap, ◌∙◌}
 use mathlib.Core.Bool.{Bool, true, false}
-use mathlib.Core.List.{List, [], ◌∷◌, ◌++◌, append-nil}
+use mathlib.Core.List.{List, [], ◌∷◌, ◌++◌, append-nil, append_assoc}
 use Prim.Native.Nat.{ℕ, suc, ◌+◌, ◌*◌, ◌<◌, ◌≤◌}
 use native.Mathlib.Numerals.{add-one}
 use native.Mathlib.Omega.{arith}
 use lib.ListN.{length, get_or, set, take, drop, drop_of_length-le, length-append, length-take}
-use lib.Seq.{drop-cons, get_or-take}
+use lib.Seq.{drop-cons, drop-drop, get_or-take, sets}
+use borrow.Rule.Slice.PartMut.{put_mid}
+use Rattle.std.proofs.lemmas.List.Edits.{sets-eq}
 use borrow.Author.Tests.{lt-ltb, le-ltb}
 use Rattle.rules.specs.declared.Setup.{Setup}
-use Rattle.rules.specs.declared.ShortText.{ShortText}
+use Rattle.rules.specs.declared.Text.{Text}
 use Rattle.rules.specs.Room.{over}
 use Rattle.rules.specs.State.{short_bytes}
 use Rattle.rules.specs.Slot.{texts_ok}
@@ -35,13 +37,17 @@ unstored : {x r v : List ℕ} (n : ℕ) → x ≡ [] → stored n x r ≡ v → 
 unfolding stored
 unstored {x} {r} {v} n e h = sym (ap (λ (t : List ℕ). stored n t r) e) ∙ h
 
-pub put_one : (l : List ℕ) (i n m : ℕ) (w : List ℕ) → i < length l → m ≡ n + 1
-    → stored m (drop (i + 1) l) (set w n (get_or l i 0)) ≡ stored n (drop i l) w
+stored_sets : (l : List ℕ) (n : ℕ) (w : List ℕ) → stored n l w ≡ sets w n l
 unfolding stored
-put_one l i n m w h e = rw (e, add-one i, drop-cons l i 0 h)
+stored_sets [] n w = refl
+stored_sets (x ∷ l) n w = stored_sets l (n + 1) (set w n x) ∙ rw (add-one n)
 
-pub put_done : {v : List ℕ} (l : List ℕ) (i n : ℕ) (w : List ℕ) → length l ≤ i → stored n (drop i l) w ≡ v → w ≡ v
-put_done l i n w h e = unstored n (drop_of_length-le l h) e
+pub put_copied : (n k : ℕ) (l w : List ℕ) {v : List ℕ} → n + length l ≤ length w → v ≡ l → k ≡ length l → Put n l w (n + length l) (put_mid n k w v)
+put_copied n k l w {v} h e f = record {
+  place = refl;
+  room = rw (e, f, drop-drop (length l) n w)
+      (sym (append_assoc (take n w) l (drop (n + length l) w)) ∙ (sym (sets-eq l w n h) ∙ sym (stored_sets l n w)));
+}
 
 pub put_none : (n : ℕ) (w : List ℕ) → Put n [] w n w
 unfolding stored
@@ -142,7 +148,7 @@ module _ (tabs : List Bool) (e : length tabs ≡ 132) {start : ℕ} {w₀ : List
 
 -- ---- texts
 
-pub text_put : (end v : ℕ) (t : ShortText) {n a b r : ℕ} {w w1 w2 w3 l : List ℕ} → l ≡ short_bytes t → Put n (0x1b ∷ 0x7a ∷ v ∷ []) w a w1
+pub text_put : (end v : ℕ) (t : Text 8) {n a b r : ℕ} {w w1 w2 w3 l : List ℕ} → l ≡ short_bytes t → Put n (0x1b ∷ 0x7a ∷ v ∷ []) w a w1
     → Put a l w1 b w2 → Put b (end ∷ []) w2 r w3 → Put n (text_bytes end v t) w r w3
 unfolding text_bytes
 text_put end v t e p q s = rw (← e) (put_then p (put_then q s))
@@ -152,24 +158,24 @@ module _ (low end : ℕ) (value : ℕ → ℕ) where
   unfolding texts_bytes
   texts_none k = refl
 
-  texts_more : (k : ℕ) (t : ShortText) (l : List ShortText)
+  texts_more : (k : ℕ) (t : Text 8) (l : List (Text 8))
       → texts_bytes end value k (t ∷ l) ≡ text_bytes end (value k) t ++ texts_bytes end value (suc k) l
   unfolding texts_bytes
   texts_more k t l = refl
 
-  abbrev pub Texting : List ShortText → ℕ → List ℕ → ℕ → ℕ → List ℕ → Type 0
+  abbrev pub Texting : List (Text 8) → ℕ → List ℕ → ℕ → ℕ → List ℕ → Type 0
   Texting l start w₀ i n w = Putting (texts_bytes end value) l start w₀ i n w
 
-  abbrev none_there : ShortText
+  abbrev none_there : Text 8
   none_there = record { len = 0; bytes = [] }
 
-  pub text_begin : (l : List ShortText) (start : ℕ) (w : List ℕ) → Texting l start w 0 start w
+  pub text_begin : (l : List (Text 8)) (start : ℕ) (w : List ℕ) → Texting l start w 0 start w
   text_begin l start w = begin (texts_bytes end value) (λ k t. text_bytes end (value k) t) texts_none texts_more l start w
 
-  pub text_few : (l : List ShortText) (i : ℕ) → texts_ok low l ≡ true → (get_or l i none_there).len ≤ 8
+  pub text_few : (l : List (Text 8)) (i : ℕ) → texts_ok low l ≡ true → (get_or l i none_there).len ≤ 8
   text_few l i e = (text_parts low 8 _ _ (texts_at low l i none_there e (text_begun low 8 []))).0
 
-  module _ {l : List ShortText} {start : ℕ} {w₀ : List ℕ} {i n : ℕ} {w : List ℕ} (p : Texting l start w₀ i n w) where
+  module _ {l : List (Text 8)} {start : ℕ} {w₀ : List ℕ} {i n : ℕ} {w : List ℕ} (p : Texting l start w₀ i n w) where
     pub text_fits : {v : ℕ} → v ≡ value i → texts_ok low l ≡ true → i < length l → start + 12 * length l ≤ length w₀
         → n + length (text_bytes end v (get_or l i none_there)) ≤ length w
     text_fits {v} e ok h k =

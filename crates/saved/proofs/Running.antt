@@ -1,4 +1,4 @@
--- Laws of the code: the loops that compare, join and judge, and what is read from and written to a store.
+-- Laws of the code: what compares and judges, and what is read from and written to a store.
 -- Assumes nothing.
 use mathlib.Core.Path.{◌≡◌, refl, sym, ap, ap₂, ◌∙◌}
 use mathlib.Core.Bool.{Bool, true, false}
@@ -7,10 +7,13 @@ use Prim.Native.Nat.{ℕ, zero, suc, ◌+◌, ◌-◌, ◌*◌, ◌<◌, ◌≤�
 use native.Mathlib.Numerals.{add-one}
 use native.Mathlib.Omega.{arith}
 use lib.Dec.{leb, ltb, eqb}
-use lib.ListN.{length, get_or, take, drop, set, replicate, length-take, length-drop, drop_of_length-le, length-replicate}
-use lib.Seq.{append_snoc, take-add, drop-cons, take-suc, set_at, drop-drop, take_all, take_at}
+use lib.ListN.{length, get_or, take, drop, set, replicate, length-drop, drop_of_length-le, length-replicate}
+use lib.Seq.{take-add, drop-cons, drop-drop, take_all, take_at}
 use borrow.Rule.Slice.PartMut.{put_mid}
-use borrow.Author.Tests.{eq-eqb, ne_eqb, lt-ltb, le-ltb, le-leb, lt-leb, leb-true, eqb-true, ltb-true, ltb-false}
+use borrow.Author.Tests.{eq-eqb, ne_eqb, lt-ltb, le-ltb, le-leb, lt-leb, leb-true, eqb-true}
+use Rattle.std.specs.Prelude.{Result, Ok, Err, nat_eq, ◌&&◌}
+use Rattle.std.specs.List.{list_all}
+use lib.Pointwise.{pointwise}
 use Rattle.rules.specs.declared.State.{State}
 use Rattle.rules.specs.declared.Personality.{Personality}
 use Rattle.rules.specs.Cell.{pick, both, same}
@@ -19,17 +22,17 @@ use Rattle.rules.specs.State.{padded}
 use Rattle.rules.specs.Slot.{texts_ok}
 use Rattle.rules.specs.Possible.{power_on, blank, possible}
 use Rattle.rules.specs.Calls.{run_rule}
-use Rattle.rules.proofs.Tests.{pick_if, both_parts}
+use Rattle.rules.proofs.Tests.{both_parts}
 use Rattle.page.specs.Room.{stored}
 use Rattle.page.proofs.Room.{stored_cons, stored_over}
 use Rattle.saved.specs.SetupBytes.{setup_bytes, longest}
 use Rattle.saved.specs.Settings.{fed}
 use Rattle.saved.specs.Store.{place_size, store_size, two_bytes, two_at, place, last_number, last_of_all, cut, places, joined, laid, place_of, setup_in}
 use Rattle.saved.specs.Store.{setup_of, after_save, all_zero, is_setup, is_place, places_ok, is_store}
-use Rattle.saved.specs.Calls.{saved, save_rule, SaveGives, restorable, restored, restore_rule, RestoreGives, OneSave, OneRestore}
+use Rattle.saved.specs.Calls.{refusal_number, last_rule, saved, save_rule, SaveGives, restorable, restored, restoring, restore_rule, RestoreGives}
+use Rattle.saved.specs.Calls.{OneSave, OneRestore}
 use Rattle.saved.specs.Put.{Put}
-use Rattle.saved.specs.declared.SaveAnswer.{SaveAnswer}
-use Rattle.saved.specs.declared.RestoreAnswer.{RestoreAnswer}
+use Rattle.saved.specs.declared.Refusal.{Refusal}
 use Rattle.saved.proofs.Setups.{fed_fine}
 use Rattle.saved.proofs.Places.{padded_split, cut_length, joined_cut}
 use Rattle.saved.proofs.Stores.{ok_at}
@@ -37,40 +40,21 @@ use Rattle.saved.proofs.Puts.{front}
 
 -- ---- comparing
 
-pub same_unlike : (a b : List ℕ) → (length a ≡ length b → ⊥) → same a b ≡ false
+and_both : (t : Bool) {x y : Bool} → x ≡ y → (t && x) ≡ both t y
+and_both true e = e
+and_both false e = refl
+
+pub same_each : (a b : List ℕ) → pointwise nat_eq a b ≡ same a b
 unfolding same
-same_unlike [] [] n = absurd (n refl)
-same_unlike [] (y ∷ b) n = refl
-same_unlike (x ∷ a) [] n = refl
-same_unlike (x ∷ a) (y ∷ b) n = pick_if (λ (t : Bool). t ≡ false) (eqb x y) (λ e. same_unlike a b (λ f. n (ap suc f))) (λ e. refl)
+same_each [] [] = refl
+same_each [] (y ∷ b) = refl
+same_each (x ∷ a) [] = refl
+same_each (x ∷ a) (y ∷ b) = and_both (eqb x y) (same_each a b)
 
-module _ (a b : List ℕ) (i : ℕ) where
-  pub same_next : i < length a → i < length b → get_or a i 0 ≡ get_or b i 0 → same (drop (i + 1) a) (drop (i + 1) b) ≡ same (drop i a) (drop i b)
-  unfolding same
-  same_next h k e = rw (add-one i, drop-cons a i 0 h, drop-cons b i 0 k, eq-eqb (get_or a i 0) (get_or b i 0) e)
-
-  pub same_apart : i < length a → i < length b → (get_or a i 0 ≡ get_or b i 0 → ⊥) → same (drop i a) (drop i b) ≡ false
-  unfolding same
-  same_apart h k n = rw (drop-cons a i 0 h, drop-cons b i 0 k, ne_eqb (get_or a i 0) (get_or b i 0) n)
-
-  pub same_end : length a ≤ i → length b ≤ i → same (drop i a) (drop i b) ≡ true
-  unfolding same
-  same_end h k = ap₂ same (drop_of_length-le a h) (drop_of_length-le b k)
-
--- ---- zeros
-
-module _ (l : List ℕ) (i : ℕ) where
-  pub zero_next : i < length l → get_or l i 0 ≡ 0 → all_zero (drop (i + 1) l) ≡ all_zero (drop i l)
-  unfolding all_zero
-  zero_next h e = rw (add-one i, drop-cons l i 0 h, eq-eqb (get_or l i 0) 0 e)
-
-  pub zero_apart : i < length l → (get_or l i 0 ≡ 0 → ⊥) → all_zero (drop i l) ≡ false
-  unfolding all_zero
-  zero_apart h n = rw (drop-cons l i 0 h, ne_eqb (get_or l i 0) 0 n)
-
-  pub zero_end : length l ≤ i → all_zero (drop i l) ≡ true
-  unfolding all_zero
-  zero_end h = ap all_zero (drop_of_length-le l h)
+pub zero_each : (l : List ℕ) → list_all (λ b. nat_eq b 0) l ≡ all_zero l
+unfolding all_zero
+zero_each [] = refl
+zero_each (b ∷ l) = and_both (eqb b 0) (zero_each l)
 
 -- ---- the run over a scratch page
 
@@ -92,16 +76,6 @@ pub front_part : {l w v : List ℕ} {n : ℕ} → Put 0 l w n v → n ≤ length
 front_part {l} {w} {v} {n} p h =
     let e : length l ≡ n = omega (arith, p.place) in
     ap (take n) (front p (omega (arith, e))) ∙ take_at l (drop (length l) w) n e
-
--- ---- stops of two set-ups
-
-pub stops_step : (a b : List Bool) (i : ℕ) → i < length a → i < length b
-    → set (take i a ++ drop i b) i (get_or a i false) ≡ take (i + 1) a ++ drop (i + 1) b
-stops_step a b i h k =
-    let e : length (take i a) ≡ i = omega (arith, length-take i a) in
-    let t : take (suc i) a ++ drop (suc i) b ≡ take i a ++ get_or a i false ∷ drop (suc i) b =
-    ap (λ (z : List Bool). z ++ drop (suc i) b) (take-suc a i false h) ∙ append_snoc (take i a) (get_or a i false) (drop (suc i) b) in
-    rw (drop-cons b i false k, add-one i) (set_at (take i a) (get_or b i false) (drop (suc i) b) (get_or a i false) i e ∙ sym t)
 
 -- ---- a place
 
@@ -214,11 +188,6 @@ module _ (store : List ℕ) (n : ℕ) (e : is_store store ≡ true) (h : restora
 
 -- ---- writing
 
-pub two_written : (l : List ℕ) (a b : ℕ) → 2 ≤ length l → set (set l 0 a) 1 b ≡ a ∷ b ∷ drop 2 l
-two_written [] a b h = absurd (omega arith)
-two_written (x ∷ []) a b h = absurd (omega arith)
-two_written (x ∷ y ∷ l) a b h = refl
-
 -- bytes behind the first two, to the end
 pub behind_two : (p bytes : List ℕ) {q r : List ℕ} (a b : ℕ) → q ≡ a ∷ b ∷ drop 2 p → r ≡ stored 2 bytes q → length p ≡ 2 + length bytes
     → r ≡ a ∷ b ∷ bytes
@@ -289,103 +258,108 @@ store_saved bytes store n at end {mid} {last} size e f g h z =
 
 -- ---- the calls
 
+-- what a state and a store are, by what their last number is
+pub last_ok : (s : State) (store : List ℕ) {n : ℕ} → last_rule s store ≡ Ok n
+    → (possible s ≡ true) × ((is_store store ≡ true) × (n ≡ last_number store))
+last_ok s store {n} = by (possible s) (is_store store) refl refl
+  where
+    by : (a b : Bool) → possible s ≡ a → is_store store ≡ b
+        → pick a (pick b (Ok (last_number store)) (Err Refusal.BadStore)) (Err Refusal.BadState) ≡ Ok n
+        → (possible s ≡ true) × ((is_store store ≡ true) × (n ≡ last_number store))
+    by true true e f h = (e, (f, cc))
+    by true false e f h = cc
+    by false b e f h = cc
+
 module _ (s : State) (store : List ℕ) where
-  abbrev Saving : SaveAnswer → List ℕ → Type 0
+  abbrev Saving : Result ℕ Refusal → List ℕ → Type 0
   Saving a t = SaveGives (save_rule s store) a t
 
-  gives : (a : SaveAnswer) (t : List ℕ) → SaveGives (saved a t) a t
-  gives a t = record { answer = refl; number = refl; store = refl }
-
-  pub save_impossible : possible s ≡ false → Saving SaveAnswer.BadState store
+  pub save_refused : {x : Refusal} → last_rule s store ≡ Err x → Saving (Err x) store
   unfolding save_rule
-  save_impossible e = rw e (gives SaveAnswer.BadState store)
-
-  pub save_unlike : possible s ≡ true → is_store store ≡ false → Saving SaveAnswer.BadStore store
-  unfolding save_rule
-  save_unlike e f = rw (e, f) (gives SaveAnswer.BadStore store)
+  save_refused {x} = by (possible s) (is_store store)
+    where
+      by : (a b : Bool) → pick a (pick b (Ok (last_number store)) (Err Refusal.BadStore)) (Err Refusal.BadState) ≡ Err x
+          → SaveGives
+          (pick a
+          (pick b
+          (pick (ltb (last_number store) last_of_all) (saved (Ok (last_number store + 1)) (after_save (setup_bytes s.setup) store))
+          (saved (Err Refusal.Full) store)) (saved (Err Refusal.BadStore) store)) (saved (Err Refusal.BadState) store)) (Err x) store
+      by true true h = cc
+      by true false h = record { answer = cc; number = refl; store = refl }
+      by false b h = record { answer = cc; number = refl; store = refl }
 
   module _ (e : possible s ≡ true) (f : is_store store ≡ true) where
-    pub save_over : {n : ℕ} → n ≡ last_number store → 65535 ≤ n → Saving SaveAnswer.Full store
+    pub save_over : {n : ℕ} → n ≡ last_number store → 65535 ≤ n → Saving (Err Refusal.Full) store
     unfolding save_rule
-    save_over g h = rw (e, f, le-ltb (last_number store) last_of_all (omega (arith, g, h))) (gives SaveAnswer.Full store)
+    save_over g h =
+        rw (e, f, le-ltb (last_number store) last_of_all (omega (arith, g, h))) record { answer = refl; number = refl; store = refl }
 
     pub save_next : {n : ℕ} {after : List ℕ} → n ≡ last_number store → n < 65535 → after ≡ after_save (setup_bytes s.setup) store
-        → Saving (SaveAnswer.Saved (n + 1)) after
+        → Saving (Ok (n + 1)) after
     unfolding save_rule
     save_next {n} {after} g h z = rw (e, f, lt-ltb (last_number store) last_of_all (omega (arith, g, h)))
         record { answer = refl; number = ap (λ (i : ℕ). i + 1) g; store = z }
 
 module _ (s : State) (store : List ℕ) (n : ℕ) where
-  abbrev Restoring : RestoreAnswer → State → Type 0
-  Restoring a t = RestoreGives (restore_rule s store n) (record { answer = a; state = t })
+  abbrev Restoring : Result State Refusal → Type 0
+  Restoring a = RestoreGives s (restore_rule s store n) a
 
-  pub restore_impossible : possible s ≡ false → Restoring RestoreAnswer.BadState s
+  pub restore_refused : {x : Refusal} → last_rule s store ≡ Err x → Restoring (Err x)
   unfolding restore_rule
-  restore_impossible e = rw e record { answer = refl; state = refl }
-
-  pub restore_unlike : possible s ≡ true → is_store store ≡ false → Restoring RestoreAnswer.BadStore s
-  unfolding restore_rule
-  restore_unlike e f = rw (e, f) record { answer = refl; state = refl }
+  restore_refused {x} = by (possible s) (is_store store)
+    where
+      by : (a b : Bool) → pick a (pick b (Ok (last_number store)) (Err Refusal.BadStore)) (Err Refusal.BadState) ≡ Err x
+          → RestoreGives s
+          (pick a
+          (pick b (pick (restorable (last_number store) n) (restoring s (Ok (restored (setup_of store n) s))) (restoring s (Err Refusal.BadNumber)))
+          (restoring s (Err Refusal.BadStore))) (restoring s (Err Refusal.BadState))) (Err x)
+      by true true h = cc
+      by true false h = record { answer = cc; state = refl }
+      by false b h = record { answer = cc; state = refl }
 
   module _ (e : possible s ≡ true) (f : is_store store ≡ true) where
-    pub restore_none : restorable (last_number store) n ≡ false → Restoring RestoreAnswer.BadNumber s
+    pub restore_none : restorable (last_number store) n ≡ false → Restoring (Err Refusal.BadNumber)
     unfolding restore_rule
     restore_none g = rw (e, f, g) record { answer = refl; state = refl }
 
-    pub restore_some : {t : State} → restorable (last_number store) n ≡ true → t ≡ restored (setup_of store n) s → Restoring RestoreAnswer.Restored t
+    pub restore_some : {t : State} → restorable (last_number store) n ≡ true → t ≡ restored (setup_of store n) s → Restoring (Ok t)
     unfolding restore_rule
     restore_some g z = rw (e, f, g) record { answer = refl; state = z }
 
--- ---- numbers
-
-module _ (last n : ℕ) where
-  pub number_zero : n < 1 → false ≡ restorable last n
-  number_zero h = rw (lt-leb 1 n h)
-
-  pub number_over : 1 ≤ n → last < n → false ≡ restorable last n
-  number_over h k = rw (le-leb 1 n h, lt-leb n last k)
-
-  pub number_near : 1 ≤ n → n ≤ last → ltb (last - n) 8 ≡ restorable last n
-  number_near h k = rw (le-leb 1 n h, le-leb n last k) (by (ltb (last - n) 8) refl)
-    where
-      by : (t : Bool) → ltb (last - n) 8 ≡ t → t ≡ ltb last (n + 8)
-      by true e = let y = ltb-true (last - n) 8 e in sym (lt-ltb last (n + 8) (omega arith))
-      by false e = let y = ltb-false (last - n) 8 e in sym (le-ltb last (n + 8) (omega arith))
-
 -- ---- the answers' numbers
 
+one_refusal : (x y : Refusal) → refusal_number x ≡ refusal_number y → x ≡ y
+one_refusal Refusal.BadState Refusal.BadState e = refl
+one_refusal Refusal.BadState Refusal.BadStore e = absurd (omega (arith, e))
+one_refusal Refusal.BadState Refusal.BadNumber e = absurd (omega (arith, e))
+one_refusal Refusal.BadState Refusal.Full e = absurd (omega (arith, e))
+one_refusal Refusal.BadStore Refusal.BadState e = absurd (omega (arith, e))
+one_refusal Refusal.BadStore Refusal.BadStore e = refl
+one_refusal Refusal.BadStore Refusal.BadNumber e = absurd (omega (arith, e))
+one_refusal Refusal.BadStore Refusal.Full e = absurd (omega (arith, e))
+one_refusal Refusal.BadNumber Refusal.BadState e = absurd (omega (arith, e))
+one_refusal Refusal.BadNumber Refusal.BadStore e = absurd (omega (arith, e))
+one_refusal Refusal.BadNumber Refusal.BadNumber e = refl
+one_refusal Refusal.BadNumber Refusal.Full e = absurd (omega (arith, e))
+one_refusal Refusal.Full Refusal.BadState e = absurd (omega (arith, e))
+one_refusal Refusal.Full Refusal.BadStore e = absurd (omega (arith, e))
+one_refusal Refusal.Full Refusal.BadNumber e = absurd (omega (arith, e))
+one_refusal Refusal.Full Refusal.Full e = refl
+
+refused : (x : Refusal) → 0 < refusal_number x
+refused Refusal.BadState = omega arith
+refused Refusal.BadStore = omega arith
+refused Refusal.BadNumber = omega arith
+refused Refusal.Full = omega arith
+
 pub one_save : OneSave
-one_save (SaveAnswer.Saved n) (SaveAnswer.Saved m) e k = ap SaveAnswer.Saved k
-one_save (SaveAnswer.Saved n) SaveAnswer.BadState e k = absurd (omega (arith, e))
-one_save (SaveAnswer.Saved n) SaveAnswer.BadStore e k = absurd (omega (arith, e))
-one_save (SaveAnswer.Saved n) SaveAnswer.Full e k = absurd (omega (arith, e))
-one_save SaveAnswer.BadState (SaveAnswer.Saved m) e k = absurd (omega (arith, e))
-one_save SaveAnswer.BadState SaveAnswer.BadState e k = refl
-one_save SaveAnswer.BadState SaveAnswer.BadStore e k = absurd (omega (arith, e))
-one_save SaveAnswer.BadState SaveAnswer.Full e k = absurd (omega (arith, e))
-one_save SaveAnswer.BadStore (SaveAnswer.Saved m) e k = absurd (omega (arith, e))
-one_save SaveAnswer.BadStore SaveAnswer.BadState e k = absurd (omega (arith, e))
-one_save SaveAnswer.BadStore SaveAnswer.BadStore e k = refl
-one_save SaveAnswer.BadStore SaveAnswer.Full e k = absurd (omega (arith, e))
-one_save SaveAnswer.Full (SaveAnswer.Saved m) e k = absurd (omega (arith, e))
-one_save SaveAnswer.Full SaveAnswer.BadState e k = absurd (omega (arith, e))
-one_save SaveAnswer.Full SaveAnswer.BadStore e k = absurd (omega (arith, e))
-one_save SaveAnswer.Full SaveAnswer.Full e k = refl
+one_save (Ok n) (Ok m) e k = ap Ok k
+one_save (Ok n) (Err y) e k = absurd (omega (arith, e, refused y))
+one_save (Err x) (Ok m) e k = absurd (omega (arith, e, refused x))
+one_save (Err x) (Err y) e k = ap Err (one_refusal x y e)
 
 pub one_restore : OneRestore
-one_restore RestoreAnswer.Restored RestoreAnswer.Restored e = refl
-one_restore RestoreAnswer.Restored RestoreAnswer.BadState e = absurd (omega (arith, e))
-one_restore RestoreAnswer.Restored RestoreAnswer.BadStore e = absurd (omega (arith, e))
-one_restore RestoreAnswer.Restored RestoreAnswer.BadNumber e = absurd (omega (arith, e))
-one_restore RestoreAnswer.BadState RestoreAnswer.Restored e = absurd (omega (arith, e))
-one_restore RestoreAnswer.BadState RestoreAnswer.BadState e = refl
-one_restore RestoreAnswer.BadState RestoreAnswer.BadStore e = absurd (omega (arith, e))
-one_restore RestoreAnswer.BadState RestoreAnswer.BadNumber e = absurd (omega (arith, e))
-one_restore RestoreAnswer.BadStore RestoreAnswer.Restored e = absurd (omega (arith, e))
-one_restore RestoreAnswer.BadStore RestoreAnswer.BadState e = absurd (omega (arith, e))
-one_restore RestoreAnswer.BadStore RestoreAnswer.BadStore e = refl
-one_restore RestoreAnswer.BadStore RestoreAnswer.BadNumber e = absurd (omega (arith, e))
-one_restore RestoreAnswer.BadNumber RestoreAnswer.Restored e = absurd (omega (arith, e))
-one_restore RestoreAnswer.BadNumber RestoreAnswer.BadState e = absurd (omega (arith, e))
-one_restore RestoreAnswer.BadNumber RestoreAnswer.BadStore e = absurd (omega (arith, e))
-one_restore RestoreAnswer.BadNumber RestoreAnswer.BadNumber e = refl
+one_restore s (Ok t) (Ok u) e k = ap Ok k
+one_restore s (Ok t) (Err y) e k = absurd (omega (arith, e, refused y))
+one_restore s (Err x) (Ok u) e k = absurd (omega (arith, e, refused x))
+one_restore s (Err x) (Err y) e k = ap Err (one_refusal x y e)

@@ -9,6 +9,7 @@ use native.Mathlib.Omega.{arith}
 use lib.Seq.{take_at, drop_at, drop-drop, drop-append-add, get_or-set_same, get_or-set_other}
 use lib.ListN.{length, get_or, take, drop, set, length-take}
 use borrow.Author.Tests.{le-leb, lt-ltb, le-ltb}
+use Rattle.std.specs.Prelude.{Ok, Err}
 use Rattle.rules.specs.declared.State.{State}
 use Rattle.rules.specs.declared.Setup.{Setup}
 use Rattle.rules.specs.declared.Personality.{Personality}
@@ -18,8 +19,7 @@ use Rattle.rules.specs.Calls.{Ran}
 use Rattle.rules.proofs.Tests.{pick_if, both_true}
 use Rattle.rules.proofs.Rows.{columns_width, by_width}
 use Rattle.rules.proofs.Kept.{PossibleSetup, possible_parts, possible_whole}
-use Rattle.saved.specs.declared.SaveAnswer.TheVariants as SaveAnswer
-use Rattle.saved.specs.declared.RestoreAnswer.TheVariants as RestoreAnswer
+use Rattle.saved.specs.declared.Refusal.TheVariants as Refusal
 use Rattle.saved.specs.SetupBytes.{setup_bytes}
 use Rattle.saved.specs.Settings.{SameSettings, with_settings, fed}
 use Rattle.saved.specs.Store.{place, last_number, last_of_all, places, place_of, setup_in, setup_of, after_save, Saves, none, save, Leaves, is_setup}
@@ -59,20 +59,20 @@ of_bytes = record {
 -- ---- a save
 
 module _ (s : State) (store : List ℕ) where
-  save_bad_state : possible s ≡ false → save_rule s store ≡ saved SaveAnswer.BadState store
+  save_bad_state : possible s ≡ false → save_rule s store ≡ saved (Err Refusal.BadState) store
   unfolding save_rule
   save_bad_state e = rw e
 
-  save_bad_store : possible s ≡ true → is_store store ≡ false → save_rule s store ≡ saved SaveAnswer.BadStore store
+  save_bad_store : possible s ≡ true → is_store store ≡ false → save_rule s store ≡ saved (Err Refusal.BadStore) store
   unfolding save_rule
   save_bad_store e f = rw (e, f)
 
-  save_full : possible s ≡ true → Leaves store → last_number store ≡ last_of_all → save_rule s store ≡ saved SaveAnswer.Full store
+  save_full : possible s ≡ true → Leaves store → last_number store ≡ last_of_all → save_rule s store ≡ saved (Err Refusal.Full) store
   unfolding save_rule
   save_full e h n = rw (e, leaves_is store h, le-ltb (last_number store) last_of_all (omega (arith, n)))
 
   pub save_done : possible s ≡ true → Leaves store → last_number store < last_of_all
-      → save_rule s store ≡ saved (SaveAnswer.Saved (last_number store + 1)) (after_save (setup_bytes s.setup) store)
+      → save_rule s store ≡ saved (Ok (last_number store + 1)) (after_save (setup_bytes s.setup) store)
   unfolding save_rule
   save_done e h n = rw (e, leaves_is store h, lt-ltb (last_number store) last_of_all n)
 
@@ -171,21 +171,21 @@ restored_possible bytes s h =
     }
 
 module _ (s : State) (store : List ℕ) (n : ℕ) where
-  restore_bad_state : possible s ≡ false → restore_rule s store n ≡ restoring RestoreAnswer.BadState s
+  restore_bad_state : possible s ≡ false → restore_rule s store n ≡ restoring s (Err Refusal.BadState)
   unfolding restore_rule
   restore_bad_state e = rw e
 
-  restore_bad_store : possible s ≡ true → is_store store ≡ false → restore_rule s store n ≡ restoring RestoreAnswer.BadStore s
+  restore_bad_store : possible s ≡ true → is_store store ≡ false → restore_rule s store n ≡ restoring s (Err Refusal.BadStore)
   unfolding restore_rule
   restore_bad_store e f = rw (e, f)
 
   pub restore_bad_number : possible s ≡ true → is_store store ≡ true → restorable (last_number store) n ≡ false
-      → restore_rule s store n ≡ restoring RestoreAnswer.BadNumber s
+      → restore_rule s store n ≡ restoring s (Err Refusal.BadNumber)
   unfolding restore_rule
   restore_bad_number e f g = rw (e, f, g)
 
   pub restore_done : possible s ≡ true → is_store store ≡ true → restorable (last_number store) n ≡ true
-      → restore_rule s store n ≡ restoring RestoreAnswer.Restored (restored (setup_of store n) s)
+      → restore_rule s store n ≡ restoring s (Ok (restored (setup_of store n) s))
   unfolding restore_rule
   restore_done e f g = rw (e, f, g)
 
@@ -283,7 +283,7 @@ module _ (s t : State) (store : List ℕ) (p : Possible s) (ok : possible t ≡ 
     good : is_store end ≡ true
     good = stands_is end (counted number first_counted x).stands
 
-    gone : 8 ≤ more → restore_rule t end number ≡ restoring RestoreAnswer.BadNumber t
+    gone : 8 ≤ more → restore_rule t end number ≡ restoring t (Err Refusal.BadNumber)
     gone k =
         let e : restorable (last_number end) number ≡ false =
         rw (
@@ -307,8 +307,8 @@ module _ (s t : State) (store : List ℕ) (p : Possible s) (ok : possible t ≡ 
     back k =
         let e : restorable (last_number end) number ≡ true = both_true (le-leb 1 number (omega arith))
         (both_true (le-leb number (last_number end) (omega (arith, last))) (lt-ltb (last_number end) (number + 8) (omega (arith, last)))) in
-        let r : restore_rule t end number ≡ restoring RestoreAnswer.Restored (restored bytes t) =
-        restore_done t end number ok good e ∙ ap (λ (b : List ℕ). restoring RestoreAnswer.Restored (restored b t)) (setup_there k) in
+        let r : restore_rule t end number ≡ restoring t (Ok (restored bytes t)) =
+        restore_done t end number ok good e ∙ ap (λ (b : List ℕ). restoring t (Ok (restored b t))) (setup_there k) in
         let m = t.core.personality in
         let given_same : SameSettings (fed m bytes) s.setup = rw (fed_given m s.setup (fine s p)) (setup_same m s.setup (fine s p)) in (
           ap (λ (o : RestoreOutcome). o.answer) r,

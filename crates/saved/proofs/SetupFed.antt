@@ -15,7 +15,7 @@ use lib.ListN.{length, take, set, replicate, length-set, length-append, length-t
 use borrow.Author.Tests.{lt-ltb, le-ltb, le-leb, lt-leb, ltb-true, ltb-false, eqb-true, eq-eqb, ne_eqb}
 use Rattle.rules.specs.declared.State.{State}
 use Rattle.rules.specs.declared.Setup.{Setup}
-use Rattle.rules.specs.declared.ShortText.{ShortText}
+use Rattle.rules.specs.declared.Text.{Text}
 use Rattle.rules.specs.declared.Personality.{Personality}
 use Rattle.rules.specs.declared.Slot.{Slot}
 use Rattle.rules.specs.declared.Command.TheVariants as Command
@@ -322,20 +322,20 @@ label_at n h = pick_if (LabelAt n) (ltb n 8) (λ e. first (ltb-true n 8 e)) (λ 
         }
 
 -- a text with zeros behind it, and the bytes gathered after texts
-abbrev pub clean : ShortText → ShortText
+abbrev pub clean : Text 8 → Text 8
 clean t = short_text (short_bytes t)
 
-unfoldable pub gathered_texts : List ShortText → List ℕ → List ℕ
+unfoldable pub gathered_texts : List (Text 8) → List ℕ → List ℕ
 gathered_texts [] g = g
 gathered_texts (t ∷ l) g = gathered_texts l (gathered_by 0 (short_bytes t) g)
 
 -- the shifted line after labels, the first of them at place n
-unfoldable pub shifted_by : ℕ → List ShortText → Bool → Bool
+unfoldable pub shifted_by : ℕ → List (Text 8) → Bool → Bool
 shifted_by n [] s = s
 shifted_by n (t ∷ l) s = shifted_by (suc n) l (either (both (leb 0x50 (label_value n)) (ltb 0 (length (short_bytes t)))) s)
 
 module _ (m : Personality) (i : ℕ) (u : Setup) (p : List ℕ) where
-  key_fed : (n : ℕ) (t : ShortText) (l : List ShortText) (g : List ℕ) → n < 32 → length g ≡ 46 → text_ok 0 8 t.len t.bytes ≡ true
+  key_fed : (n : ℕ) (t : Text 8) (l : List (Text 8)) (g : List ℕ) → n < 32 → length g ≡ 46 → text_ok 0 8 t.len t.bytes ≡ true
       → Fed p (text_bytes 0x7f (key_value n) t) (state_at m i Pending.Idle g (with_keys u l))
       (state_at m i Pending.Idle (gathered_by 0 (short_bytes t) g) (with_keys u (set l n (clean t))))
   unfolding text_bytes decode_rule idle_rule escape_rule argument_rule lookup slot_rule stored slot_end slot_most slot_low
@@ -348,7 +348,7 @@ module _ (m : Personality) (i : ℕ) (u : Setup) (p : List ℕ) where
       text_fed m i (with_keys u l) p (Slot.Key (key_value n)) (short_bytes t) g size (omega (arith, r.0, length-take t.len t.bytes)) r.1 in
       waits m 0x1b (lit< tt) refl (waits m 0x7a (lit< tt) refl (waits m (key_value n) k.low d (rw k.place at y)))
 
-  pub keys_fed : (n : ℕ) (a l old : List ShortText) (g : List ℕ) → length a ≡ n → length old ≡ length l → n + length l ≤ 32 → length g ≡ 46
+  pub keys_fed : (n : ℕ) (a l old : List (Text 8)) (g : List ℕ) → length a ≡ n → length old ≡ length l → n + length l ≤ 32 → length g ≡ 46
       → texts_ok 0 l ≡ true
       → Fed p (keys_bytes n l) (state_at m i Pending.Idle g (with_keys u (a ++ old)))
       (state_at m i Pending.Idle (gathered_texts l g) (with_keys u (a ++ map clean l)))
@@ -365,7 +365,7 @@ module _ (m : Personality) (i : ℕ) (u : Setup) (p : List ℕ) where
       (keys_fed (suc n) (a ++ c ∷ []) l old (gathered_by 0 (short_bytes t) g) more (omega arith) (omega arith)
       (gathered_length 0 (short_bytes t) g ∙ size) r.1))
 
-  label_fed : (n : ℕ) (t : ShortText) (l : List ShortText) (s : Bool) (g : List ℕ) → n < 16 → length g ≡ 46 → text_ok 0x20 8 t.len t.bytes ≡ true
+  label_fed : (n : ℕ) (t : Text 8) (l : List (Text 8)) (s : Bool) (g : List ℕ) → n < 16 → length g ≡ 46 → text_ok 0x20 8 t.len t.bytes ≡ true
       → Fed p (text_bytes 0x0d (label_value n) t) (state_at m i Pending.Idle g (with_labels u l s))
       (state_at m i Pending.Idle (gathered_by 0 (short_bytes t) g)
       (with_labels u (set l n (clean t)) (either (both (leb 0x50 (label_value n)) (ltb 0 (length (short_bytes t)))) s)))
@@ -382,7 +382,7 @@ module _ (m : Personality) (i : ℕ) (u : Setup) (p : List ℕ) where
       r.1 in
       waits m 0x1b (lit< tt) refl (waits m 0x7a (lit< tt) refl (waits m (label_value n) k.low d (rw k.place at y)))
 
-  pub labels_fed : (n : ℕ) (a l old : List ShortText) (s : Bool) (g : List ℕ) → length a ≡ n → length old ≡ length l → n + length l ≤ 16
+  pub labels_fed : (n : ℕ) (a l old : List (Text 8)) (s : Bool) (g : List ℕ) → length a ≡ n → length old ≡ length l → n + length l ≤ 16
       → length g ≡ 46 → texts_ok 0x20 l ≡ true
       → Fed p (labels_bytes n l) (state_at m i Pending.Idle g (with_labels u (a ++ old) s))
       (state_at m i Pending.Idle (gathered_texts l g) (with_labels u (a ++ map clean l) (shifted_by n l s)))
@@ -400,7 +400,7 @@ module _ (m : Personality) (i : ℕ) (u : Setup) (p : List ℕ) where
       (labels_fed (suc n) (a ++ c ∷ []) l old on (gathered_by 0 (short_bytes t) g) more (omega arith) (omega arith)
       (gathered_length 0 (short_bytes t) g ∙ size) r.1))
 
-texts_length : (l : List ShortText) (g : List ℕ) → length (gathered_texts l g) ≡ length g
+texts_length : (l : List (Text 8)) (g : List ℕ) → length (gathered_texts l g) ≡ length g
 unfolding gathered_texts
 texts_length [] g = refl
 texts_length (t ∷ l) g = texts_length l (gathered_by 0 (short_bytes t) g) ∙ gathered_length 0 (short_bytes t) g

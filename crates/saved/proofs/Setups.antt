@@ -14,7 +14,7 @@ use lib.Seq.{take_at}
 use lib.ListN.{length, get_or, take, replicate, length-set, length-append, length-take}
 use Rattle.rules.specs.declared.State.{State}
 use Rattle.rules.specs.declared.Setup.{Setup}
-use Rattle.rules.specs.declared.ShortText.{ShortText}
+use Rattle.rules.specs.declared.Text.{Text}
 use Rattle.rules.specs.declared.Personality.{Personality}
 use Rattle.rules.specs.declared.Slot.{Slot}
 use Rattle.rules.specs.declared.SetupChange.{SetupChange}
@@ -39,10 +39,10 @@ use Rattle.saved.proofs.SetupFed.{clean, Fine, given, given_state, setup_fed}
 -- ---- the settings given
 
 -- zeros behind a text are no part of its bytes
-clean_bytes : (low : ℕ) (t : ShortText) → text_ok low 8 t.len t.bytes ≡ true → short_bytes (clean t) ≡ short_bytes t
+clean_bytes : (low : ℕ) (t : Text 8) → text_ok low 8 t.len t.bytes ≡ true → short_bytes (clean t) ≡ short_bytes t
 clean_bytes low t e = text_of 8 (short_bytes t) (omega (arith, (text_parts low 8 t.len t.bytes e).0, length-take t.len t.bytes))
 
-texts_clean : (low end : ℕ) (value : ℕ → ℕ) (n : ℕ) (l : List ShortText) → texts_ok low l ≡ true
+texts_clean : (low end : ℕ) (value : ℕ → ℕ) (n : ℕ) (l : List (Text 8)) → texts_ok low l ≡ true
     → texts_bytes end value n (map clean l) ≡ texts_bytes end value n l
 unfolding texts_ok texts_bytes text_bytes
 texts_clean low end value n [] e = refl
@@ -50,7 +50,7 @@ texts_clean low end value n (t ∷ l) e =
     let r = both_parts (text_ok low 8 t.len t.bytes) (texts_ok low l) e in
     rw (clean_bytes low t r.0, texts_clean low end value (suc n) l r.1)
 
-bytes_clean : (low : ℕ) (l : List ShortText) → texts_ok low l ≡ true → map short_bytes (map clean l) ≡ map short_bytes l
+bytes_clean : (low : ℕ) (l : List (Text 8)) → texts_ok low l ≡ true → map short_bytes (map clean l) ≡ map short_bytes l
 unfolding texts_ok
 bytes_clean low [] e = refl
 bytes_clean low (t ∷ l) e =
@@ -118,14 +118,14 @@ unfolding attribute_bytes
 attributes_size n [] = refl
 attributes_size n (a ∷ l) = omega (arith, attributes_size (suc n) l)
 
-pub text_size : (end v : ℕ) (t : ShortText) → length (text_bytes end v t) ≡ 4 + length (short_bytes t)
+pub text_size : (end v : ℕ) (t : Text 8) → length (text_bytes end v t) ≡ 4 + length (short_bytes t)
 unfolding text_bytes
 text_size end v t = omega (arith, length-append (short_bytes t) (end ∷ []))
 
-pub text_most : (low end v : ℕ) (t : ShortText) → text_ok low 8 t.len t.bytes ≡ true → length (text_bytes end v t) ≤ 12
+pub text_most : (low end v : ℕ) (t : Text 8) → text_ok low 8 t.len t.bytes ≡ true → length (text_bytes end v t) ≤ 12
 text_most low end v t e = omega (arith, text_size end v t, (text_parts low 8 t.len t.bytes e).0, length-take t.len t.bytes)
 
-pub texts_most : (low end : ℕ) (value : ℕ → ℕ) (n : ℕ) (l : List ShortText) → texts_ok low l ≡ true → length (texts_bytes end value n l) ≤ 12 * length l
+pub texts_most : (low end : ℕ) (value : ℕ → ℕ) (n : ℕ) (l : List (Text 8)) → texts_ok low l ≡ true → length (texts_bytes end value n l) ≤ 12 * length l
 unfolding texts_ok texts_bytes
 texts_most low end value n [] e = omega arith
 texts_most low end value n (t ∷ l) e =

@@ -1,12 +1,11 @@
 -- Worked set-ups and stores, by the sentences of request A10 of document 02.
-use Rattle.std.specs.Prelude.{◌≡◌, true, false, List, [], ◌∷◌, ◌++◌, ℕ, ◌+◌, ◌*◌, length, take, drop, replicate}
+use Rattle.std.specs.Prelude.{◌≡◌, true, false, List, [], ◌∷◌, ◌++◌, ℕ, ◌+◌, ◌*◌, length, take, drop, replicate, Ok, Err}
 use Rattle.rules.specs.declared.State.{State}
 use Rattle.rules.specs.declared.Setup.{Setup}
 use Rattle.rules.specs.declared.Personality.TheVariants as Personality
 use Rattle.rules.specs.State.{short_text, no_text, with_tabs, with_keys, with_labels}
 use Rattle.rules.specs.Possible.{power_on}
-use Rattle.saved.specs.declared.SaveAnswer.TheVariants as SaveAnswer
-use Rattle.saved.specs.declared.RestoreAnswer.TheVariants as RestoreAnswer
+use Rattle.saved.specs.declared.Refusal.TheVariants as Refusal
 use Rattle.saved.specs.SetupBytes.{stop_bytes, by_code, feature_bytes, attribute_bytes, text_bytes, key_value, label_value, setup_bytes}
 use Rattle.saved.specs.Settings.{with_settings, with_setup}
 use Rattle.saved.specs.Store.{two_bytes, two_at, last_number, place_of, setup_of, after_save, last_of_all, all_zero, is_place, is_store}
@@ -103,14 +102,14 @@ bad = with_setup on (with_tabs on.setup (replicate 132 true))
 
 pub record Calls : Type 0 where
   -- numbers count from 1
-  pub first : save_rule on zeros ≡ saved (SaveAnswer.Saved 1) (after_save (setup_bytes on.setup) zeros)
+  pub first : save_rule on zeros ≡ saved (Ok 1) (after_save (setup_bytes on.setup) zeros)
   -- refusals in their order
-  pub save_state : save_rule bad [] ≡ saved SaveAnswer.BadState []
-  pub save_store : save_rule on [] ≡ saved SaveAnswer.BadStore []
-  pub restore_state : restore_rule bad [] 0 ≡ restoring RestoreAnswer.BadState bad
-  pub restore_store : restore_rule on [] 0 ≡ restoring RestoreAnswer.BadStore on
-  pub restore_number_lem : restore_rule on zeros 0 ≡ restoring RestoreAnswer.BadNumber on
-  pub restore_above : restore_rule on zeros 1 ≡ restoring RestoreAnswer.BadNumber on
+  pub save_state : save_rule bad [] ≡ saved (Err Refusal.BadState) []
+  pub save_store : save_rule on [] ≡ saved (Err Refusal.BadStore) []
+  pub restore_state : restore_rule bad [] 0 ≡ restoring bad (Err Refusal.BadState)
+  pub restore_store : restore_rule on [] 0 ≡ restoring on (Err Refusal.BadStore)
+  pub restore_number_lem : restore_rule on zeros 0 ≡ restoring on (Err Refusal.BadNumber)
+  pub restore_above : restore_rule on zeros 1 ≡ restoring on (Err Refusal.BadNumber)
 
 pub record Worked : Type 0 where
   pub bytes : Bytes

@@ -1,13 +1,12 @@
 -- What request A10 of document 02 says of saved set-ups, the statement.
-use Rattle.std.specs.Prelude.{◌≡◌, true, false, List, [], ℕ, ◌+◌, ◌<◌, ◌≤◌, length, get_or, drop}
+use Rattle.std.specs.Prelude.{◌≡◌, true, false, List, [], ℕ, ◌+◌, ◌<◌, ◌≤◌, length, get_or, drop, Err}
 use Rattle.rules.specs.declared.State.{State}
 use Rattle.rules.specs.declared.Setup.{Setup}
 use Rattle.rules.specs.declared.Personality.{Personality}
 use Rattle.rules.specs.Row.{addressed}
 use Rattle.rules.specs.Possible.{power_on, blank, possible}
 use Rattle.rules.specs.Calls.{Ran, run_rule}
-use Rattle.saved.specs.declared.SaveAnswer.TheVariants as SaveAnswer
-use Rattle.saved.specs.declared.RestoreAnswer.TheVariants as RestoreAnswer
+use Rattle.saved.specs.declared.Refusal.TheVariants as Refusal
 use Rattle.saved.specs.SetupBytes.{setup_bytes, longest}
 use Rattle.saved.specs.Settings.{SameSettings, Shaped, Saved}
 use Rattle.saved.specs.Store.{last_number, last_of_all, Saves, Leaves, is_setup, is_store}
@@ -60,19 +59,19 @@ pub record OfStores : Type 0 where
 
 -- of a save: its refusals in their order, each leaving the store; else the next number, and a store that saves leave
 pub record OfSave (s : State) (store : List ℕ) : Type 0 where
-  pub bad_state : possible s ≡ false → save_rule s store ≡ saved SaveAnswer.BadState store
-  pub bad_store : possible s ≡ true → is_store store ≡ false → save_rule s store ≡ saved SaveAnswer.BadStore store
-  pub full : possible s ≡ true → Leaves store → last_number store ≡ last_of_all → save_rule s store ≡ saved SaveAnswer.Full store
+  pub bad_state : possible s ≡ false → save_rule s store ≡ saved (Err Refusal.BadState) store
+  pub bad_store : possible s ≡ true → is_store store ≡ false → save_rule s store ≡ saved (Err Refusal.BadStore) store
+  pub full : possible s ≡ true → Leaves store → last_number store ≡ last_of_all → save_rule s store ≡ saved (Err Refusal.Full) store
   pub done : Possible s → Leaves store → last_number store < last_of_all
       → ((save_rule s store).answer ≡ 0) × (((save_rule s store).number ≡ last_number store + 1) × Leaves (save_rule s store).store)
   pub next : Possible s → Leaves store → last_number store < last_of_all → last_number (save_rule s store).store ≡ last_number store + 1
 
 -- of a restore: its refusals, each leaving the state; and whatever it answers, what it leaves
 pub record OfRestore (s : State) (store : List ℕ) (n : ℕ) : Type 0 where
-  pub bad_state : possible s ≡ false → restore_rule s store n ≡ restoring RestoreAnswer.BadState s
-  pub bad_store : possible s ≡ true → is_store store ≡ false → restore_rule s store n ≡ restoring RestoreAnswer.BadStore s
+  pub bad_state : possible s ≡ false → restore_rule s store n ≡ restoring s (Err Refusal.BadState)
+  pub bad_store : possible s ≡ true → is_store store ≡ false → restore_rule s store n ≡ restoring s (Err Refusal.BadStore)
   pub bad_number : possible s ≡ true → is_store store ≡ true → restorable (last_number store) n ≡ false
-      → restore_rule s store n ≡ restoring RestoreAnswer.BadNumber s
+      → restore_rule s store n ≡ restoring s (Err Refusal.BadNumber)
   pub leaves : LeavesAlone s (restore_rule s store n).state
   pub possible : possible s ≡ true → possible (restore_rule s store n).state ≡ true
 
@@ -81,7 +80,7 @@ pub record OfRestore (s : State) (store : List ℕ) (n : ℕ) : Type 0 where
 pub record OfBoth (s t : State) (store : List ℕ) (more : ℕ) (later : List ℕ) : Type 0 where
   pub back : more ≤ 7 → ((restore_rule t later (last_number store + 1)).answer ≡ 0)
       × SameSettings (restore_rule t later (last_number store + 1)).state.setup s.setup
-  pub gone : 8 ≤ more → restore_rule t later (last_number store + 1) ≡ restoring RestoreAnswer.BadNumber t
+  pub gone : 8 ≤ more → restore_rule t later (last_number store + 1) ≡ restoring t (Err Refusal.BadNumber)
 
 pub record SavedSetups : Type 0 where
   pub of_bytes : OfBytes

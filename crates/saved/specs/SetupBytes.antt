@@ -2,7 +2,7 @@
 -- ascending by value.
 use Rattle.std.specs.Prelude.{Bool, List, [], ◌∷◌, ◌++◌, ℕ, suc, ◌+◌, ltb, get_or, take}
 use Rattle.rules.specs.declared.Setup.{Setup}
-use Rattle.rules.specs.declared.ShortText.{ShortText}
+use Rattle.rules.specs.declared.Text.{Text}
 use Rattle.rules.specs.Cell.{pick}
 use Rattle.rules.specs.Row.{addressed}
 use Rattle.rules.specs.State.{short_bytes}
@@ -29,12 +29,16 @@ attribute_bytes n [] = []
 attribute_bytes n (a ∷ l) = 0x1b ∷ 0x41 ∷ n ∷ a ∷ attribute_bytes (suc n) l
 
 -- ESC z value text and the byte that ends it, for each text, empty ones too; the list's first is that of the value v
-unfoldable pub text_bytes : ℕ → ℕ → ShortText → List ℕ
+unfoldable pub text_bytes : ℕ → ℕ → Text 8 → List ℕ
 text_bytes end v t = 0x1b ∷ 0x7a ∷ v ∷ short_bytes t ++ end ∷ []
 
-unfoldable pub texts_bytes : ℕ → (ℕ → ℕ) → ℕ → List ShortText → List ℕ
+unfoldable pub texts_bytes : ℕ → (ℕ → ℕ) → ℕ → List (Text 8) → List ℕ
 texts_bytes end value n [] = []
 texts_bytes end value n (t ∷ l) = text_bytes end (value n) t ++ texts_bytes end value (suc n) l
+
+-- the value of the place n, those of the places from `half` on apart
+abbrev pub value_in : ℕ → ℕ → ℕ → ℕ → ℕ
+value_in half first second n = pick (ltb n half) (first + n) (second + n)
 
 -- the values of the keys' places 0 to 31 and of the labels' places 0 to 15
 unfoldable pub key_value : ℕ → ℕ
@@ -43,10 +47,10 @@ key_value n = pick (ltb n 16) (0x40 + n) (0x50 + n)
 unfoldable pub label_value : ℕ → ℕ
 label_value n = pick (ltb n 8) (0x30 + n) (0x48 + n)
 
-abbrev pub keys_bytes : ℕ → List ShortText → List ℕ
+abbrev pub keys_bytes : ℕ → List (Text 8) → List ℕ
 keys_bytes = texts_bytes 0x7f key_value
 
-abbrev pub labels_bytes : ℕ → List ShortText → List ℕ
+abbrev pub labels_bytes : ℕ → List (Text 8) → List ℕ
 labels_bytes = texts_bytes 0x0d label_value
 
 -- stops beyond column 80 are no part of it

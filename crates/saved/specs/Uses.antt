@@ -1,5 +1,5 @@
 -- Each statement used where a weaker one would not do: at a set-up of the most bytes, of a wide terminal inside a send.
-use Rattle.std.specs.Prelude.{◌≡◌, true, false, List, ℕ, ◌≤◌, length}
+use Rattle.std.specs.Prelude.{◌≡◌, true, false, List, ℕ, ◌≤◌, length, Err}
 use Rattle.rules.specs.declared.State.{State}
 use Rattle.rules.specs.declared.Personality.{Personality}
 use Rattle.rules.specs.declared.Place.TheVariants as Place
@@ -7,7 +7,7 @@ use Rattle.rules.specs.declared.Sending.TheVariants as Sending
 use Rattle.rules.specs.State.{with_screen}
 use Rattle.rules.specs.Possible.{power_on, blank, possible}
 use Rattle.rules.specs.Calls.{run_rule}
-use Rattle.saved.specs.declared.RestoreAnswer.TheVariants as RestoreAnswer
+use Rattle.saved.specs.declared.Refusal.TheVariants as Refusal
 use Rattle.saved.specs.SetupBytes.{setup_bytes}
 use Rattle.saved.specs.Settings.{SameSettings, Saved}
 use Rattle.saved.specs.Store.{Saves, Leaves, is_setup, is_store}
@@ -46,7 +46,7 @@ pub record Uses : Type 0 where
   -- restored into a WY-50 of 80 columns after none to seven more saves, and refused after eight
   pub back : (more : ℕ) (later : List ℕ) → Saves kept more later → more ≤ 7
       → ((restore_rule on later 1).answer ≡ 0) × SameSettings (restore_rule on later 1).state.setup wide.setup
-  pub gone : (later : List ℕ) → Saves kept 8 later → restore_rule on later 1 ≡ restoring RestoreAnswer.BadNumber on
+  pub gone : (later : List ℕ) → Saves kept 8 later → restore_rule on later 1 ≡ restoring on (Err Refusal.BadNumber)
   -- whatever is restored into the wide one, its stops beyond column 80 and its send are left, and it stays possible
   pub alone : (store : List ℕ) (n : ℕ) → LeavesAlone wide (restore_rule wide store n).state
   pub stays : (store : List ℕ) (n : ℕ) → possible (restore_rule wide store n).state ≡ true

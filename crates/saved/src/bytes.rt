@@ -1,23 +1,19 @@
 // A set-up as the terminal's own command bytes, put into a lent slice.
-ghost use Rattle.std.specs.Prelude.{◌≡◌, true, [], ◌∷◌, ◌+◌, ◌<◌, ◌≤◌, length, take};
+ghost use Rattle.std.specs.Prelude.{◌≡◌, ℕ, true, [], ◌∷◌, ◌+◌, ◌*◌, ◌<◌, ◌≤◌, length, take};
 ghost use Rattle.rules.specs.Slot.{texts_ok};
-ghost use Rattle.saved.specs.SetupBytes.{stop_bytes, by_code, feature_bytes, attribute_bytes, text_bytes, key_value, label_value, keys_bytes};
-ghost use Rattle.saved.specs.SetupBytes.{labels_bytes, setup_bytes};
+ghost use Rattle.saved.specs.SetupBytes.{stop_bytes, by_code, feature_bytes, attribute_bytes, text_bytes, texts_bytes, value_in, setup_bytes};
 ghost use Rattle.saved.specs.Put.{Put};
 
-use rules::{Setup, ShortText};
+use rules::{Setup, Text};
 
 // Bytes from the place `start` on; the place behind them.
 pub(crate) fn put(out: &mut [u8], start: usize, bytes: &[u8]) -> usize
     requires { start + length bytes.now ≤ length out.old }
     ensures { Put start bytes.now out.old result out.new }
 {
-    let mut i = 0;
-    while i < bytes.len() {
-        out[start + i] = bytes[i];
-        i += 1;
-    }
-    start + i
+    let end = start + bytes.len();
+    out[start..end].copy_from_slice(bytes);
+    end
 }
 
 // ESC = 20h c ESC 1, if there is a stop in the column.
@@ -37,10 +33,8 @@ fn put_stops(out: &mut [u8], start: usize, tabs: [bool; 132]) -> usize
     ensures { Put start (stop_bytes 0 (take 80 tabs)) out.old result out.new }
 {
     let mut n = start;
-    let mut i = 0;
-    while i < 80 {
+    for i in 0..80 {
         n = put_stop(out, n, tabs[i], i as u8);
-        i += 1;
     }
     n
 }
@@ -74,23 +68,43 @@ fn put_attributes(out: &mut [u8], n: usize, a: [u8; 4]) -> usize
     put(out, m, &[0x1b, b'A', 0x32, a[2], 0x1b, b'A', 0x33, a[3]])
 }
 
-// The values of a key's place and of a label's.
-fn key_value(n: u8) -> u8
-    requires { n < 32 }
-    ensures { result ≡ key_value n }
-{
-    if n < 16 { 0x40 + n } else { 0x50 + n }
+// The texts of the keys or of the labels: the byte that ends each, and the values of their places, those from `half` on apart.
+#[derive(Clone, Copy)]
+struct Texts {
+    end: u8,
+    half: u8,
+    first: u8,
+    second: u8,
 }
 
-fn label_value(n: u8) -> u8
-    requires { n < 16 }
-    ensures { result ≡ label_value n }
+const KEYS: Texts = Texts {
+    end: 0x7f,
+    half: 16,
+    first: 0x40,
+    second: 0x50,
+};
+
+const LABELS: Texts = Texts {
+    end: 0x0d,
+    half: 8,
+    first: 0x30,
+    second: 0x48,
+};
+
+// The value of a place.
+fn value_of(x: Texts, n: u8) -> u8
+    requires { (x.first + n < 256) × (x.second + n < 256) }
+    ensures { result ≡ value_in x.half x.first x.second n }
 {
-    if n < 8 { 0x30 + n } else { 0x48 + n }
+    if n < x.half {
+        x.first + n
+    } else {
+        x.second + n
+    }
 }
 
 // ESC z value text, and the byte that ends it.
-fn put_text(out: &mut [u8], n: usize, end: u8, value: u8, t: ShortText) -> usize
+fn put_text(out: &mut [u8], n: usize, end: u8, value: u8, t: Text<8>) -> usize
     requires { (t.len ≤ 8) × (n + length (text_bytes end value t) ≤ length out.old) }
     ensures { Put n (text_bytes end value t) out.old result out.new }
 {
@@ -101,32 +115,16 @@ fn put_text(out: &mut [u8], n: usize, end: u8, value: u8, t: ShortText) -> usize
     put(out, b, &[end])
 }
 
-fn put_keys(out: &mut [u8], start: usize, keys: [ShortText; 32]) -> usize
-    requires { (texts_ok 0 keys ≡ true) × (start + 384 ≤ length out.old) }
-    ensures { Put start (keys_bytes 0 keys) out.old result out.new × (result ≤ start + 384) }
+// Each of some texts.
+fn put_texts(out: &mut [u8], start: usize, x: Texts, texts: &[Text<8>]) -> usize
+    requires { ((low : ℕ) × (texts_ok low texts.now ≡ true)) × ((start + 12 * length texts.now ≤ length out.old)
+        × ((x.first + length texts.now ≤ 256) × (x.second + length texts.now ≤ 256))) }
+    ensures { Put start (texts_bytes x.end (value_in x.half x.first x.second) 0 texts.now) out.old result out.new
+        × (result ≤ start + 12 * length texts.now) }
 {
     let mut n = start;
-    let mut i = 0;
-    while i < 32 {
-        let t = keys[i];
-        let v = key_value(i as u8);
-        n = put_text(out, n, 0x7f, v, t);
-        i += 1;
-    }
-    n
-}
-
-fn put_labels(out: &mut [u8], start: usize, labels: [ShortText; 16]) -> usize
-    requires { (texts_ok 0x20 labels ≡ true) × (start + 192 ≤ length out.old) }
-    ensures { Put start (labels_bytes 0 labels) out.old result out.new × (result ≤ start + 192) }
-{
-    let mut n = start;
-    let mut i = 0;
-    while i < 16 {
-        let t = labels[i];
-        let v = label_value(i as u8);
-        n = put_text(out, n, 0x0d, v, t);
-        i += 1;
+    for (i, t) in texts.iter().enumerate() {
+        n = put_text(out, n, x.end, value_of(x, i as u8), *t);
     }
     n
 }
@@ -136,14 +134,9 @@ pub(crate) fn encode(u: Setup, out: &mut [u8]) -> usize
     requires { ((texts_ok 0 u.keys ≡ true) × (texts_ok 0x20 u.labels ≡ true)) × (1087 ≤ length out.old) }
     ensures { Put 0 (setup_bytes u) out.old result out.new × (result ≤ 1087) }
 {
-    let tabs = u.tabs;
-    let features = u.features;
-    let attributes = u.attributes;
-    let keys = u.keys;
-    let labels = u.labels;
-    let a = put_stops(out, 0, tabs);
-    let b = put_features(out, a, features);
-    let c = put_attributes(out, b, attributes);
-    let d = put_keys(out, c, keys);
-    put_labels(out, d, labels)
+    let a = put_stops(out, 0, u.tabs);
+    let b = put_features(out, a, u.features);
+    let c = put_attributes(out, b, u.attributes);
+    let d = put_texts(out, c, KEYS, &u.keys);
+    put_texts(out, d, LABELS, &u.labels)
 }

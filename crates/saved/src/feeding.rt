@@ -11,22 +11,6 @@ use rules::{Personality, Setup};
 use state::power_on_state;
 use terminal::run;
 
-fn same_bytes(a: &[u8], b: &[u8]) -> bool
-    ensures { result ≡ same a.now b.now }
-{
-    if a.len() != b.len() {
-        return false;
-    }
-    let mut i = 0;
-    while i < a.len() {
-        if a[i] != b[i] {
-            return false;
-        }
-        i += 1;
-    }
-    true
-}
-
 // Whether a set-up has these bytes.
 fn has_bytes(u: Setup, bytes: &[u8]) -> bool
     requires { (texts_ok 0 u.keys ≡ true) × (texts_ok 0x20 u.labels ≡ true) }
@@ -34,7 +18,7 @@ fn has_bytes(u: Setup, bytes: &[u8]) -> bool
 {
     let mut out = [0; 1087];
     let n = encode(u, &mut out);
-    same_bytes(bytes, &out[0..n])
+    bytes == &out[..n]
 }
 
 // The set-up after the bytes. Ruled out: one that reads them by itself.
@@ -43,11 +27,9 @@ fn setup_after(m: Personality, bytes: &[u8]) -> Setup
 {
     let mut page: [u16; 1920] = [0; 1920];
     let mut room: [u8; 0] = [0; 0];
-    let s = power_on_state(m);
-    let t = run(&mut page, s, bytes, &mut room);
-    let next = t.state;
-    let u = next.setup;
-    u
+    run(&mut page, power_on_state(m), bytes, &mut room)
+        .state
+        .setup
 }
 
 // Whether bytes are those of a possible set-up.
@@ -63,31 +45,26 @@ fn join_stops(from: [bool; 132], beyond: [bool; 132]) -> [bool; 132]
     ensures { result ≡ take 80 from ++ drop 80 beyond }
 {
     let mut t = beyond;
-    let mut i = 0;
-    while i < 80 {
-        t[i] = from[i];
-        i += 1;
-    }
+    t[..80].copy_from_slice(&from[..80]);
     t
 }
 
 fn with_settings_of(v: Setup, u: Setup) -> Setup
     ensures { result ≡ with_settings v u }
 {
-    let mut t = u;
-    let from = v.tabs;
-    let beyond = u.tabs;
-    let tabs = join_stops(from, beyond);
+    let tabs = join_stops(v.tabs, u.tabs);
     let attributes = v.attributes;
     let features = v.features;
     let keys = v.keys;
     let labels = v.labels;
-    t.tabs = tabs;
-    t.attributes = attributes;
-    t.features = features;
-    t.keys = keys;
-    t.labels = labels;
-    t
+    Setup {
+        tabs,
+        attributes,
+        features,
+        keys,
+        labels,
+        ..u
+    }
 }
 
 // A set-up with the settings that the bytes give a terminal of a personality.

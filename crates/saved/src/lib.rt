@@ -6,82 +6,53 @@ mod bytes; // a set-up as bytes
 mod feeding; // bytes fed to a terminal
 mod store; // the store and its places
 
-ghost use Rattle.saved.specs.Calls.{save_rule, restore_rule, SaveGives, RestoreGives};
+ghost use Rattle.std.specs.Prelude.{◌≡◌};
+ghost use Rattle.saved.specs.Calls.{last_rule, save_rule, restore_rule, SaveGives, RestoreGives};
 
 use rules::State;
 use state::possible::possible;
 use store::{is_restorable, is_store, last_number, restore_from, save_as};
 
-// What a save answers: the number saved, or why it is refused.
-#[derive(Clone, Copy)]
-pub enum SaveAnswer {
-    Saved(u16),
-    BadState,
-    BadStore,
-    Full,
-}
-
-// What a restore answers.
-#[derive(Clone, Copy)]
-pub enum RestoreAnswer {
-    Restored,
+// Why a save or a restore is refused: an impossible state, a store that no saves could leave, a number never saved or overwritten, and no number
+// left.
+#[derive(Clone, Copy, PartialEq, Eq)]
+pub enum Refusal {
     BadState,
     BadStore,
     BadNumber,
+    Full,
 }
 
-#[derive(Clone, Copy)]
-pub struct RestoreResult {
-    pub answer: RestoreAnswer,
-    pub state: State,
+// The number saved last, where the state can be saved and saves could leave the store.
+fn last_of(state: State, store: &[u8]) -> Result<u16, Refusal>
+    ensures { result ≡ last_rule state store.now }
+{
+    if !possible(state) {
+        return Err(Refusal::BadState);
+    }
+    if !is_store(store) {
+        return Err(Refusal::BadStore);
+    }
+    Ok(last_number(store))
 }
 
-// Saves the set-up of a state under the next number. Ruled out: one that writes to a store that it refuses, or leaves bytes of an older set-up
-// behind a shorter one.
-pub fn save(state: State, store: &mut [u8]) -> SaveAnswer
+// Saves the set-up of a state under the next number, and gives that number. Ruled out: one that writes to a store that it refuses, or leaves bytes
+// of an older set-up behind a shorter one.
+pub fn save(state: State, store: &mut [u8]) -> Result<u16, Refusal>
     ensures { SaveGives (save_rule state store.old) result store.new }
 {
-    if !possible(state) {
-        return SaveAnswer::BadState;
-    }
-    if !is_store(store) {
-        return SaveAnswer::BadStore;
-    }
-    let last = last_number(store);
-    if last >= 65535 {
-        return SaveAnswer::Full;
-    }
-    let setup = state.setup;
-    save_as(setup, store, last + 1);
-    SaveAnswer::Saved(last + 1)
+    let number = last_of(state, store)?.checked_add(1).ok_or(Refusal::Full)?;
+    save_as(state.setup, store, number);
+    Ok(number)
 }
 
-// Restores the settings saved under a number. Ruled out: one that takes number 0, or touches more than the settings.
-pub fn restore(state: State, store: &[u8], number: u16) -> RestoreResult
-    ensures { RestoreGives (restore_rule state store.now number) result }
+// The state with the settings saved under a number. Ruled out: one that takes number 0, or touches more than the settings.
+pub fn restore(state: State, store: &[u8], number: u16) -> Result<State, Refusal>
+    ensures { RestoreGives state (restore_rule state store.now number) result }
 {
-    if !possible(state) {
-        return RestoreResult {
-            answer: RestoreAnswer::BadState,
-            state: state,
-        };
-    }
-    if !is_store(store) {
-        return RestoreResult {
-            answer: RestoreAnswer::BadStore,
-            state: state,
-        };
-    }
-    let last = last_number(store);
+    let last = last_of(state, store)?;
     if !is_restorable(last, number) {
-        return RestoreResult {
-            answer: RestoreAnswer::BadNumber,
-            state: state,
-        };
+        return Err(Refusal::BadNumber);
     }
-    let next = restore_from(state, store, number);
-    RestoreResult {
-        answer: RestoreAnswer::Restored,
-        state: next,
-    }
+    Ok(restore_from(state, store, number))
 }

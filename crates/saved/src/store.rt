@@ -12,41 +12,25 @@ use crate::bytes::{encode, put};
 use crate::feeding::{is_setup, with_settings};
 use rules::{Personality, Setup, State};
 
-fn wide(b: u8) -> u16
-    ensures { (result ≡ b) × (result < 256) }
-{
-    b as u16
-}
-
 // The number in two bytes, low first.
 fn two_at(l: &[u8], i: usize) -> u16
     requires { i + 1 < length l.now }
     ensures { result ≡ two_at l.now i }
 {
-    let low = wide(l[i]);
-    let high = wide(l[i + 1]);
-    low + 256 * high
+    u16::from_le_bytes([l[i], l[i + 1]])
 }
 
 fn write_two(l: &mut [u8], n: u16)
     requires { 2 ≤ length l.old }
     ensures { l.new ≡ two_bytes n ++ drop 2 l.old }
 {
-    l[0] = (n % 256) as u8;
-    l[1] = (n / 256) as u8;
+    l[..2].copy_from_slice(&n.to_le_bytes());
 }
 
 fn all_zero(l: &[u8]) -> bool
     ensures { result ≡ all_zero l.now }
 {
-    let mut i = 0;
-    while i < l.len() {
-        if l[i] != 0 {
-            return false;
-        }
-        i += 1;
-    }
-    true
+    l.iter().all(|b| *b == 0)
 }
 
 // Whether a place holds a length, a set-up and zeros.
@@ -69,10 +53,7 @@ fn is_used(p: &[u8], used: bool) -> bool
     requires { length p.now ≡ 1089 }
     ensures { result ≡ pick used (is_place p.now) (all_zero p.now) }
 {
-    if used {
-        return is_place(p);
-    }
-    all_zero(p)
+    if used { is_place(p) } else { all_zero(p) }
 }
 
 // Whether saves could leave the store.
@@ -83,14 +64,12 @@ pub(crate) fn is_store(store: &[u8]) -> bool
         return false;
     }
     let n = two_at(store, 0) as usize;
-    let mut k = 0;
-    while k < 8 {
+    for k in 0..8 {
         let at = 2 + 1089 * k;
         let end = at + 1089;
         if !is_used(&store[at..end], k < n) {
             return false;
         }
-        k += 1;
     }
     true
 }
@@ -106,13 +85,7 @@ pub(crate) fn last_number(store: &[u8]) -> u16
 pub(crate) fn is_restorable(last: u16, n: u16) -> bool
     ensures { result ≡ restorable last n }
 {
-    if n < 1 {
-        return false;
-    }
-    if n > last {
-        return false;
-    }
-    last - n < 8
+    1 <= n && n <= last && last - n < 8
 }
 
 // A place with a set-up of so many bytes, zeros behind it.
@@ -152,13 +125,8 @@ pub(crate) fn restore_from(state: State, store: &[u8], n: u16) -> State
     requires { (is_store store.now ≡ true) × (restorable (last_number store.now) n ≡ true) }
     ensures { result ≡ restored (setup_of store.now n) state }
 {
-    let mut t = state;
-    let core = state.core;
-    let m = core.personality;
-    let u = state.setup;
     let at = 2 + 1089 * ((n - 1) % 8) as usize;
     let end = at + 1089;
-    let v = restore_place(&store[at..end], m, u);
-    t.setup = v;
-    t
+    let setup = restore_place(&store[at..end], state.core.personality, state.setup);
+    State { setup, ..state }
 }

@@ -25,7 +25,7 @@ row_made_is (list_ran {w = w} {w' = w'} {r = r} h e) =
     cc (h.answer, h.taken, h.replied, h.refused, h.rest, h.state, h.page, front _ w w' r.replied h.replied h.room, e)
 row_made_is (heard {w = w} {w' = w'} {r = r} h e) =
     cc (h.answer, h.taken, h.replied, h.refused, h.rest, h.state, h.page, front _ w w' r.replied h.replied h.room, e)
-row_made_is (rebuilt_rows a h e) = cc (h, e)
+row_made_is (rebuilt_rows h e) = cc (h.answer, e)
 
 session_made_is : {x : Kept} {c : SessionCall} {r : SessionCalled} → SessionMade x c r → session_rule x c ≡ r
 unfolding session_rule

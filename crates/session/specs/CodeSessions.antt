@@ -1,12 +1,12 @@
 -- The statement of the code: two callers of `terminal` and `saved` whose calls were made as they promise, over lists of calls and over a stream.
-use Rattle.std.specs.Prelude.{◌≡◌, true, false, List, [], ◌∷◌, ℕ}
+use Rattle.std.specs.Prelude.{◌≡◌, true, false, List, [], ◌∷◌, ℕ, Result}
+use Rattle.std.specs.Result.{result_unwrap_or}
 use Rattle.rules.specs.declared.State.{State}
 use Rattle.rules.specs.Calls.{Given}
 use Rattle.rules.specs.RowCalls.{RowCall}
 use Rattle.rules.specs.Theorems.Noninterference.{AlikePages, revealing}
 use Rattle.terminal.specs.RowNoninterference.{RowMade}
-use Rattle.saved.specs.declared.SaveAnswer.{SaveAnswer}
-use Rattle.saved.specs.declared.RestoreResult.{RestoreResult}
+use Rattle.saved.specs.declared.Refusal.{Refusal}
 use Rattle.saved.specs.Calls.{save_number, saved_as, save_rule, SaveGives, restore_number, restore_rule, RestoreGives}
 use Rattle.session.specs.Sessions.{SessionCall, Terminal, Save, Restore, Kept, start, Heard, Saved, Restored, SessionCalled, SessionPlayed}
 use Rattle.session.specs.Sessions.{session_after, session_completed, SessionIndistinguishable, Act, call_of, handed_back, left_of, StreamPlayed}
@@ -16,11 +16,13 @@ use Rattle.session.specs.Sessions.{calls_of, StreamIndistinguishable}
 pub data SessionMade (x : Kept) : SessionCall → SessionCalled → Type 0 where
   terminal : {c : RowCall} {g : Given} {p' l' : List ℕ} → RowMade x.terminal c g p' l'
       → SessionMade x (Terminal c) (record { told = Heard g; kept = start p' l' g.state x.store })
-  saved : {a : SaveAnswer} {store' : List ℕ} → SaveGives (save_rule x.terminal.state x.store) a store'
+  saved : {a : Result ℕ Refusal} {store' : List ℕ} → SaveGives (save_rule x.terminal.state x.store) a store'
       → SessionMade x Save (record { told = Saved (save_number a) (saved_as a); kept = record { terminal = x.terminal; store = store' } })
-  restored : {n : ℕ} {r : RestoreResult} → RestoreGives (restore_rule x.terminal.state x.store n) r
-      → SessionMade x (Restore n)
-      (record { told = Restored (restore_number r.answer); kept = start x.terminal.page x.terminal.rows r.state x.store })
+  restored : {n : ℕ} {a : Result State Refusal} → RestoreGives x.terminal.state (restore_rule x.terminal.state x.store n) a
+      → SessionMade x (Restore n) (record {
+        told = Restored (restore_number a);
+        kept = start x.terminal.page x.terminal.rows (result_unwrap_or a x.terminal.state) x.store;
+      })
 
 -- calls, each made on what the last one left
 pub data SessionPerformed : Kept → List SessionCall → SessionPlayed → Type 0 where

@@ -3,4 +3,3 @@ pub mod Lists
 mod Plain
 pub mod Segments
 pub mod Gathered
-pub mod Sequences

@@ -11,7 +11,7 @@ use lib.ListN.{drop_of_length-le}
 use lib.Seq.{drop-cons}
 use Rattle.rules.specs.Cell.{both}
 use Rattle.rules.specs.Slot.{is_text, all_text, text_ok, texts_ok}
-use Rattle.rules.specs.declared.ShortText.{ShortText}
+use Rattle.rules.specs.declared.Text.{Text}
 use Rattle.state.proofs.Tests.{both_left, both_right}
 use Rattle.state.proofs.Lists.{tabulated, elements}
 
@@ -60,10 +60,10 @@ pub chained : (b : Bool) (n : ℕ) (l : List ℕ) {a₀ a₁ a₂ a₃ a₄ a₅
 chained b n l e e₀ e₁ e₂ e₃ e₄ e₅ e₆ e₇ e₈ h = plain b n l e (rw (← e₀, ← e₁, ← e₂, ← e₃, ← e₄, ← e₅, ← e₆, ← e₇, ← e₈) h)
 
 -- if all was plain, then the texts from i on decide
-pub record Plain (l : List ShortText) (b : Bool) (i : ℕ) : Type 0 where
+pub record Plain (l : List (Text 8)) (b : Bool) (i : ℕ) : Type 0 where
   pub rest : b ≡ true → texts_ok 0 l ≡ texts_ok 0 (drop i l)
 
-module _ (l : List ShortText) where
+module _ (l : List (Text 8)) where
   pub begin : Plain l true 0
   begin = record { rest = λ h. refl }
 

@@ -7,50 +7,32 @@ use rules::{Core, Mode, Modes, Pending, Screen};
 pub fn with_screen(c: Core, x: Screen) -> Core
     ensures { result ≡ with_screen c x }
 {
-    let mut t = c;
-    t.screen = x;
-    t
+    Core { screen: x, ..c }
 }
 
 pub fn with_modes(c: Core, m: Modes) -> Core
     ensures { result ≡ with_modes c m }
 {
-    let mut t = c;
-    t.modes = m;
-    t
+    Core { modes: m, ..c }
 }
 
 pub fn with_bells(c: Core, n: u8) -> Core
     ensures { result ≡ with_bells c n }
 {
-    let mut t = c;
-    t.bells = n;
-    t
+    Core { bells: n, ..c }
 }
 
 pub fn with_attribute(c: Core, a: u8) -> Core
     ensures { result ≡ with_attribute c a }
 {
-    let mut t = c;
-    t.attribute = a;
-    t
+    Core { attribute: a, ..c }
 }
 
 // Another sequence is under way.
 pub fn awaiting(c: Core, q: Pending) -> Core
     ensures { result ≡ awaiting c q }
 {
-    let screen = c.screen;
-    let modes = c.modes;
-    let personality = c.personality;
-    Core {
-        screen: screen,
-        modes: modes,
-        bells: c.bells,
-        pending: q,
-        personality: personality,
-        attribute: c.attribute,
-    }
+    Core { pending: q, ..c }
 }
 
 pub fn idle(c: Core) -> Core
@@ -62,60 +44,34 @@ pub fn idle(c: Core) -> Core
 pub fn is_idle(q: Pending) -> bool
     ensures { result ≡ is_idle q }
 {
-    match q {
-        Pending::Idle => true,
-        Pending::Escape => false,
-        Pending::Awaits(_) => false,
-        Pending::AddressRow(_) => false,
-        Pending::SegmentNumber(_) => false,
-        Pending::SegmentRow(_, _) => false,
-        Pending::DecimalRow(_, _) => false,
-        Pending::DecimalColumn(_, _, _) => false,
-        Pending::FieldNumber(_) => false,
-        Pending::Text(_, _) => false,
-        Pending::Spoilt(_) => false,
-    }
+    matches!(q, Pending::Idle)
 }
 
 // One bell more, modulo 256.
 pub fn next_bell(n: u8) -> u8
     ensures { result ≡ (n + 1) % 256 }
 {
-    ((n as u16 + 1) % 256) as u8
+    n.wrapping_add(1)
 }
 
 pub fn with_protect(m: Modes, b: bool) -> Modes
     ensures { result ≡ with_protect m b }
 {
-    let mut t = m;
-    t.protect = b;
-    t
+    Modes { protect: b, ..m }
 }
 
+#[tactic(auto, unfolding(rules::specs::State::with_mode))]
 pub fn with_mode(m: Modes, k: Mode, b: bool) -> Modes
     ensures { result ≡ with_mode m k b }
 {
-    let mut t = m;
     match k {
-        Mode::WriteProtect => {
-            t.writeprotect = b;
-            t
-        }
-        Mode::Insert => {
-            t.insert = b;
-            t
-        }
-        Mode::Autoscroll => {
-            t.autoscroll = b;
-            t
-        }
-        Mode::Lock => {
-            t.locked = b;
-            t
-        }
-        Mode::LocalEdit => {
-            t.local = b;
-            t
-        }
+        Mode::WriteProtect => Modes {
+            writeprotect: b,
+            ..m
+        },
+        Mode::Insert => Modes { insert: b, ..m },
+        Mode::Autoscroll => Modes { autoscroll: b, ..m },
+        Mode::Lock => Modes { locked: b, ..m },
+        Mode::LocalEdit => Modes { local: b, ..m },
     }
 }

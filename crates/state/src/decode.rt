@@ -7,7 +7,6 @@ ghost use Rattle.rules.specs.Possible.{pending_ok};
 ghost use Rattle.rules.specs.declared.Command.TheVariants as Command;
 ghost use Rattle.rules.specs.declared.Decoded.TheVariants as Decoded;
 
-use crate::logic::{and, between, or};
 use crate::possible::{feature_place, is_attribute};
 use crate::texts::{is_key, is_label, is_text, slot_end, slot_low, slot_most};
 use rules::{
@@ -15,6 +14,7 @@ use rules::{
     Setting, Slot, Window,
 };
 
+#[tactic(auto, unfolding(rules::specs::Decode::lookup))]
 fn control(b: u8) -> Decoded
     ensures { result ≡ lookup controls (Decoded.Do Command.Nothing) b }
 {
@@ -38,19 +38,19 @@ fn control(b: u8) -> Decoded
 }
 
 // No sequence under way: 20h to 7Eh is stored, 7Fh does nothing.
+#[tactic(auto, unfolding(rules::specs::Decode::idle_rule))]
 fn idle(b: u8) -> Decoded
     ensures { result ≡ idle_rule b }
 {
-    if b < 0x20 {
-        return control(b);
+    match b {
+        0..0x20 => control(b),
+        0x20..0x7f => Decoded::Do(Command::Store(Contents::Text(b))),
+        _ => Decoded::Do(Command::Nothing),
     }
-    if b < 0x7f {
-        return Decoded::Do(Command::Store(Contents::Text(b)));
-    }
-    Decoded::Do(Command::Nothing)
 }
 
 // The byte after ESC.
+#[tactic(auto, unfolding(rules::specs::Decode::lookup, rules::specs::Decode::escape_rule))]
 fn escape(b: u8) -> Decoded
     ensures { result ≡ escape_rule b }
 {
@@ -118,6 +118,7 @@ fn escape(b: u8) -> Decoded
 }
 
 // An argument outside its range answers 3.
+#[tactic(auto, unfolding(rules::specs::Decode::judged))]
 fn judged(ok: bool, d: Command) -> Decoded
     ensures { result ≡ judged ok d }
 {
@@ -129,6 +130,7 @@ fn judged(ok: bool, d: Command) -> Decoded
 }
 
 // attr 20h is a text space.
+#[tactic(auto, unfolding(rules::specs::Arguments::attribute_contents))]
 pub fn attribute_contents(a: u8) -> Contents
     ensures { result ≡ attribute_contents a }
 {
@@ -140,119 +142,111 @@ pub fn attribute_contents(a: u8) -> Contents
 }
 
 // ESC ` f: 3Ah and 3Bh wish for a narrow and a wide page.
+#[tactic(auto, unfolding(rules::specs::Decode::feature_rule))]
 fn feature(f: u8) -> Decoded
     ensures { result ≡ feature_rule f }
 {
-    if between(0x3a, 0x3b, f) {
-        return Decoded::Do(Command::Set(Setting::Wish(f == 0x3b)));
+    match f {
+        0x3a | 0x3b => Decoded::Do(Command::Set(Setting::Wish(f == 0x3b))),
+        _ => judged(feature_place(f) < 5, Command::Set(Setting::Feature(f))),
     }
-    judged(feature_place(f) < 5, Command::Set(Setting::Feature(f)))
 }
 
 // ESC A n attr.
+#[tactic(auto, unfolding(rules::specs::Decode::field_rule, rules::specs::Decode::judged))]
 fn field(n: u8, a: u8) -> Decoded
     ensures { result ≡ field_rule n a }
 {
-    if n < 0x30 {
-        return Decoded::Reject(Answer::BadArgument);
+    if matches!(n, 0x30..=0x33) && is_attribute(a) {
+        Decoded::Do(Command::Set(Setting::Attribute(n - 0x30, a)))
+    } else {
+        Decoded::Reject(Answer::BadArgument)
     }
-    judged(
-        and(between(0x30, 0x33, n), is_attribute(a)),
-        Command::Set(Setting::Attribute(n - 0x30, a)),
-    )
 }
 
 // ESC x.
+#[tactic(auto, unfolding(rules::specs::Decode::split_rule))]
 fn split(b: u8) -> Decoded
     ensures { result ≡ split_rule b }
 {
-    if b == 0x30 {
-        return Decoded::Do(Command::Window(Window::Unsplit));
+    match b {
+        0x30 => Decoded::Do(Command::Window(Window::Unsplit)),
+        0x31 => Decoded::Wait(Pending::Awaits(Argument::SplitRow)),
+        _ => Decoded::Reject(Answer::BadArgument),
     }
-    if b == 0x31 {
-        return Decoded::Wait(Pending::Awaits(Argument::SplitRow));
-    }
-    Decoded::Reject(Answer::BadArgument)
 }
 
 // ESC a: n digits so far make the row.
+#[tactic(auto, unfolding(rules::specs::Decode::digit_rule, rules::specs::Decode::decimal_row_rule))]
 fn decimal_row(n: u8, row: u8, b: u8) -> Decoded
     requires { row < 10 ^ n }
     ensures { result ≡ decimal_row_rule n row b }
 {
-    if and(b == 0x52, 0 < n) {
-        return Decoded::Wait(Pending::DecimalColumn(row, 0, 0));
+    match b {
+        0x52 if 0 < n => Decoded::Wait(Pending::DecimalColumn(row, 0, 0)),
+        0x30..=0x39 if n < 2 => Decoded::Wait(Pending::DecimalRow(n + 1, row * 10 + (b - 0x30))),
+        _ => Decoded::Reject(Answer::BadArgument),
     }
-    if b < 0x30 {
-        return Decoded::Reject(Answer::BadArgument);
-    }
-    if 0x3a <= b {
-        return Decoded::Reject(Answer::BadArgument);
-    }
-    if 2 <= n {
-        return Decoded::Reject(Answer::BadArgument);
-    }
-    Decoded::Wait(Pending::DecimalRow(n + 1, row * 10 + (b - 0x30)))
 }
 
 // After R: n digits so far make the column.
+#[tactic(auto, unfolding(rules::specs::Decode::digit_rule, rules::specs::Decode::decimal_column_rule))]
 fn decimal_column(row: u8, n: u8, column: u16, b: u8) -> Decoded
     requires { column < 10 ^ n }
     ensures { result ≡ decimal_column_rule row n column b }
 {
-    if and(b == 0x43, 0 < n) {
-        return Decoded::Do(Command::Go(Move::Decimal(row, column)));
+    match b {
+        0x43 if 0 < n => Decoded::Do(Command::Go(Move::Decimal(row, column))),
+        0x30..=0x39 if n < 3 => {
+            let digit = u16::from(b - 0x30);
+            Decoded::Wait(Pending::DecimalColumn(row, n + 1, column * 10 + digit))
+        }
+        _ => Decoded::Reject(Answer::BadArgument),
     }
-    if b < 0x30 {
-        return Decoded::Reject(Answer::BadArgument);
-    }
-    if 0x3a <= b {
-        return Decoded::Reject(Answer::BadArgument);
-    }
-    if 3 <= n {
-        return Decoded::Reject(Answer::BadArgument);
-    }
-    let digit = (b - 0x30) as u16;
-    Decoded::Wait(Pending::DecimalColumn(row, n + 1, column * 10 + digit))
 }
 
 // ESC z.
+#[tactic(auto, unfolding(rules::specs::Decode::slot_rule))]
 fn slot(v: u8) -> Decoded
     ensures { result ≡ slot_rule v }
 {
     if is_key(v) {
-        return Decoded::Wait(Pending::Text(Slot::Key(v), 0));
+        Decoded::Wait(Pending::Text(Slot::Key(v), 0))
+    } else if is_label(v) {
+        Decoded::Wait(Pending::Text(Slot::Label(v), 0))
+    } else {
+        judged(v == 0x7f, Command::Set(Setting::HideLine))
     }
-    if is_label(v) {
-        return Decoded::Wait(Pending::Text(Slot::Label(v), 0));
-    }
-    judged(v == 0x7f, Command::Set(Setting::HideLine))
 }
 
 // A byte of a text, of which n are gathered.
+#[tactic(auto, unfolding(rules::specs::Decode::text_rule))]
 fn text(x: Slot, n: u8, b: u8) -> Decoded
     ensures { result ≡ text_rule x n b }
 {
     if b == slot_end(x) {
-        return Decoded::Take(x, n);
+        Decoded::Take(x, n)
+    } else if n < slot_most(x) && is_text(slot_low(x), b) {
+        Decoded::Gather(x, n, b)
+    } else {
+        Decoded::Wait(Pending::Spoilt(x))
     }
-    if and(n < slot_most(x), is_text(slot_low(x), b)) {
-        return Decoded::Gather(x, n, b);
-    }
-    Decoded::Wait(Pending::Spoilt(x))
 }
 
 // A spoilt text is swallowed to its end.
+#[tactic(auto, unfolding(rules::specs::Decode::spoilt_rule))]
 fn spoilt(x: Slot, b: u8) -> Decoded
     ensures { result ≡ spoilt_rule x b }
 {
     if b == slot_end(x) {
-        return Decoded::Reject(Answer::BadArgument);
+        Decoded::Reject(Answer::BadArgument)
+    } else {
+        Decoded::Wait(Pending::Spoilt(x))
     }
-    Decoded::Wait(Pending::Spoilt(x))
 }
 
 // An awaited argument.
+#[tactic(auto, unfolding(rules::specs::Decode::argument_rule))]
 fn argument(a: Argument, b: u8) -> Decoded
     ensures { result ≡ argument_rule a b }
 {
@@ -262,13 +256,16 @@ fn argument(a: Argument, b: u8) -> Decoded
         Argument::Split => split(b),
         Argument::SplitRow => Decoded::Do(Command::Window(Window::Split(b))),
         Argument::Attribute => judged(is_attribute(b), Command::Attribute(b)),
-        Argument::Graphic => judged(between(0x30, 0x3f, b), Command::Store(Contents::Graphic(b))),
+        Argument::Graphic => judged(
+            matches!(b, 0x30..=0x3f),
+            Command::Store(Contents::Graphic(b)),
+        ),
         Argument::FillAttribute => judged(
             is_attribute(b),
             Command::Clear(Clear::Segment(attribute_contents(b))),
         ),
         Argument::FillCode => judged(
-            or(b == 0, between(0x20, 0x7e, b)),
+            matches!(b, 0 | 0x20..=0x7e),
             Command::Clear(Clear::Segment(Contents::Text(b))),
         ),
         Argument::Feature => feature(b),
@@ -278,6 +275,7 @@ fn argument(a: Argument, b: u8) -> Decoded
 }
 
 // The byte b after the sequence p.
+#[tactic(auto, unfolding(rules::specs::Decode::decode_rule, rules::specs::Possible::pending_ok))]
 pub fn decode(p: Pending, b: u8) -> Decoded
     requires { (g : List ℕ) × (pending_ok p g ≡ true) }
     ensures { result ≡ decode_rule p b }

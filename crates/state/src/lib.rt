@@ -1,7 +1,7 @@
 // The terminal's state as values: power-on, readers and setters, the keys, which states are possible, and what a byte comes to.
 #![tactic(auto)]
 
-pub mod logic; // tests on numbers, and how they are joined
+pub mod logic; // tests on numbers
 pub mod width; // the width of a page
 pub mod screen; // the active segment and its cursor
 pub mod core_parts; // the other parts of the core
@@ -22,23 +22,13 @@ use rules::{Answer, Core, Modes, Pending, Personality, Screen, Sending, Setup, S
 pub fn answer_number(a: Answer) -> u8
     ensures { result ≡ number a }
 {
-    match a {
-        Answer::Done => 0,
-        Answer::HighByte => 1,
-        Answer::Unknown => 2,
-        Answer::BadArgument => 3,
-        Answer::Barred => 4,
-        Answer::NoRoom => 6,
-        Answer::BadCall => 7,
-        Answer::Locked => 8,
-    }
+    a as u8
 }
 
+#[tactic(auto, unfolding(rules::specs::Possible::power_on))]
 pub fn power_on_state(m: Personality) -> State
     ensures { result ≡ power_on m }
 {
-    let none = texts::no_text();
-    let message = texts::no_long();
     State {
         core: Core {
             screen: Screen {
@@ -67,9 +57,9 @@ pub fn power_on_state(m: Personality) -> State
             tabs: [false; 132],
             attributes: [0x30; 4],
             features: [0x31, 0x35, 0x37, 0x39, 0x40],
-            keys: [none; 32],
-            labels: [none; 16],
-            message: message,
+            keys: [texts::no_text(); 32],
+            labels: [texts::no_text(); 16],
+            message: texts::no_text(),
             shifted: false,
             wish: false,
         },

@@ -7,33 +7,36 @@ ghost use Rattle.rules.specs.Possible.{possible};
 ghost use Rattle.rules.specs.Arguments.{is_attribute, feature_place};
 ghost use Rattle.rules.specs.Slot.{slot_most, slot_low, all_text, text_ok, texts_ok};
 
-use crate::logic::{and, between, or};
 use crate::sending::sending_ok;
 use crate::texts::{is_text, slot_low, slot_most, slot_ok};
 use crate::width::{cells, columns};
-use rules::{Core, LongText, Pending, Personality, Screen, Setup, ShortText, Slot, State};
+use rules::{Core, Pending, Personality, Screen, Setup, Slot, State, Text};
 
+#[tactic(auto, unfolding(rules::specs::Possible::unsplit_ok))]
 fn unsplit_ok(x: Screen) -> bool
     ensures { result ≡ unsplit_ok x }
 {
     let n = cells(x.wide, 24);
-    and(x.active == 0, and(x.cursor0 < n, x.cursor1 < n))
+    x.active == 0 && x.cursor0 < n && x.cursor1 < n
 }
 
 // Split row 2 to 24, each cursor within its segment.
+#[tactic(auto, unfolding(rules::specs::Possible::split_ok))]
 fn split_ok(x: Screen) -> bool
     requires { 1 ≤ x.split }
     ensures { result ≡ split_ok x }
 {
-    let at = cells(x.wide, (x.split - 1) as u16);
+    let at = cells(x.wide, u16::from(x.split - 1));
     let n = cells(x.wide, 24);
-    let cursors = and(x.cursor0 < at, and(at <= x.cursor1, x.cursor1 < n));
-    and(
-        2 <= x.split,
-        and(x.split <= 24, and(x.active <= 1, cursors)),
-    )
+    2 <= x.split
+        && x.split <= 24
+        && x.active <= 1
+        && x.cursor0 < at
+        && at <= x.cursor1
+        && x.cursor1 < n
 }
 
+#[tactic(auto, unfolding(rules::specs::Possible::screen_ok))]
 pub fn screen_ok(x: Screen) -> bool
     ensures { result ≡ screen_ok x }
 {
@@ -43,6 +46,8 @@ pub fn screen_ok(x: Screen) -> bool
         split_ok(x)
     }
 }
+
+// The tests of texts go by index, over arrays taken by value, for speed: with `iter()` or slices the set-up is copied first.
 
 // Whether each of the first n bytes is from `low` to 7Eh.
 fn text_ok(bytes: &[u8], n: u8, low: u8) -> bool
@@ -60,7 +65,7 @@ fn text_ok(bytes: &[u8], n: u8, low: u8) -> bool
     true
 }
 
-fn short_ok(t: ShortText, low: u8) -> bool
+fn short_ok(t: Text<8>, low: u8) -> bool
     ensures { result ≡ text_ok low 8 t.len t.bytes }
 {
     let bytes = t.bytes;
@@ -70,7 +75,7 @@ fn short_ok(t: ShortText, low: u8) -> bool
     text_ok(&bytes, t.len, low)
 }
 
-fn message_ok(t: LongText) -> bool
+fn message_ok(t: Text<46>) -> bool
     ensures { result ≡ text_ok 0x20 46 t.len t.bytes }
 {
     let bytes = t.bytes;
@@ -80,8 +85,15 @@ fn message_ok(t: LongText) -> bool
     text_ok(&bytes, t.len, 0x20)
 }
 
+// A call, and not `&&`: see `are_plain`.
+fn and(a: bool, b: bool) -> bool
+    ensures { result ≡ both a b }
+{
+    a && b
+}
+
 // Whether a key's text is plain, and those before it: at most eight bytes, and all eight of them at most 7Eh, those behind its end too.
-fn is_plain(k: ShortText, before: bool) -> bool
+fn is_plain(k: Text<8>, before: bool) -> bool
     ensures { result ≡ true → (before ≡ true) × (text_ok 0 8 k.len k.bytes ≡ true) }
 {
     let a = and(before, k.len < 9);
@@ -95,8 +107,9 @@ fn is_plain(k: ShortText, before: bool) -> bool
     and(h, k.bytes[7] < 0x7f)
 }
 
-// Whether every key is plain. Bytes in their order in one chain, eight keys a turn: so the machine tests sixteen bytes at a time.
-fn are_plain(keys: [ShortText; 32]) -> bool
+// Whether every key is plain. Bytes in their order in one chain of `and`, eight keys a turn: so the machine tests sixteen bytes at a time.
+// `all` over the keys and their bytes tests them one by one: slower.
+fn are_plain(keys: [Text<8>; 32]) -> bool
     ensures { result ≡ true → texts_ok 0 keys ≡ true }
 {
     let mut plain = true;
@@ -114,7 +127,7 @@ fn are_plain(keys: [ShortText; 32]) -> bool
 }
 
 // Keys as the terminal keeps them are plain; else each is looked at.
-fn keys_ok(keys: [ShortText; 32]) -> bool
+fn keys_ok(keys: [Text<8>; 32]) -> bool
     ensures { result ≡ texts_ok 0 keys }
 {
     if are_plain(keys) {
@@ -131,7 +144,7 @@ fn keys_ok(keys: [ShortText; 32]) -> bool
     true
 }
 
-fn labels_ok(labels: [ShortText; 16]) -> bool
+fn labels_ok(labels: [Text<8>; 16]) -> bool
     ensures { result ≡ texts_ok 0x20 labels }
 {
     let mut i = 0;
@@ -146,13 +159,11 @@ fn labels_ok(labels: [ShortText; 16]) -> bool
 }
 
 // attr of ESC G: 20h, 30h to 3Fh or 70h to 7Eh.
+#[tactic(auto, unfolding(rules::specs::Arguments::is_attribute))]
 pub fn is_attribute(a: u8) -> bool
     ensures { result ≡ is_attribute a }
 {
-    or(
-        a == 0x20,
-        or(between(0x30, 0x3f, a), between(0x70, 0x7e, a)),
-    )
+    matches!(a, 0x20 | 0x30..=0x3f | 0x70..=0x7e)
 }
 
 fn attributes_ok(a: [u8; 4]) -> bool
@@ -162,35 +173,32 @@ fn attributes_ok(a: [u8; 4]) -> bool
     and(is_attribute(a[0]), and(is_attribute(a[1]), second))
 }
 
-// Which feature a code of ESC ` sets; 5 for any other code.
+// Which feature a code of ESC ` sets; 5 for any other code. It is no Option: the definition of the plan hands the 5 on, and `changed` does nothing
+// with it.
+#[tactic(auto, unfolding(rules::specs::Arguments::feature_place))]
 pub fn feature_place(f: u8) -> u8
     ensures { result ≡ feature_place f }
 {
-    if between(0x30, 0x31, f) {
-        return 0;
+    match f {
+        0x30..=0x31 => 0,
+        0x32..=0x35 => 1,
+        0x36..=0x37 | 0x41 => 2,
+        0x38..=0x39 => 3,
+        0x3c..=0x40 => 4,
+        _ => 5,
     }
-    if between(0x32, 0x35, f) {
-        return 1;
-    }
-    if or(between(0x36, 0x37, f), f == 0x41) {
-        return 2;
-    }
-    if between(0x38, 0x39, f) {
-        return 3;
-    }
-    if between(0x3c, 0x40, f) { 4 } else { 5 }
 }
 
 // Each feature from its own list.
+#[tactic(auto, unfolding(rules::specs::Possible::features_ok))]
 fn features_ok(f: [u8; 5]) -> bool
     ensures { result ≡ features_ok 0 f }
 {
-    let look = feature_place(f[2]) == 2;
-    let screen = and(feature_place(f[3]) == 3, feature_place(f[4]) == 4);
-    and(
-        feature_place(f[0]) == 0,
-        and(feature_place(f[1]) == 1, and(look, screen)),
-    )
+    feature_place(f[0]) == 0
+        && feature_place(f[1]) == 1
+        && feature_place(f[2]) == 2
+        && feature_place(f[3]) == 3
+        && feature_place(f[4]) == 4
 }
 
 fn power_of_ten(n: u8) -> u16
@@ -210,10 +218,7 @@ fn digits_ok(most: u8, n: u8, number: u16) -> bool
     requires { most ≤ 3 }
     ensures { result ≡ both (nat_le n most) (nat_lt number (10 ^ n)) }
 {
-    if most < n {
-        return false;
-    }
-    number < power_of_ten(n)
+    n <= most && number < power_of_ten(n)
 }
 
 // At most as many bytes of a text as its slot takes, and these of its kind.
@@ -227,33 +232,25 @@ fn gathered_ok(x: Slot, n: u8, gathered: [u8; 46]) -> bool
 }
 
 // A sequence that some bytes fed from power-on leave under way.
+#[tactic(auto, unfolding(rules::specs::Possible::pending_ok))]
 pub fn pending_ok(p: Pending, gathered: [u8; 46]) -> bool
     ensures { result ≡ pending_ok p gathered }
 {
     match p {
-        Pending::Idle => true,
-        Pending::Escape => true,
-        Pending::Awaits(_) => true,
+        Pending::Idle | Pending::Escape | Pending::Awaits(_) => true,
         Pending::AddressRow(r) => r < 128,
-        Pending::SegmentNumber(n) => n < 128,
-        Pending::SegmentRow(n, r) => and(n < 128, r < 128),
-        Pending::DecimalRow(n, row) => digits_ok(2, n, row as u16),
-        Pending::DecimalColumn(row, n, column) => and(row < 100, digits_ok(3, n, column)),
-        Pending::FieldNumber(n) => n < 128,
-        Pending::Text(x, n) => and(slot_ok(x), gathered_ok(x, n, gathered)),
+        Pending::SegmentNumber(n) | Pending::FieldNumber(n) => n < 128,
+        Pending::SegmentRow(n, r) => n < 128 && r < 128,
+        Pending::DecimalRow(n, row) => digits_ok(2, n, u16::from(row)),
+        Pending::DecimalColumn(row, n, column) => row < 100 && digits_ok(3, n, column),
+        Pending::Text(x, n) => slot_ok(x) && gathered_ok(x, n, gathered),
         Pending::Spoilt(x) => slot_ok(x),
     }
 }
 
-// Bells below 256: a byte always is.
-fn bells_ok(n: u8) -> bool
-    ensures { result ≡ nat_lt n 256 }
-{
-    true
-}
-
 // The attribute remembered: in WY-50 only normal.
-fn remembered_ok(m: Personality, a: u8) -> bool
+#[tactic(auto, unfolding(rules::specs::Possible::remembered_ok))]
+pub fn remembered_ok(m: Personality, a: u8) -> bool
     ensures { result ≡ remembered_ok m a }
 {
     match m {
@@ -262,31 +259,29 @@ fn remembered_ok(m: Personality, a: u8) -> bool
     }
 }
 
-// No tab stop beyond the columns of the page.
+// No tab stop beyond the columns of the page. Every place is looked at, by its index: so the machine tests sixteen at a time. `all` ends early, and
+// tests them one by one: slower.
 fn tabs_ok(tabs: [bool; 132], width: u16) -> bool
     ensures { result ≡ tabs_ok width tabs }
 {
-    let mut i = width as usize;
     let mut none = true;
-    while i < 132 {
-        none = and(none, !tabs[i]);
-        i += 1;
+    for i in usize::from(width)..132 {
+        none &= !tabs[i];
     }
     none
 }
 
+#[tactic(auto, unfolding(rules::specs::Possible::core_ok))]
 pub fn core_ok(core: Core, gathered: [u8; 46]) -> bool
     ensures { result ≡ core_ok core gathered }
 {
-    let screen = core.screen;
-    let pending = core.pending;
-    let personality = core.personality;
-    let remembered = remembered_ok(personality, core.attribute);
-    let sequence = and(remembered, pending_ok(pending, gathered));
-    let rest = and(bells_ok(core.bells), sequence);
-    and(screen_ok(screen), rest)
+    screen_ok(core.screen)
+        && remembered_ok(core.personality, core.attribute)
+        && pending_ok(core.pending, gathered)
 }
 
+// All parts are tested, with `and`, and the arrays are handed on by value, for speed: a chain of `&&` that ends early took half as long again.
+#[tactic(auto, unfolding(rules::specs::Possible::setup_ok))]
 pub fn setup_ok(setup: Setup, width: u16) -> bool
     ensures { result ≡ setup_ok width setup }
 {
@@ -302,6 +297,7 @@ pub fn setup_ok(setup: Setup, width: u16) -> bool
     and(keys_ok(keys), texts)
 }
 
+#[tactic(auto, unfolding(rules::specs::Possible::possible))]
 pub fn possible(s: State) -> bool
     ensures { result ≡ possible s }
 {

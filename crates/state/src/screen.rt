@@ -14,43 +14,44 @@ pub fn width_of(x: Screen) -> u16
 }
 
 // The rows of the active segment: its first, and the one past its last.
+#[tactic(auto, unfolding(rules::specs::State::segment_top))]
 pub fn segment_top(x: Screen) -> u16
     ensures { result ≡ segment_top x }
 {
-    if x.active == 0 {
-        return 0;
+    if x.active == 0 || x.split == 0 {
+        0
+    } else {
+        u16::from(x.split - 1)
     }
-    if x.split == 0 {
-        return 0;
-    }
-    (x.split - 1) as u16
 }
 
+#[tactic(auto, unfolding(rules::specs::State::segment_bottom))]
 pub fn segment_bottom(x: Screen) -> u16
     ensures { result ≡ segment_bottom x }
 {
-    if x.split == 0 {
-        return 24;
+    if x.split != 0 && x.active == 0 {
+        u16::from(x.split - 1)
+    } else {
+        24
     }
-    if x.active == 0 {
-        return (x.split - 1) as u16;
-    }
-    24
 }
 
 // Its first cell, and the one past its last.
+#[tactic(auto, using(crate::proofs::Segments::top_most))]
 pub fn segment_start(x: Screen) -> u16
     ensures { result ≡ segment_start x }
 {
     cells(x.wide, segment_top(x))
 }
 
+#[tactic(auto, using(crate::proofs::Segments::bottom_most))]
 pub fn segment_end(x: Screen) -> u16
     ensures { result ≡ segment_end x }
 {
     cells(x.wide, segment_bottom(x))
 }
 
+#[tactic(auto, unfolding(rules::specs::State::cursor_of))]
 pub fn cursor_of(x: Screen) -> u16
     ensures { result ≡ cursor_of x }
 {
@@ -88,22 +89,19 @@ pub fn text_start(x: Screen, segment: bool) -> u16
     }
 }
 
+#[tactic(auto, unfolding(rules::specs::State::with_cursor))]
 pub fn with_cursor(x: Screen, n: u16) -> Screen
     ensures { result ≡ with_cursor x n }
 {
-    let mut t = x;
     if x.active == 0 {
-        t.cursor0 = n;
-        return t;
+        Screen { cursor0: n, ..x }
+    } else {
+        Screen { cursor1: n, ..x }
     }
-    t.cursor1 = n;
-    t
 }
 
 pub fn activated(x: Screen, n: u8) -> Screen
     ensures { result ≡ activated x n }
 {
-    let mut t = x;
-    t.active = n;
-    t
+    Screen { active: n, ..x }
 }

@@ -5,7 +5,6 @@ ghost use Rattle.rules.specs.Send.{short_command, text_command, command_of};
 ghost use Rattle.rules.specs.Possible.{short_length, narrow_only, replies_on, in_text, place_ok, sending_ok};
 
 use crate::core_parts::is_idle;
-use crate::logic::and;
 use crate::screen::{cursor_of, text_start};
 use crate::width::column_of;
 use rules::{Change, Pending, Place, Screen, Sending, Short};
@@ -13,26 +12,18 @@ use rules::{Change, Pending, Place, Screen, Sending, Short};
 pub fn is_sending(sending: Sending) -> bool
     ensures { result ≡ sends sending }
 {
-    match sending {
-        Sending::Nothing => false,
-        Sending::Short(_, _) => true,
-        Sending::Text {
-            all: _,
-            segment: _,
-            at: _,
-        } => true,
-    }
+    !matches!(sending, Sending::Nothing)
 }
 
 // The send under way after a byte's change.
+#[tactic(auto, unfolding(rules::specs::State::sending_after))]
 pub fn sending_after(x: Change, sending: Sending) -> Sending
     ensures { result ≡ sending_after x sending }
 {
-    match x {
-        Change::Gather(_, _) => sending,
-        Change::Take(_, _) => sending,
-        Change::Set(_) => sending,
-        Change::Send(left) => left,
+    if let Change::Send(left) = x {
+        left
+    } else {
+        sending
     }
 }
 
@@ -67,10 +58,12 @@ pub fn short_command(r: Short) -> u8
 pub fn text_command(all: bool, segment: bool) -> u8
     ensures { result ≡ text_command all segment }
 {
-    if all {
-        return if segment { 0x37 } else { 0x36 };
+    match (all, segment) {
+        (false, false) => 0x34,
+        (false, true) => 0x35,
+        (true, false) => 0x36,
+        (true, true) => 0x37,
     }
-    if segment { 0x35 } else { 0x34 }
 }
 
 pub fn command_of(sending: Sending) -> u8
@@ -79,11 +72,7 @@ pub fn command_of(sending: Sending) -> u8
     match sending {
         Sending::Nothing => 0,
         Sending::Short(r, _) => short_command(r),
-        Sending::Text {
-            all,
-            segment,
-            at: _,
-        } => text_command(all, segment),
+        Sending::Text { all, segment, .. } => text_command(all, segment),
     }
 }
 
@@ -91,54 +80,42 @@ pub fn command_of(sending: Sending) -> u8
 fn narrow_only(r: Short) -> bool
     ensures { result ≡ narrow_only r }
 {
-    match r {
-        Short::Acknowledge => false,
-        Short::Cell => false,
-        Short::Identity => false,
-        Short::Cursor => true,
-        Short::SegmentCursor => true,
-        Short::DecimalCursor => false,
-    }
+    matches!(r, Short::Cursor | Short::SegmentCursor)
 }
 
 fn replies_on(x: Screen, r: Short) -> bool
     ensures { result ≡ replies_on x r }
 {
-    !and(narrow_only(r), x.wide)
+    !(narrow_only(r) && x.wide)
 }
 
 // Cell i is in the text that is sent, and not its first.
 fn in_text(x: Screen, segment: bool, i: u16) -> bool
     ensures { result ≡ in_text x segment i }
 {
-    and(text_start(x, segment) < i, i <= cursor_of(x))
+    text_start(x, segment) < i && i <= cursor_of(x)
 }
 
 // A place of a text but its first: a US stands before a row's first cell.
+#[tactic(auto, unfolding(rules::specs::Possible::place_ok))]
 fn place_ok(x: Screen, segment: bool, at: Place) -> bool
     ensures { result ≡ place_ok x segment at }
 {
     match at {
         Place::Cell(i) => in_text(x, segment, i),
-        Place::Break(i) => and(column_of(x.wide, i) == 0, in_text(x, segment, i)),
+        Place::Break(i) => column_of(x.wide, i) == 0 && in_text(x, segment, i),
         Place::Return => true,
     }
 }
 
 // No sequence is under way, and the send stands at any place of its reply but the first.
+#[tactic(auto, unfolding(rules::specs::Possible::sending_ok))]
 pub fn sending_ok(x: Screen, q: Pending, sending: Sending) -> bool
     ensures { result ≡ sending_ok x q sending }
 {
     match sending {
         Sending::Nothing => true,
-        Sending::Short(r, n) => and(
-            is_idle(q),
-            and(replies_on(x, r), and(1 <= n, n < short_length(r))),
-        ),
-        Sending::Text {
-            all: _,
-            segment,
-            at,
-        } => and(is_idle(q), place_ok(x, segment, at)),
+        Sending::Short(r, n) => { is_idle(q) && replies_on(x, r) && 1 <= n && n < short_length(r) }
+        Sending::Text { segment, at, .. } => is_idle(q) && place_ok(x, segment, at),
     }
 }

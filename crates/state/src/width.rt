@@ -7,6 +7,7 @@ pub const NARROW_CELLS: usize = 1920;
 
 pub const ADDRESSED: u16 = 80;
 
+#[tactic(auto, unfolding(rules::specs::Row::columns))]
 pub fn columns(wide: bool) -> u16
     ensures { result ≡ columns_of wide }
 {
@@ -14,6 +15,7 @@ pub fn columns(wide: bool) -> u16
 }
 
 // How many cells so many rows have. 279 is the most that a screen of whatever numbers asks for.
+#[tactic(auto, unfolding(rules::specs::Row::columns))]
 pub fn cells(wide: bool, rows: u16) -> u16
     requires { rows ≤ 279 }
     ensures { result ≡ rows * columns_of wide }
@@ -22,12 +24,14 @@ pub fn cells(wide: bool, rows: u16) -> u16
 }
 
 // A cell's row and column.
+#[tactic(auto, unfolding(rules::specs::Row::columns))]
 pub fn row_of(wide: bool, at: u16) -> u16
     ensures { result ≡ at / columns_of wide }
 {
     if wide { at / 132 } else { at / 80 }
 }
 
+#[tactic(auto, unfolding(rules::specs::Row::columns))]
 pub fn column_of(wide: bool, at: u16) -> u16
     ensures { result ≡ at % columns_of wide }
 {

@@ -6,26 +6,26 @@
 --     text_sent, text_refused     a text put to the front of the room
 --     unprogrammed, programmed     what a key sends
 --     press_bad, press_locked, press_unknown, press_waits, press_sends, key_size     the key press
---     told_nothing, told_send, told_none, told_byte, past     which command a reply answers
+--     told_nothing, told_send, told_none, told_byte     which command a reply answers
 --     copied_suc       a turn of the loop that copies a text to the front of the room
 -- Assumes nothing.
-use Rattle.std.specs.Prelude.{◌≡◌, ℕ, zero, suc, ◌+◌, ◌-◌, ◌<◌, ◌≤◌, Bool, true, false, eqb, ltb, leb, List, [], ◌∷◌, ◌++◌, length, get_or, take, drop, set, replicate}
+use Rattle.std.specs.Prelude.{◌≡◌, ℕ, zero, suc, ◌+◌, ◌-◌, ◌<◌, ◌≤◌, Bool, true, false, eqb, List, [], ◌∷◌, ◌++◌, length, get_or, take, drop, set, replicate, nat_eq, Result, Ok, Err}
 use mathlib.Core.Path.{refl, sym, ap, ap₂, subst, ◌∙◌}
 use mathlib.Core.Bool.{false≢true}
 use mathlib.Core.List.{append-nil}
+use mathlib.Core.Logic.{◌⊎◌, inl, inr}
 use native.Mathlib.Nat.{le_of_lt, sub-zero}
 use native.Mathlib.Omega.{arith}
 use lib.ListN.{length-append, length-drop, drop_of_length-le}
 use lib.Seq.{take_all, take-nil, take_at, drop_at, drop-drop, drop-cons, set_at, take-suc, append_snoc, length-take-le}
-use borrow.Author.Tests.{eqb-true, eqb-false, ltb-true, ltb-false, leb-true, ne_eqb}
+use borrow.Author.Tests.{eqb-true, eqb-false, le-leb, lt-leb, ne_eqb}
 use Rattle.rules.specs.declared.Answer.{Answer}
-use Rattle.rules.specs.declared.ShortText.{ShortText}
+use Rattle.rules.specs.declared.Text.{Text}
 use Rattle.rules.specs.declared.State.{State}
 use Rattle.rules.specs.declared.Core.{Core}
 use Rattle.rules.specs.declared.Sending.{Sending}
 use Rattle.rules.specs.declared.Personality.{Personality}
 use Rattle.rules.specs.declared.RunResult.{RunResult}
-use Rattle.rules.specs.declared.PressResult.{PressResult}
 use Rattle.rules.specs.Cell.{pick, both, either}
 use Rattle.rules.specs.Change.{within, filled}
 use Rattle.rules.specs.State.{number, page_length, short_bytes, key_place, sends, with_sending}
@@ -330,20 +330,15 @@ one_byte b p s {p'} {w} {w'} {r} h =
 -- ---- the key press
 
 -- a text that was put, and one that does not fit
-pub text_sent : (l w w' : List ℕ) (t : Bool) → t ≡ leb (length l) (length w) → w' ≡ pick t (over l w) w → t ≡ true
-    → KeySent (sending l (length w)) (record { answer = Answer.Done; replied = length l }) w w'
-text_sent l w w' t e r h =
-    let fit : leb (length l) (length w) ≡ true = sym e ∙ h in
-    rw fit (record { answer = refl; replied = refl; room = r ∙ rw h; fits = leb-true _ _ fit })
+module _ (l w : List ℕ) where
+  pub text_sent : {w' : List ℕ} → length l ≤ length w → w' ≡ over l w → KeySent (sending l (length w)) (Ok (length l)) w w'
+  text_sent h r = rw (le-leb _ _ h) (record { answer = refl; done = refl; replied = refl; room = r; fits = h })
 
-pub text_refused : (l w w' : List ℕ) (t : Bool) → t ≡ leb (length l) (length w) → w' ≡ pick t (over l w) w → t ≡ false
-    → KeySent (sending l (length w)) (record { answer = Answer.NoRoom; replied = 0 }) w w'
-text_refused l w w' t e r h =
-    let fit : leb (length l) (length w) ≡ false = sym e ∙ h in
-    rw fit (record { answer = refl; replied = refl; room = r ∙ rw h (over_none w); fits = omega arith })
+  pub text_refused : length w < length l → KeySent (sending l (length w)) (Err Answer.NoRoom) w w
+  text_refused h = rw (lt-leb _ _ h) (record { answer = refl; done = refl; replied = refl; room = over_none w; fits = omega arith })
 
 -- an unprogrammed key, and any other
-module _ (k : ShortText) (v : ℕ) {r : PressResult} {w w' : List ℕ} where
+module _ (k : Text 8) (v : ℕ) {r : Result ℕ Answer} {w w' : List ℕ} where
   pub unprogrammed : k.len ≡ 0 → KeySent (sending (0x01 ∷ v ∷ 0x0d ∷ []) (length w)) r w w' → KeySent (sending (key_sends k v) (length w)) r w w'
   unfolding key_sends
   unprogrammed e h = rw e h
@@ -353,36 +348,36 @@ module _ (k : ShortText) (v : ℕ) {r : PressResult} {w w' : List ℕ} where
   programmed e h = rw (ne_eqb k.len 0 e) h
 
 -- a press that replies nothing
-press_refused : (a : Answer) (w : List ℕ) → KeySent (pressed (number a) []) (record { answer = a; replied = 0 }) w w
-press_refused a w = record { answer = refl; replied = refl; room = over_none w; fits = omega arith }
+press_refused : (a : Answer) (w : List ℕ) → nat_eq (number a) 0 ≡ false → KeySent (pressed (number a) []) (Err a) w w
+press_refused a w n = record { answer = refl; done = sym n; replied = refl; room = over_none w; fits = omega arith }
 
 module _ (p : List ℕ) (s : State) (v : ℕ) (w : List ℕ) where
-  pub press_bad : good p s ≡ false → KeySent (press_rule p s v (length w)) (record { answer = Answer.BadCall; replied = 0 }) w w
+  pub press_bad : good p s ≡ false → KeySent (press_rule p s v (length w)) (Err Answer.BadCall) w w
   unfolding press_rule
-  press_bad g = rw g (press_refused Answer.BadCall w)
+  press_bad g = rw g (press_refused Answer.BadCall w refl)
 
   module _ (g : good p s ≡ true) where
-    pub press_locked : s.core.modes.locked ≡ true → KeySent (press_rule p s v (length w)) (record { answer = Answer.Locked; replied = 0 }) w w
+    pub press_locked : s.core.modes.locked ≡ true → KeySent (press_rule p s v (length w)) (Err Answer.Locked) w w
     unfolding press_rule
-    press_locked l = rw (g, l) (press_refused Answer.Locked w)
+    press_locked l = rw (g, l) (press_refused Answer.Locked w refl)
 
     module _ (l : s.core.modes.locked ≡ false) where
-      pub press_unknown : is_key v ≡ false → KeySent (press_rule p s v (length w)) (record { answer = Answer.BadArgument; replied = 0 }) w w
+      pub press_unknown : is_key v ≡ false → KeySent (press_rule p s v (length w)) (Err Answer.BadArgument) w w
       unfolding press_rule
-      press_unknown i = rw (g, l, i) (press_refused Answer.BadArgument w)
+      press_unknown i = rw (g, l, i) (press_refused Answer.BadArgument w refl)
 
       pub press_waits : is_key v ≡ true → sends s.sending ≡ true
-          → KeySent (press_rule p s v (length w)) (record { answer = Answer.NoRoom; replied = 0 }) w w
+          → KeySent (press_rule p s v (length w)) (Err Answer.NoRoom) w w
       unfolding press_rule
-      press_waits i u = rw (g, l, i, u) (press_refused Answer.NoRoom w)
+      press_waits i u = rw (g, l, i, u) (press_refused Answer.NoRoom w refl)
 
-      pub press_sends : is_key v ≡ true → sends s.sending ≡ false → {k : ShortText} → k ≡ key_at s v → {r : PressResult} {w' : List ℕ}
+      pub press_sends : is_key v ≡ true → sends s.sending ≡ false → {k : Text 8} → k ≡ key_at s v → {r : Result ℕ Answer} {w' : List ℕ}
           → KeySent (sending (key_sends k v) (length w)) r w w' → KeySent (press_rule p s v (length w)) r w w'
       unfolding press_rule
       press_sends i u e h = rw (g, l, i, u, sym e) h
 
 -- a key of a good state holds 8 bytes at most
-pub key_size : (p : List ℕ) (s : State) (v : ℕ) → good p s ≡ true → {k : ShortText} → k ≡ key_at s v → k.len ≤ 8
+pub key_size : (p : List ℕ) (s : State) (v : ℕ) → good p s ≡ true → {k : Text 8} → k ≡ key_at s v → k.len ≤ 8
 unfolding text_ok all_text
 key_size p s v g e =
     rw e (text_parts 0 8 _ _ (texts_at 0 s.setup.keys (key_place v) _ (possible_parts s (good_parts p s g).1).setup.keys refl)).0
@@ -399,17 +394,14 @@ copied_suc d s j hd hs =
 -- ---- which command a reply answers
 
 -- past the test for a count that is 0 or too large
-pub past : (taken n : ℕ) → either (eqb taken 0) (ltb n taken) ≡ false → (0 < taken) × (taken ≤ n)
-past taken n e = (omega (arith, eqb-false taken 0 (either_left _ _ e)), ltb-false n taken (either_right (eqb taken 0) _ e))
-
 past_end : (l : List ℕ) (i : ℕ) → length l ≤ i → get_or l i 0 ≡ 0
 past_end [] i h = refl
 past_end (x ∷ l) zero h = absurd (omega arith)
 past_end (x ∷ l) (suc i) h = past_end l i (omega arith)
 
-none_there : (l : List ℕ) (taken : ℕ) (t : Bool) → eqb taken 0 ≡ t → either t (ltb (length l) taken) ≡ true → 0 ≡ get_or (0 ∷ l) taken 0
-none_there l taken true e h = rw (eqb-true taken 0 e)
-none_there l taken false e h = sym (past_end (0 ∷ l) taken (omega (arith, ltb-true (length l) taken h)))
+none_there : (l : List ℕ) (taken : ℕ) → (taken ≡ 0) ⊎ ((taken ≡ 0 → ⊥) × (length l < taken)) → 0 ≡ get_or (0 ∷ l) taken 0
+none_there l taken (inl e) = rw e
+none_there l taken (inr h) = sym (past_end (0 ∷ l) taken (omega (arith, h.1)))
 
 byte_there : (l : List ℕ) (taken : ℕ) → 0 < taken → get_or l (taken - 1) 0 ≡ get_or (0 ∷ l) taken 0
 byte_there l zero h = absurd (omega arith)
@@ -426,9 +418,9 @@ module _ (y : Sending) (l : List ℕ) (taken replied : ℕ) where
     told_send u = rw (ne_eqb replied 0 n, u)
 
     module _ (u : sends y ≡ false) where
-      pub told_none : either (eqb taken 0) (ltb (length l) taken) ≡ true → 0 ≡ reply_command y l taken replied
+      pub told_none : (taken ≡ 0) ⊎ ((taken ≡ 0 → ⊥) × (length l < taken)) → 0 ≡ reply_command y l taken replied
       unfolding reply_command
-      told_none e = rw (ne_eqb replied 0 n, u) (none_there l taken (eqb taken 0) refl e)
+      told_none e = rw (ne_eqb replied 0 n, u) (none_there l taken e)
 
       pub told_byte : 0 < taken → get_or l (taken - 1) 0 ≡ reply_command y l taken replied
       unfolding reply_command

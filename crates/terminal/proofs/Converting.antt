@@ -1,19 +1,17 @@
 -- The conversion to the other width.
---     Stopped, stops_begin, stops_next, stops_all     tab stops cleared one by one
+--     stops_filled     tab stops cleared
 --     settles_below     the cell that the cursor settles in
 --     on-screen, on_state     the state at the other width
---     turns_refused, long_page, long_target, turned_over     the call, refused and done
+--     turns_refused, bad_target, turned_over     the call, refused and done
 -- Assumes nothing.
-use Rattle.std.specs.Prelude.{◌≡◌, ℕ, suc, ◌+◌, ◌-◌, ◌*◌, ◌<◌, ◌≤◌, Bool, true, false, not, eqb, List, ◌∷◌, ◌++◌, length, get_or, take, drop, set, replicate}
+use Rattle.std.specs.Prelude.{◌≡◌, ℕ, ◌+◌, ◌-◌, ◌*◌, ◌<◌, ◌≤◌, Bool, true, false, not, eqb, List, [], length, take, drop, replicate, nat_eq, Ok, Err}
 use mathlib.Core.Path.{refl, sym, ap, ◌∙◌}
-use mathlib.Core.List.{append-nil, append_assoc}
+use mathlib.Core.List.{append-nil}
 use native.Mathlib.Nat.{zero-mul}
-use native.Mathlib.Numerals.{add-one}
 use native.Mathlib.Omega.{arith}
-use lib.ListN.{length-append, length-replicate, take-append-drop, drop_of_length-le}
-use lib.ListN.{replicate-append-replicate}
-use lib.Seq.{drop-cons, set_at, append_snoc, length-take-le}
-use borrow.Author.Tests.{eqb-true}
+use lib.ListN.{length-take, length-drop, drop_of_length-le}
+use lib.Seq.{drop-drop}
+use borrow.Rule.Slice.PartMut.{put_mid}
 use Rattle.rules.specs.declared.Answer.{Answer}
 use Rattle.rules.specs.declared.Core.{Core}
 use Rattle.rules.specs.declared.State.{State}
@@ -26,8 +24,7 @@ use Rattle.rules.specs.Possible.{good}
 use Rattle.rules.specs.Plan.{unsplit_screen}
 use Rattle.rules.specs.Carry.{landed}
 use Rattle.rules.specs.Convert.{other_width, converted, loses, core_on, stops_within, state_on, unturned, convert_rule}
-use Rattle.rules.proofs.Tests.{both_parts}
-use Rattle.rules.proofs.Kept.{good_parts}
+use Rattle.rules.proofs.Unrevealing.{both_false}
 use Rattle.rules.proofs.Screens.{unsplit_screen_lem}
 use Rattle.rules.proofs.Convert.{home_lands, converts}
 use Rattle.carry.proofs.Settling.{settle_range}
@@ -35,47 +32,13 @@ use Rattle.terminal.specs.Promise.{Turns}
 
 -- ---- tab stops
 
--- those from column w up to i are cleared
-pub record Stopped (w : ℕ) (l t : List Bool) (i : ℕ) : Type 0 where
-  pub from : w ≤ i
-  pub to : i ≤ 132
-  pub stops : t ≡ take w l ++ (replicate (i - w) false ++ drop i l)
-
-module _ (w : ℕ) (l : List Bool) (long : length l ≡ 132) (most : w ≤ 132) where
-  pub stops_begin : Stopped w l l w
-  stops_begin =
-      let e : w - w ≡ 0 = omega arith in
-      record { from = omega arith; to = most; stops = rw e (sym (take-append-drop w l)) }
-
-  cleared : (i : ℕ) → w ≤ i → i < 132
-      → set (take w l ++ (replicate (i - w) false ++ drop i l)) i false ≡ take w l ++ (replicate (i + 1 - w) false ++ drop (i + 1) l)
-  cleared i a b =
-      let front = take w l ++ replicate (i - w) false in
-      let n : length front ≡ i =
-      length-append (take w l) (replicate (i - w) false)
-      ∙ omega (arith, length-take-le w l (omega arith), length-replicate {A = Bool} (i - w) false) in
-      let h : i < length l = omega arith in
-      let k : i - w + 1 ≡ i + 1 - w = omega arith in
-      ap (λ (x : List Bool). set x i false)
-      (sym (append_assoc (take w l) (replicate (i - w) false) (drop i l)) ∙ ap (λ (x : List Bool). front ++ x) (drop-cons l i false h))
-      ∙ set_at front (get_or l i false) (drop (suc i) l) false i n
-      ∙ append_assoc (take w l) (replicate (i - w) false) (false ∷ drop (suc i) l)
-      ∙ ap (λ (x : List Bool). take w l ++ x)
-      (sym (append_snoc (replicate (i - w) false) false (drop (suc i) l))
-      ∙ ap (λ (x : List Bool). x ++ drop (suc i) l) (replicate-append-replicate (i - w) 1 false ∙ ap (λ (j : ℕ). replicate j false) k))
-      ∙ ap (λ (j : ℕ). take w l ++ (replicate (i + 1 - w) false ++ drop j l)) (sym (add-one i))
-
-  pub stops_next : (t : List Bool) (i : ℕ) → Stopped w l t i → i < 132 → Stopped w l (set t i false) (i + 1)
-  stops_next t i x h = record {
-    from = omega (arith, x.from);
-    to = omega arith;
-    stops = ap (λ (y : List Bool). set y i false) x.stops ∙ cleared i x.from h;
-  }
-
-  pub stops_all : (t : List Bool) (i : ℕ) → Stopped w l t i → (i < 132 → ⊥) → t ≡ stops_within w l
-  stops_all t i x h =
-      let e : i ≡ 132 = omega (arith, x.to, h) in
-      x.stops ∙ rw (e, drop_of_length-le l {i = 132} (omega arith)) (ap (λ (y : List Bool). take w l ++ y) (append-nil (replicate (132 - w) false)))
+-- those from column w on cleared
+pub stops_filled : (w : ℕ) (l : List Bool) {v : List Bool} → length l ≡ 132 → w ≤ 132 → v ≡ replicate (length (take (132 - w) (drop w l))) false
+    → put_mid w (132 - w) l v ≡ stops_within w l
+stops_filled w l {v} long most e =
+    let n : length (take (132 - w) (drop w l)) ≡ 132 - w = omega (arith, length-take (132 - w) (drop w l), length-drop w l) in
+    let z : drop (w + (132 - w)) l ≡ [] = drop_of_length-le l {i = w + (132 - w)} (omega arith) in
+    rw (drop-drop (132 - w) w l, z, append-nil v, e, n)
 
 pub columns_most : (wide : Bool) → columns wide ≤ 132
 unfolding columns
@@ -125,22 +88,19 @@ on_state s p c t e f = rw (e, f)
 -- ---- the call
 
 module _ (p : List ℕ) (s : State) (t : List ℕ) where
-  pub turns_refused : (a : Answer) → convert_rule p s t ≡ unturned (number a) t s → Turns (convert_rule p s t) (record { answer = a; state = s }) t
-  turns_refused a e = rw e (record { answer = refl; state = refl; target = refl })
+  pub turns_refused : (a : Answer) → nat_eq (number a) 0 ≡ false → convert_rule p s t ≡ unturned (number a) t s
+      → Turns s (convert_rule p s t) (Err a) t
+  turns_refused a n e = rw e (record { answer = refl; done = sym n; state = refl; target = refl })
 
-  module _ (g : both (good p s) (eqb (length t) (height * other_width s.core.screen.wide)) ≡ true) where
-    pub long_page : length p ≡ height * columns s.core.screen.wide
-    long_page = (good_parts p s (both_parts (good p s) _ g).0).0
+  pub bad_target : eqb (length t) (height * other_width s.core.screen.wide) ≡ false
+      → both (good p s) (eqb (length t) (height * other_width s.core.screen.wide)) ≡ false
+  bad_target e = rw e (both_false (good p s))
 
-    pub long_target : length t ≡ height * other_width s.core.screen.wide
-    long_target = eqb-true (length t) (height * other_width s.core.screen.wide) (both_parts (good p s) _ g).1
-
-  pub turned_over : (q : List ℕ) (u : State) → both (good p s) (eqb (length t) (height * other_width s.core.screen.wide)) ≡ true
+  pub turned_over : (q : List ℕ) (u : State) → good p s ≡ true → length t ≡ height * other_width s.core.screen.wide
       → sends s.sending ≡ false
       → loses (columns s.core.screen.wide) (other_width s.core.screen.wide) 0 p ≡ false → q ≡ converted s.core.screen.wide p
       → u ≡ state_on q s
-      → Turns (convert_rule p s t) (record { answer = Answer.Done; state = u }) q
-  turned_over q u g n k e f =
-      let r = both_parts (good p s) _ g in
-      rw (converts p s t r.0 (long_target g) n k)
-      (record { answer = refl; state = f ∙ ap (λ (l : List ℕ). state_on l s) e; target = e })
+      → Turns s (convert_rule p s t) (Ok u) q
+  turned_over q u g l n k e f =
+      rw (converts p s t g l n k)
+      (record { answer = refl; done = refl; state = f ∙ ap (λ (l : List ℕ). state_on l s) e; target = e })

@@ -1,6 +1,7 @@
 -- Demand 3 of the code: what calls whose promises hold give is what the rules give, so two such terminals are indistinguishable.
 -- Assumes nothing.
 use Rattle.std.specs.Prelude.{◌≡◌, ℕ, List, length, take}
+use Rattle.std.specs.Result.{result_unwrap_or}
 use mathlib.Core.Path.{refl, ap, subst₂}
 use lib.Seq.{take-append_seam}
 use Rattle.rules.specs.declared.State.{State}
@@ -21,7 +22,8 @@ made_is {p} {p'} {s} (stepped {b = b} {w = w} {w' = w'} {r = r} h) =
     cc (h.answer, h.taken, h.state, h.replied, h.page, front _ w w' r.replied h.replied h.room)
 made_is {p} {p'} {s} (ran {l = l} {w = w} {w' = w'} {r = r} h) =
     cc (h.answer, h.taken, h.replied, h.refused, h.rest, h.state, h.page, front _ w w' r.replied h.replied h.room)
-made_is {p} {p'} {s} (sent {v = v} {w = w} {w' = w'} {r = r} h) = cc (h.answer, h.replied, front _ w w' r.replied h.replied h.room)
+made_is {p} {p'} {s} (sent {v = v} {w = w} {w' = w'} {r = r} h) =
+    cc (h.answer, h.replied, front _ w w' (result_unwrap_or r 0) h.replied h.room)
 
 -- calls whose promises hold give what the rules give
 pub performed_is : {p : List ℕ} {s : State} {cs : List Call} {r : Played} → Performed p s cs r → play cs p s ≡ r

@@ -3,14 +3,15 @@
 --     step_listed, run_listed, rows_listed           a list that agrees
 --     beside_listed                                  such a list is kept beside the page
 --     next_unsuited, next_suited, beside_suited, rows_suited     a list that agrees, or none
---     rebuilt_all, rebuilt_none                      the rebuild
+--     no_list, no_good, not_rebuilt, rebuilt_all     the rebuild
+--     long_page                                      a good page's length
 -- Assumes nothing.
-use Rattle.std.specs.Prelude.{◌≡◌, ℕ, Bool, true, false, eqb, List, [], ◌∷◌, length}
+use Rattle.std.specs.Prelude.{◌≡◌, ℕ, Bool, true, false, eqb, List, [], ◌∷◌, length, Ok, Err}
 use mathlib.Core.Path.{refl, sym, ap, ◌∙◌}
 use mathlib.Core.Bool.{false≢true}
 use mathlib.Core.Logic.{inl, inr}
 use native.Mathlib.Omega.{arith}
-use borrow.Author.Tests.{eqb-true, ne_eqb}
+use borrow.Author.Tests.{eqb-true, eq-eqb, ne_eqb}
 use Rattle.rules.specs.declared.Answer.{Answer}
 use Rattle.rules.specs.declared.State.{State}
 use Rattle.rules.specs.declared.StepResult.{StepResult}
@@ -25,10 +26,11 @@ use Rattle.rules.specs.Next.{next_rule}
 use Rattle.rules.specs.RowList.{Beside, rows_of, agrees}
 use Rattle.rules.specs.RowCalls.{step_rows_rule, run_rows_rule, suits, next_rows_rule, rows_after, can_rebuild, rebuild_answer, rebuilt}
 use Rattle.rules.proofs.Tests.{both_parts, both_true}
+use Rattle.rules.proofs.Unrevealing.{both_false}
 use Rattle.rules.proofs.Kept.{good_parts}
 use Rattle.rules.proofs.RowSteps.{same_is, length_list, disagreeing}
 use Rattle.page.proofs.RowList.{listed}
-use Rattle.terminal.specs.Promise.{Stepped, RunDone}
+use Rattle.terminal.specs.Promise.{Stepped, RunDone, Rebuilt}
 use Rattle.terminal.proofs.Carrying.{over_none}
 use Rattle.terminal.proofs.Calls.{nothing_taken, step_refused, run_refused}
 
@@ -159,15 +161,21 @@ module _ (p l : List ℕ) (s : State) (fine : both (good p s) (suits l p s) ≡ 
 
 -- ---- the rebuild
 
-module _ (p l : List ℕ) (s : State) {t : Bool} (e : t ≡ can_rebuild p l s) where
-  pub rebuilt_none : t ≡ false → (7 ≡ rebuild_answer p l s) × (l ≡ rebuilt p l s)
-  rebuilt_none h = rw (sym e ∙ h) (refl, refl)
-
-  pub rebuilt_all : t ≡ true → {l' : List ℕ} → l' ≡ rows_of p s → (0 ≡ rebuild_answer p l s) × (l' ≡ rebuilt p l s)
-  rebuilt_all h k = rw (sym e ∙ h) (refl, k)
-
-  pub can_rebuild_lem : t ≡ true → (length p ≡ page_length s.core.screen) × (length l ≡ 48)
+module _ (p l : List ℕ) (s : State) where
+  pub no_list : (length l ≡ 48 → ⊥) → can_rebuild p l s ≡ false
   unfolding can_rebuild
-  can_rebuild_lem h =
-      let r = both_parts (eqb (length l) 48) (good p s) (sym e ∙ h) in
-      ((good_parts p s r.1).0, eqb-true (length l) 48 r.0)
+  no_list h = rw (ne_eqb (length l) 48 h)
+
+  pub no_good : good p s ≡ false → can_rebuild p l s ≡ false
+  unfolding can_rebuild
+  no_good h = rw h (both_false (eqb (length l) 48))
+
+  pub not_rebuilt : can_rebuild p l s ≡ false → Rebuilt (rebuild_answer p l s) (Err Answer.BadCall) × (l ≡ rebuilt p l s)
+  not_rebuilt e = rw e (record { answer = refl; done = refl }, refl)
+
+  pub rebuilt_all : length l ≡ 48 → good p s ≡ true → {l' : List ℕ} → l' ≡ rows_of p s → Rebuilt (rebuild_answer p l s) (Ok tt) × (l' ≡ rebuilt p l s)
+  unfolding can_rebuild
+  rebuilt_all h g k = rw (eq-eqb (length l) 48 h, g) (record { answer = refl; done = refl }, k)
+
+pub long_page : (p : List ℕ) (s : State) → good p s ≡ true → length p ≡ page_length s.core.screen
+long_page p s g = (good_parts p s g).0

@@ -20,7 +20,7 @@ row_made_is (list_ran {w = w} {w' = w'} {r = r} h e) =
     cc (h.answer, h.taken, h.replied, h.refused, h.rest, h.state, h.page, front _ w w' r.replied h.replied h.room, e)
 row_made_is (heard {w = w} {w' = w'} {r = r} h e) =
     cc (h.answer, h.taken, h.replied, h.refused, h.rest, h.state, h.page, front _ w w' r.replied h.replied h.room, e)
-row_made_is (rebuilt_rows a h e) = cc (h, e)
+row_made_is (rebuilt_rows h e) = cc (h.answer, e)
 
 row_performed_is : {x : Session} {cs : List RowCall} {r : RowPlayed} → RowPerformed x cs r → row_play cs x ≡ r
 unfolding row_play

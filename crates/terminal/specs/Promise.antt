@@ -1,16 +1,17 @@
 -- What the public calls promise: every field of the result, every cell of the page and every byte of the room are those of the rules.
-use Rattle.std.specs.Prelude.{◌≡◌, ℕ, ◌≤◌, List, [], length, drop, nat_le}
+use Rattle.std.specs.Prelude.{◌≡◌, ℕ, ◌≤◌, List, [], length, drop, nat_le, nat_eq, Result, Ok, Err, is_ok}
+use Rattle.std.specs.Result.{result_unwrap_or}
+use Rattle.rules.specs.declared.Answer.{Answer}
 use Rattle.rules.specs.declared.PowerOn.{PowerOn}
 use Rattle.rules.specs.declared.StepResult.{StepResult}
 use Rattle.rules.specs.declared.RunResult.{RunResult}
-use Rattle.rules.specs.declared.PressResult.{PressResult}
+use Rattle.rules.specs.declared.State.{State}
 use Rattle.rules.specs.Cell.{pick}
 use Rattle.rules.specs.State.{number}
 use Rattle.rules.specs.Step.{Outcome}
 use Rattle.rules.specs.Calls.{Ran, Pressed, pressed}
 use Rattle.rules.specs.Room.{over}
 use Rattle.rules.specs.Convert.{Turned}
-use Rattle.terminal.specs.declared.width.ConvertResult.{ConvertResult}
 
 -- p is the page after the call
 pub record PoweredOn (o : Outcome) (r : PowerOn) (p : List ℕ) : Type 0 where
@@ -42,18 +43,31 @@ pub record RunDone (o : Ran) (r : RunResult) (l p w w' : List ℕ) : Type 0 wher
   pub fits : r.replied ≤ length w
   pub within : r.taken ≤ length l
 
+-- the number of the answer of a call that gives a value or refuses
+abbrev pub answer_of : {T : Type 0} → Result T Answer → ℕ
+answer_of (Ok x) = 0
+answer_of (Err a) = number a
+
 -- a press that sends a text, or 6
 abbrev pub sending : List ℕ → ℕ → Pressed
 sending l room = pick (nat_le (length l) room) (pressed 0 l) (pressed 6 [])
 
-pub record KeySent (o : Pressed) (r : PressResult) (w w' : List ℕ) : Type 0 where
-  pub answer : number r.answer ≡ o.answer
-  pub replied : r.replied ≡ length o.reply
+-- r is how many bytes were replied, or why none were
+pub record KeySent (o : Pressed) (r : Result ℕ Answer) (w w' : List ℕ) : Type 0 where
+  pub answer : answer_of r ≡ o.answer
+  pub done : is_ok r ≡ nat_eq o.answer 0
+  pub replied : result_unwrap_or r 0 ≡ length o.reply
   pub room : w' ≡ over o.reply w
-  pub fits : r.replied ≤ length w
+  pub fits : result_unwrap_or r 0 ≤ length w
 
--- t is the target after the call
-pub record Turns (o : Turned) (r : ConvertResult) (t : List ℕ) : Type 0 where
-  pub answer : number r.answer ≡ o.answer
-  pub state : r.state ≡ o.state
+-- r is the state on the target, or why there is none; s is the state before, which is then left, and t the target after the call
+pub record Turns (s : State) (o : Turned) (r : Result State Answer) (t : List ℕ) : Type 0 where
+  pub answer : answer_of r ≡ o.answer
+  pub done : is_ok r ≡ nat_eq o.answer 0
+  pub state : result_unwrap_or r s ≡ o.state
   pub target : t ≡ o.target
+
+-- a list that was made anew, or not
+pub record Rebuilt (o : ℕ) (r : Result (Unit {0}) Answer) : Type 0 where
+  pub answer : answer_of r ≡ o
+  pub done : is_ok r ≡ nat_eq o 0

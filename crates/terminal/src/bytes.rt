@@ -13,7 +13,7 @@ ghost use Rattle.rules.specs.Calls.{refusal};
 ghost use Rattle.rules.specs.Next.{is_event};
 ghost use Rattle.rules.specs.declared.Answer.TheVariants as Answer;
 ghost use Rattle.carry.specs.Went.{Went};
-ghost use Rattle.terminal.specs.Loop.{keeps_setup, is_nothing, state_with, call_to};
+ghost use Rattle.terminal.specs.Loop.{is_nothing, state_with, call_to};
 ghost use Rattle.terminal.specs.Promise.{RunDone};
 ghost use Rattle.terminal.specs.Rows.{closed_none, Behind};
 
@@ -25,24 +25,13 @@ use page::rows::rebuild;
 use page::text::Sent;
 use rules::{Answer, Change, Core, RunResult, Sending, Setup, SetupChange, State};
 use state::core_parts::awaiting;
-use state::logic::{and, or};
 use state::sending::{is_sending, sending_after};
 use state::setup::{gathered_after, setup_after};
-use state::width::columns;
 
 fn is_no_room(a: Answer) -> bool
     ensures { result ≡ (number a == 6) }
 {
-    match a {
-        Answer::Done => false,
-        Answer::HighByte => false,
-        Answer::Unknown => false,
-        Answer::BadArgument => false,
-        Answer::Barred => false,
-        Answer::NoRoom => true,
-        Answer::BadCall => false,
-        Answer::Locked => false,
-    }
+    matches!(a, Answer::NoRoom)
 }
 
 // 1 for an answer from 1 to 4.
@@ -50,36 +39,15 @@ fn refusals(a: Answer) -> usize
     ensures { result ≡ refusal (number a) }
 {
     match a {
-        Answer::Done => 0,
-        Answer::HighByte => 1,
-        Answer::Unknown => 1,
-        Answer::BadArgument => 1,
-        Answer::Barred => 1,
-        Answer::NoRoom => 0,
-        Answer::BadCall => 0,
-        Answer::Locked => 0,
-    }
-}
-
-fn is_done(a: Answer) -> bool
-    ensures { result ≡ (number a == 0) }
-{
-    match a {
-        Answer::Done => true,
-        Answer::HighByte => false,
-        Answer::Unknown => false,
-        Answer::BadArgument => false,
-        Answer::Barred => false,
-        Answer::NoRoom => false,
-        Answer::BadCall => false,
-        Answer::Locked => false,
+        Answer::HighByte | Answer::Unknown | Answer::BadArgument | Answer::Barred => 1,
+        _ => 0,
     }
 }
 
 fn is_event(a: Answer, replied: usize) -> bool
     ensures { result ≡ is_event (number a) replied }
 {
-    !and(is_done(a), replied == 0)
+    !(matches!(a, Answer::Done) && replied == 0)
 }
 
 // What a loop answers that ends behind a byte.
@@ -89,27 +57,12 @@ fn answer_to(stop: bool, a: Answer) -> Answer
     if stop { a } else { Answer::Done }
 }
 
-fn keeps_setup(x: SetupChange) -> bool
-    ensures { result ≡ keeps_setup x }
-{
-    match x {
-        SetupChange::Nothing => true,
-        SetupChange::Tab(_, _) => false,
-        SetupChange::ClearTabs => false,
-        SetupChange::Attribute(_, _) => false,
-        SetupChange::Feature(_, _) => false,
-        SetupChange::HideLine => false,
-        SetupChange::Wish(_) => false,
-    }
-}
-
 fn is_nothing(x: Change) -> bool
     ensures { result ≡ is_nothing x }
 {
     match x {
-        Change::Gather(_, _) => false,
-        Change::Take(_, _) => false,
-        Change::Set(d) => keeps_setup(d),
+        Change::Gather(_, _) | Change::Take(_, _) => false,
+        Change::Set(d) => matches!(d, SetupChange::Nothing),
         Change::Send(s) => !is_sending(s),
     }
 }
@@ -141,6 +94,7 @@ fn resume(page: &[u16], core: Core, sending: Sending, reply: &mut [u8]) -> Sent
     send(page, core, sending, reply)
 }
 
+// The parts one by one, and not a state: it would be copied once more.
 fn finished(
     answer: Answer,
     taken: usize,
@@ -160,17 +114,17 @@ fn finished(
     } }
 {
     let state = State {
-        core: core,
-        sending: sending,
-        gathered: gathered,
-        setup: setup,
+        core,
+        sending,
+        gathered,
+        setup,
     };
     RunResult {
-        answer: answer,
-        taken: taken,
-        replied: replied,
-        refused: refused,
-        state: state,
+        answer,
+        taken,
+        replied,
+        refused,
+        state,
     }
 }
 
@@ -180,14 +134,13 @@ fn follow_path(rows: &mut [u16], page: &[u16], wide: bool, protect: bool, writes
         × Behind (closed_none same protect writes) (columns wide) (guarded_at protect page.now) rows.old }
     ensures { Beside (columns wide) (guarded_at protect page.now) rows.new }
 {
-    if rows.len() == 0 {
+    if rows.is_empty() {
         return;
     }
-    if or(same, !and(protect, writes)) {
+    if same || !protect || !writes {
         return;
     }
-    let width = columns(wide);
-    rebuild(rows, page, width as usize, protect);
+    rebuild(rows, page, wide, protect);
 }
 
 // The run over many bytes on a good page and state, beside a row list or none: a send under way goes on first; if the run is to stop at an event,
@@ -212,17 +165,19 @@ pub(crate) fn run_beside(
     let mut u = state.setup;
     let sending = state.sending;
     let under = is_sending(sending);
-    if and(under, reply.len() == 0) {
+    if under && reply.is_empty() {
         return finished(no_room(input.len()), 0, 0, 0, c, sending, g, u);
     }
     let sent = resume(page, c, sending, reply);
     let rest = sent.left;
-    if or(is_sending(rest), and(stop, under)) {
+    let ends = stop && under;
+    if is_sending(rest) || ends {
         return finished(Answer::Done, 0, sent.replied, 0, c, rest, g, u);
     }
     let mut taken = 0;
     let mut replied = sent.replied;
     let mut refused = 0;
+    // `taken` moves by what each part took: no `for` over the bytes
     while taken < input.len() {
         let fast = fast_path(page, c, input, taken, stop);
         let same = fast.taken == taken;
@@ -271,7 +226,7 @@ pub(crate) fn run_beside(
         taken += 1;
         replied += t.replied;
         refused += refusals(a);
-        let event = and(stop, is_event(a, t.replied));
+        let event = stop && is_event(a, t.replied);
         let x = t.change;
         if is_nothing(x) {
             if event {
@@ -284,7 +239,7 @@ pub(crate) fn run_beside(
         let h = gathered_after(x, g);
         g = h;
         let left = sending_after(x, Sending::Nothing);
-        if or(event, is_sending(left)) {
+        if event || is_sending(left) {
             return finished(answer_to(stop, a), taken, replied, refused, c, left, g, u);
         }
     }

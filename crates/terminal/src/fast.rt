@@ -24,7 +24,6 @@ use state::core_parts::{idle, with_screen};
 use state::screen::{
     cursor_of, segment_bottom, segment_end, segment_start, segment_top, with_cursor,
 };
-use state::width::columns;
 
 // What the fast path goes by and does not change: the modes, the width, what the number of a text cell has beside its code, and the segment's cells
 // and rows.
@@ -62,8 +61,7 @@ fn escape(page: &mut [u16], ground: Ground, at: usize, input: &[u8], i: usize, s
     ensures { Passes ground input.now at i page.old result.at result.taken page.new result.refused
         × (stop ≡ true → result.refused ≡ 0) }
 {
-    let k = address(page, ground, input, i);
-    if k < ground.end {
+    if let Some(k) = address(page, ground, input, i) {
         return Passed {
             at: k,
             taken: i + 4,
@@ -72,28 +70,26 @@ fn escape(page: &mut [u16], ground: Ground, at: usize, input: &[u8], i: usize, s
     }
     if is_outside(ground, input, i, stop) {
         return Passed {
-            at: at,
+            at,
             taken: i + 4,
             refused: 1,
         };
     }
     if input.len() <= i + 1 {
         return Passed {
-            at: at,
+            at,
             taken: i,
             refused: 0,
         };
     }
-    let act = edit(page, ground, at, input[i + 1]);
-    if ground.end <= act.at {
+    let Some(act) = edit(page, ground, at, input[i + 1]) else {
         return Passed {
-            at: at,
+            at,
             taken: i,
             refused: 0,
         };
-    }
-    let w = act.write;
-    write(page, columns(ground.wide) as usize, ground.protect, w);
+    };
+    write(page, ground.wide, ground.protect, act.write);
     Passed {
         at: act.at,
         taken: i + 2,
@@ -107,24 +103,16 @@ fn go(page: &mut [u16], ground: Ground, at: usize, input: &[u8], i: usize) -> Re
     ensures { Passes ground input.now at i page.old result.at result.taken page.new 0 }
 {
     let b = input[i];
-    let m = open_goal(page, ground, at, b);
-    if m < ground.end {
+    if let Some(k) = open_goal(page, ground, at, b) {
         return Reached {
-            at: m,
+            at: k,
             taken: i + 1,
         };
     }
-    let k = roll(ground, at, b);
-    if ground.end <= k {
-        return Reached { at: at, taken: i };
-    }
-    shift_rows(
-        page,
-        columns(ground.wide) as usize,
-        false,
-        ground.top,
-        ground.bottom,
-    );
+    let Some(k) = roll(ground, at, b) else {
+        return Reached { at, taken: i };
+    };
+    shift_rows(page, ground.wide, false, ground.top, ground.bottom);
     Reached {
         at: k,
         taken: i + 1,
@@ -162,15 +150,16 @@ fn pass(
     let mut at = first;
     let mut i = from;
     let mut refused = 0;
+    // `i` moves by what text, a move or an edit took: no `for`
     while i < input.len() {
         let text = put(page, ground, at, input, i);
         at = text.at;
         i = text.taken;
         if input.len() <= i {
             return Passed {
-                at: at,
+                at,
                 taken: i,
-                refused: refused,
+                refused,
             };
         }
         let next = turn(page, ground, at, input, i, stop);
@@ -179,16 +168,16 @@ fn pass(
             return Passed {
                 at: next.at,
                 taken: next.taken,
-                refused: refused,
+                refused,
             };
         }
         at = next.at;
         i = next.taken;
     }
     Passed {
-        at: at,
+        at,
         taken: i,
-        refused: refused,
+        refused,
     }
 }
 

@@ -22,10 +22,10 @@ fn quiet(answer: Answer, core: Core, change: Change) -> CoreResult
     ensures { (p w : List ℕ) → Carried (effect (number answer) core change p []) result p w w }
 {
     CoreResult {
-        answer: answer,
+        answer,
         replied: 0,
-        core: core,
-        change: change,
+        core,
+        change,
     }
 }
 

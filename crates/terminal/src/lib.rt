@@ -13,7 +13,7 @@ mod width; // the state at the other width
 ghost use Rattle.std.specs.Prelude.{◌≡◌, true, length, drop};
 ghost use Rattle.rules.specs.Cell.{both};
 ghost use Rattle.rules.specs.Search.{guarded_at};
-ghost use Rattle.rules.specs.State.{number, width_of};
+ghost use Rattle.rules.specs.State.{width_of};
 ghost use Rattle.rules.specs.Possible.{good};
 ghost use Rattle.rules.specs.Step.{step_rule};
 ghost use Rattle.rules.specs.Calls.{power_on_rule, run_rule, press_rule};
@@ -22,36 +22,35 @@ ghost use Rattle.rules.specs.Convert.{convert_rule};
 ghost use Rattle.rules.specs.Next.{reply_command};
 ghost use Rattle.rules.specs.RowCalls.{step_rows_rule, run_rows_rule, suits, next_rows_rule, rows_after, rebuild_answer, rebuilt};
 ghost use Rattle.rules.specs.declared.Answer.TheVariants as Answer;
-ghost use Rattle.terminal.specs.Promise.{PoweredOn, Stepped, RunDone, KeySent, Turns};
+ghost use Rattle.terminal.specs.Promise.{PoweredOn, Stepped, RunDone, KeySent, Turns, Rebuilt};
 
 use bytes::run_beside;
 use key::press_key;
 use page::cell::NULL;
-pub use page::cell::{attribute_of, code_of, is_protected, kind_of, sent_code};
+pub use page::cell::{Kind, attribute_of, code_of, is_protected, kind_of, sent_code};
 use page::change::fill_cells;
 use page::convert::{convert_page, loses_cells};
 use page::rows::{is_row_list, rebuild};
-use rules::{Answer, Personality, PowerOn, PressResult, RunResult, Sending, State, StepResult};
+use rules::{Answer, Personality, PowerOn, RunResult, Sending, State, StepResult};
 pub use state::answer_number;
 pub use state::core_parts::is_idle;
 use state::keys::key_at;
-use state::logic::{and, or};
 use state::possible::possible;
 use state::power_on_state;
-use state::screen::width_of;
 use state::sending::command_of;
 pub use state::sending::{is_sending, short_command, text_command};
 use state::texts::is_key;
 use state::width::{NARROW_CELLS, cells};
-pub use width::ConvertResult;
 use width::state_on;
+
+// PowerOn, StepResult and RunResult have a state, and the last two counts, whatever they answer (document 01): no Result.
 
 // A page of the state's own length, and a possible state.
 fn is_good(page: &[u16], state: State) -> bool
     ensures { result ≡ good page.now state }
 {
     let n = cells(state.core.screen.wide, 24);
-    and(page.len() == n as usize, possible(state))
+    page.len() == n as usize && possible(state)
 }
 
 // All cells 0, and the power-on state of a personality. Ruled out: one that clears a page of the wrong length, or leaves a cell of the right one.
@@ -63,12 +62,12 @@ pub fn power_on(page: &mut [u16], personality: Personality) -> PowerOn
         fill_cells(page, false, 0, NARROW_CELLS, NULL);
         return PowerOn {
             answer: Answer::Done,
-            state: state,
+            state,
         };
     }
     PowerOn {
         answer: Answer::BadCall,
-        state: state,
+        state,
     }
 }
 
@@ -81,7 +80,7 @@ fn refused(state: State) -> RunResult
         taken: 0,
         replied: 0,
         refused: 0,
-        state: state,
+        state,
     }
 }
 
@@ -104,7 +103,7 @@ fn step_beside(
     let answer = t.answer;
     let next = t.state;
     StepResult {
-        answer: answer,
+        answer,
         taken: t.taken == 1,
         replied: t.replied,
         state: next,
@@ -121,7 +120,7 @@ pub fn step(page: &mut [u16], state: State, byte: u8, reply: &mut [u8]) -> StepR
             answer: Answer::BadCall,
             taken: false,
             replied: 0,
-            state: state,
+            state,
         };
     }
     let mut none: [u16; 0] = [0; 0];
@@ -147,8 +146,7 @@ fn is_listed(page: &[u16], rows: &[u16], state: State) -> bool
     if !is_good(page, state) {
         return false;
     }
-    let width = width_of(state.core.screen);
-    is_row_list(rows, page, width as usize, state.core.modes.protect)
+    is_row_list(rows, page, state.core.screen.wide, state.core.modes.protect)
 }
 
 // The single step with a row list. Ruled out: one that takes a list that disagrees, or leaves one that does.
@@ -168,7 +166,7 @@ pub fn step_rows(
             answer: Answer::BadCall,
             taken: false,
             replied: 0,
-            state: state,
+            state,
         };
     }
     step_beside(page, rows, state, byte, reply)
@@ -196,10 +194,11 @@ pub fn run_rows(
 fn is_suited(page: &[u16], rows: &[u16], state: State) -> bool
     ensures { result ≡ both (good page.now state) (suits rows.now page.now state) }
 {
-    if rows.len() == 0 {
-        return is_good(page, state);
+    if rows.is_empty() {
+        is_good(page, state)
+    } else {
+        is_listed(page, rows, state)
     }
-    is_listed(page, rows, state)
 }
 
 // The run up to the first event, with a row list or an empty one. Ruled out: one that goes on past a refusal or a reply, or stops elsewhere.
@@ -231,23 +230,21 @@ pub fn reply_command(sending: Sending, input: &[u8], taken: usize, replied: usiz
     if is_sending(sending) {
         return command_of(sending);
     }
-    if or(taken == 0, input.len() < taken) {
+    if taken == 0 || input.len() < taken {
         return 0;
     }
     input[taken - 1]
 }
 
 // The row list made anew, whatever stood there. Ruled out: one that writes to a list of the wrong length.
-pub fn rebuild_rows(page: &[u16], rows: &mut [u16], state: State) -> Answer
-    ensures { (number result ≡ rebuild_answer page.now rows.old state)
-        × (rows.new ≡ rebuilt page.now rows.old state) }
+pub fn rebuild_rows(page: &[u16], rows: &mut [u16], state: State) -> Result<(), Answer>
+    ensures { Rebuilt (rebuild_answer page.now rows.old state) result × (rows.new ≡ rebuilt page.now rows.old state) }
 {
-    if !and(rows.len() == 48, is_good(page, state)) {
-        return Answer::BadCall;
+    if rows.len() != 48 || !is_good(page, state) {
+        return Err(Answer::BadCall);
     }
-    let width = width_of(state.core.screen);
-    rebuild(rows, page, width as usize, state.core.modes.protect);
-    Answer::Done
+    rebuild(rows, page, state.core.screen.wide, state.core.modes.protect);
+    Ok(())
 }
 
 // The bytes that a run did not take, as that part of the input; past its end there are none. Ruled out: one that hands back none, or all
@@ -262,70 +259,42 @@ pub fn rest(input: &[u8], taken: usize) -> &[u8]
     &input[taken..]
 }
 
-// The key press. Ruled out: one that works while the keyboard is locked or a send is under way, or sends the bytes of the key beside.
-pub fn press(page: &[u16], state: State, key: u8, reply: &mut [u8]) -> PressResult
+// The key press: how many bytes it replied. Ruled out: one that works while the keyboard is locked or a send is under way, or sends the bytes of the
+// key beside.
+pub fn press(page: &[u16], state: State, key: u8, reply: &mut [u8]) -> Result<usize, Answer>
     ensures { KeySent (press_rule page.now state key (length reply.old)) result reply.old reply.new }
 {
     if !is_good(page, state) {
-        return PressResult {
-            answer: Answer::BadCall,
-            replied: 0,
-        };
+        return Err(Answer::BadCall);
     }
     if state.core.modes.locked {
-        return PressResult {
-            answer: Answer::Locked,
-            replied: 0,
-        };
+        return Err(Answer::Locked);
     }
     if !is_key(key) {
-        return PressResult {
-            answer: Answer::BadArgument,
-            replied: 0,
-        };
+        return Err(Answer::BadArgument);
     }
-    let sending = state.sending;
-    if is_sending(sending) {
-        return PressResult {
-            answer: Answer::NoRoom,
-            replied: 0,
-        };
+    if is_sending(state.sending) {
+        return Err(Answer::NoRoom);
     }
-    let setup = state.setup;
-    let keys = setup.keys;
-    press_key(key_at(keys, key), key, reply)
+    press_key(key_at(state.setup.keys, key), key, reply)
 }
 
 // The conversion to the other width: the page's cells in the target, and the state there. Ruled out: one that drops a written cell, looks at the
 // wish, keeps the split, or writes to the target and then refuses.
-pub fn convert(page: &[u16], state: State, target: &mut [u16]) -> ConvertResult
-    ensures { Turns (convert_rule page.now state target.old) result target.new }
+pub fn convert(page: &[u16], state: State, target: &mut [u16]) -> Result<State, Answer>
+    ensures { Turns state (convert_rule page.now state target.old) result target.new }
 {
     let wide = state.core.screen.wide;
     let n = cells(!wide, 24);
-    if !and(is_good(page, state), target.len() == n as usize) {
-        return ConvertResult {
-            answer: Answer::BadCall,
-            state: state,
-        };
+    if !is_good(page, state) || target.len() != n as usize {
+        return Err(Answer::BadCall);
     }
-    let sending = state.sending;
-    if is_sending(sending) {
-        return ConvertResult {
-            answer: Answer::NoRoom,
-            state: state,
-        };
+    if is_sending(state.sending) {
+        return Err(Answer::NoRoom);
     }
     if loses_cells(page, wide) {
-        return ConvertResult {
-            answer: Answer::Barred,
-            state: state,
-        };
+        return Err(Answer::Barred);
     }
     convert_page(page, wide, target);
-    let there = state_on(target, state);
-    ConvertResult {
-        answer: Answer::Done,
-        state: there,
-    }
+    Ok(state_on(target, state))
 }

@@ -22,6 +22,7 @@ pub(crate) fn awaited(pending: Pending, input: &[u8], from: usize) -> Waited
 {
     let mut q = pending;
     let mut i = from;
+    // the index is given back, and goes on inside one arm alone: no `for`
     while i < input.len() {
         let b = input[i];
         if 128 <= b {

@@ -5,26 +5,16 @@ ghost use Rattle.rules.specs.Search.{guarded_at, settled};
 ghost use Rattle.rules.specs.Convert.{other_width, stops_within, state_on};
 
 use page::search::settle;
-use rules::{Answer, Screen, State};
+use rules::{Screen, State};
 use state::core_parts::with_screen;
 use state::width::{cells, columns};
-
-#[derive(Clone, Copy)]
-pub struct ConvertResult {
-    pub answer: Answer,
-    pub state: State,
-}
 
 // No tab stops beyond the width.
 fn stops_within(tabs: [bool; 132], wide: bool) -> [bool; 132]
     ensures { result ≡ stops_within (columns_of wide) tabs }
 {
     let mut t = tabs;
-    let mut i = columns(wide) as usize;
-    while i < 132 {
-        t[i] = false;
-        i += 1;
-    }
+    t[columns(wide) as usize..].fill(false);
     t
 }
 
@@ -43,7 +33,7 @@ fn home(page: &[u16], protect: bool, wide: bool) -> Screen
     let end = cells(wide, 24) as usize;
     let n = settle(page, protect, 0, end, 0);
     Screen {
-        wide: wide,
+        wide,
         active: 0,
         split: 0,
         cursor0: n as u16,
@@ -56,20 +46,14 @@ pub(crate) fn state_on(page: &[u16], state: State) -> State
     requires { length page.now ≡ 24 * other_width state.core.screen.wide }
     ensures { result ≡ state_on page.now state }
 {
-    let core = state.core;
-    let sending = state.sending;
-    let gathered = state.gathered;
-    let wide = !core.screen.wide;
-    let x = home(page, core.modes.protect, wide);
-    let c = with_screen(core, x);
+    let wide = !state.core.screen.wide;
+    let x = home(page, state.core.modes.protect, wide);
     let mut setup = state.setup;
-    let tabs = setup.tabs;
-    let t = stops_within(tabs, wide);
-    setup.tabs = t;
+    let tabs = stops_within(setup.tabs, wide);
+    setup.tabs = tabs;
     State {
-        core: c,
-        sending: sending,
-        gathered: gathered,
-        setup: setup,
+        core: with_screen(state.core, x),
+        setup,
+        ..state
     }
 }

@@ -1,4 +1,5 @@
 mod Loops
+mod Options
 mod Gathered
 mod Calls
 mod RowCalls

@@ -1,5 +1,5 @@
 -- The exported calls of repainting, from the promises of the crate `repaint`.
---     put_long, put_on, put_done           the numbers of spans, put by a loop
+--     put_on, put_done                     the numbers of spans, put by a loop
 --     bytes_named                          the judge of bytes
 --     propose_fits                         how many spans the proposer gives
 --     propose_all                          the proposer, with its spans as numbers
@@ -12,7 +12,7 @@ use mathlib.Core.Logic.{◌⊎◌, inl, inr}
 use Prim.Native.Nat.{ℕ, zero, suc, ◌+◌, ◌*◌, ◌≤◌, ◌<◌, zero-le}
 use native.Mathlib.Omega.{arith}
 use lib.Dec.{leb, eqb}
-use lib.ListN.{length, get_or, set, take, drop, length-set}
+use lib.ListN.{length, get_or, set, take, drop}
 use lib.Seq.{length-take-le, get_or-take, take_at}
 use borrow.Author.Tests.{leb-true, leb-false, le-leb, lt-leb}
 use Rattle.rules.specs.declared.Personality.{Personality}
@@ -75,9 +75,6 @@ stands (r ∷ x) (c ∷ y) (n ∷ z) (suc i) e h =
     record { row = rw k s.row; column = rw k₁ s.column; size = rw k₂ s.size }
 
 -- three stores more
-pub put_long : (c : List ℕ) (k p q r : ℕ) → length (set (set (set c k p) (k + 1) q) (k + 2) r) ≡ length c
-put_long c k p q r = length-set (set (set c k p) (k + 1) q) (k + 2) r ∙ (length-set (set c k p) (k + 1) q ∙ length-set c k p)
-
 three : (f w : List ℕ) {c : List ℕ} (k p q r : ℕ) → k + 2 < length f → k + 2 < length w → get_or f k 0 ≡ p → get_or f (k + 1) 0 ≡ q → get_or f (k + 2) 0 ≡ r
     → c ≡ take k f ++ drop k w → set (set (set c k p) (k + 1) q) (k + 2) r ≡ take (k + 3) f ++ drop (k + 3) w
 three f w {c} k p q r h g ep eq er e =

@@ -5,6 +5,7 @@
 --     raw_stream_noninterference     over one host stream
 --     raw_session_characterised, raw_given_back, raw_handed_back_lem
 -- Assumes nothing.
+use Rattle.std.specs.Prelude.{Err}
 use mathlib.Core.Path.{◌≡◌, refl, sym, ap, ap₂, subst, subst₂, ◌∙◌}
 use mathlib.Core.Bool.{Bool, true, false}
 use mathlib.Core.List.{List, [], ◌∷◌}
@@ -22,7 +23,7 @@ use Rattle.rules.specs.RowCalls.{RowCall}
 use Rattle.rules.specs.Theorems.Noninterference.{revealing}
 use Rattle.rules.proofs.Related.{Related}
 use Rattle.rules.proofs.Noninterference.{Closed, start_related, related_kept}
-use Rattle.saved.specs.declared.RestoreAnswer.TheVariants as RestoreAnswer
+use Rattle.saved.specs.declared.Refusal.TheVariants as Refusal
 use Rattle.saved.specs.Calls.{restoring, restore_rule}
 use Rattle.saved.proofs.SavedSetups.{saved_setups}
 use Rattle.session.specs.Sessions.{SessionCall, Terminal, Save, Restore, Act, call_of, host_bytes, left_of}
@@ -61,7 +62,7 @@ unfolding raw_restore
 restore_closed x store n closed =
     pick_closed (eqb (raw_restore x store n).answer 0) (numbered_closed _ (raw_restore x store n).state (by (named x))) closed
   where
-    by : (t : Bool) → Closed (pick t (restore_rule (unpacked x) store n) (restoring RestoreAnswer.BadState (unpacked x))).state
+    by : (t : Bool) → Closed (pick t (restore_rule (unpacked x) store n) (restoring (unpacked x) (Err Refusal.BadState))).state
     by true = restored_closed (unpacked x) store n (unpacked_closed x closed)
     by false = unpacked_closed x closed
 

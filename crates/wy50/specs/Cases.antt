@@ -1,5 +1,5 @@
 -- Worked numbers: states, sequences and sends as C holds them, and numbers that name no state.
-use Rattle.std.specs.Prelude.{◌≡◌, Bool, true, false, List, [], ◌∷◌, ◌++◌, map, ℕ, replicate}
+use Rattle.std.specs.Prelude.{◌≡◌, Bool, true, false, List, [], ◌∷◌, ◌++◌, map, ℕ, Ok, Err, replicate}
 use Rattle.rules.specs.declared.Argument.TheVariants as Argument
 use Rattle.rules.specs.declared.Slot.TheVariants as Slot
 use Rattle.rules.specs.declared.Modes.{Modes}
@@ -10,8 +10,7 @@ use Rattle.rules.specs.declared.Sending.{Sending}
 use Rattle.rules.specs.declared.State.{State}
 use Rattle.rules.specs.declared.Personality.TheVariants as Personality
 use Rattle.rules.specs.State.{short_text, long_text, no_text}
-use Rattle.saved.specs.declared.SaveAnswer.TheVariants as SaveAnswer
-use Rattle.saved.specs.declared.RestoreAnswer.TheVariants as RestoreAnswer
+use Rattle.saved.specs.declared.Refusal.TheVariants as Refusal
 use Rattle.wy50.specs.declared.raw.RawKey.{RawKey}
 use Rattle.wy50.specs.declared.raw.RawModes.{RawModes}
 use Rattle.wy50.specs.declared.raw.RawSequence.{RawSequence}
@@ -205,10 +204,10 @@ pub record Unnamed : Type 0 where
 
 -- the answers of save and restore
 pub record Answers : Type 0 where
-  pub saves : map save_number (SaveAnswer.Saved 65535 ∷ SaveAnswer.BadState ∷ SaveAnswer.BadStore ∷ SaveAnswer.Full ∷ [])
+  pub saves : map save_number (Ok 65535 ∷ Err Refusal.BadState ∷ Err Refusal.BadStore ∷ Err Refusal.Full ∷ [])
       ≡ 0 ∷ 7 ∷ 9 ∷ 11 ∷ []
-  pub number : saved_as (SaveAnswer.Saved 65535) ≡ 65535
-  pub restores : map restore_number (RestoreAnswer.Restored ∷ RestoreAnswer.BadState ∷ RestoreAnswer.BadStore ∷ RestoreAnswer.BadNumber ∷ [])
+  pub number : saved_as (Ok 65535) ≡ 65535
+  pub restores : map restore_number (Ok (state_with []) ∷ Err Refusal.BadState ∷ Err Refusal.BadStore ∷ Err Refusal.BadNumber ∷ [])
       ≡ 0 ∷ 7 ∷ 9 ∷ 10 ∷ []
 
 pub record Worked : Type 0 where

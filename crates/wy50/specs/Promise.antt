@@ -4,9 +4,11 @@ use Rattle.std.specs.Prelude.{◌≡◌, Bool, true, List, [], ◌⊎◌, ℕ, �
 use Rattle.rules.specs.declared.Personality.{Personality}
 use Rattle.rules.specs.declared.State.{State}
 use Rattle.rules.specs.declared.Position.{Position}
+use Rattle.rules.specs.declared.StepResult.{StepResult}
+use Rattle.rules.specs.declared.RunResult.{RunResult}
 use Rattle.rules.specs.Cell.{pick, both}
 use Rattle.rules.specs.Possible.{power_on, possible, good}
-use Rattle.rules.specs.State.{page_length, cursor_of}
+use Rattle.rules.specs.State.{number, page_length, cursor_of}
 use Rattle.rules.specs.Fields.{position, position_rule}
 use Rattle.rules.specs.Room.{over}
 use Rattle.rules.specs.Step.{Outcome, step_rule}
@@ -62,6 +64,10 @@ bad_step p x = record { answer = 7; taken = 0; state = x; page = p; reply = [] }
 unfoldable pub raw_step : List ℕ → RawState → ℕ → ℕ → RawOutcome
 raw_step p x b room = let o = step_rule p (unpacked x) b room in pick (raw_good p x) (raw (packed x o.state) o) (bad_step p x)
 
+-- what a step of the terminal's gives, in numbers, handed x
+abbrev pub step_numbers : RawState → StepResult → RawStep
+step_numbers x t = record { answer = number t.answer; taken = flag t.taken; replied = t.replied; state = packed x t.state }
+
 -- a run with its state in numbers
 pub record RawRan : Type 0 where
   pub answer : ℕ
@@ -82,6 +88,9 @@ raw_ran x o = record {
   state = packed x o.state;
   page = o.page;
 }
+
+abbrev pub run_numbers : RawState → RunResult → RawRun
+run_numbers x t = record { answer = number t.answer; taken = t.taken; replied = t.replied; refused = t.refused; state = packed x t.state }
 
 -- 7: zeros, the whole input back, nothing changed
 abbrev pub bad_run : List ℕ → RawState → List ℕ → RawRan

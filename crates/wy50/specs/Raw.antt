@@ -2,8 +2,7 @@
 use Rattle.std.specs.Prelude.{Bool, true, false, List, [], ◌∷◌, map, ℕ, zero, suc, ltb, eqb}
 use Rattle.rules.specs.declared.Argument.{Argument}
 use Rattle.rules.specs.declared.Slot.{Slot}
-use Rattle.rules.specs.declared.ShortText.{ShortText}
-use Rattle.rules.specs.declared.LongText.{LongText}
+use Rattle.rules.specs.declared.Text.{Text}
 use Rattle.rules.specs.declared.Modes.{Modes}
 use Rattle.rules.specs.declared.Pending.{Pending}
 use Rattle.rules.specs.declared.Short.{Short}
@@ -222,16 +221,16 @@ are_flags m =
     both (both (ltb m.protect 2) (both (ltb m.writeprotect 2) (ltb m.insert 2)))
     (both (ltb m.autoscroll 2) (both (ltb m.locked 2) (ltb m.local 2)))
 
-abbrev pub raw_key : ShortText → RawKey
+abbrev pub raw_key : Text 8 → RawKey
 raw_key k = record { len = k.len; bytes = k.bytes }
 
-abbrev pub key_of : RawKey → ShortText
+abbrev pub key_of : RawKey → Text 8
 key_of k = record { len = k.len; bytes = k.bytes }
 
-abbrev pub raw_message : LongText → RawMessage
+abbrev pub raw_message : Text 46 → RawMessage
 raw_message m = record { len = m.len; bytes = m.bytes }
 
-abbrev pub message_of : RawMessage → LongText
+abbrev pub message_of : RawMessage → Text 46
 message_of m = record { len = m.len; bytes = m.bytes }
 
 -- the numbers of a state, with these bytes for those gathered

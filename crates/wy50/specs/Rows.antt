@@ -1,6 +1,8 @@
 -- What the exported calls with a row list promise: the list is looked at beside the state that the numbers name.
 use Rattle.std.specs.Prelude.{◌≡◌, Bool, List, ℕ}
+use Rattle.rules.specs.declared.RunResult.{RunResult}
 use Rattle.rules.specs.Cell.{pick, both}
+use Rattle.rules.specs.State.{number}
 use Rattle.rules.specs.Step.{step_rule}
 use Rattle.rules.specs.Calls.{run_rule}
 use Rattle.rules.specs.RowList.{rows_of, agrees}
@@ -42,6 +44,17 @@ raw_rebuild_answer p l x = pick (raw_can_rebuild p l x) 0 7
 
 abbrev pub raw_rebuilt : List ℕ → List ℕ → RawState → List ℕ
 raw_rebuilt p l x = pick (raw_can_rebuild p l x) (rows_of p (unpacked x)) l
+
+-- what `next` of the terminal's gives, in numbers, handed x, with its command
+abbrev pub next_numbers : RawState → ℕ → RunResult → RawNext
+next_numbers x c t = record {
+  answer = number t.answer;
+  command = c;
+  taken = t.taken;
+  replied = t.replied;
+  refused = t.refused;
+  state = packed x t.state;
+}
 
 -- what `next` gives, but for the command
 abbrev pub next_run : RawNext → RawRun

@@ -1,30 +1,19 @@
 // Repainting a distant display, for C: the judges of spans and of bytes, and the proposer, its spans as a flat list of numbers.
 ghost use Rattle.std.specs.Prelude.{◌≡◌, ◌*◌, ◌≤◌, length, take};
 ghost use Rattle.rules.specs.Room.{over};
-ghost use Rattle.repaint.specs.Spans.{verdict_number, SpansVerdict, spans_of};
+ghost use Rattle.repaint.specs.Spans.{SpansVerdict, spans_of};
 ghost use Rattle.wy50.specs.Repainting.{RawBytesVerdict, span_numbers, numbers_rule, raw_propose, RawProposes, span_room};
 
-use crate::unpack::{is_personality, personality_at};
-use repaint::{ProposeResult, Span, Verdict, judge_bytes, judge_spans, propose};
+use crate::unpack::personality_at;
+use repaint::{ProposeResult, Span, judge_bytes, judge_spans, propose, told};
 use rules::Personality;
-
-fn verdict_number(v: Verdict) -> u8
-    ensures { result ≡ verdict_number v }
-{
-    match v {
-        Verdict::Accepted => 0,
-        Verdict::NotAccepted => 3,
-        Verdict::WrongLength => 7,
-    }
-}
 
 // Judges a list of spans. Ruled out: one that compares a page with itself.
 #[unsafe(no_mangle)]
 pub extern "C" fn wy50_judge_spans(before: &[u16], after: &[u16], spans: &[Span]) -> u8
     ensures { SpansVerdict before.now after.now spans.now result }
 {
-    let v = judge_spans(before, after, spans);
-    verdict_number(v)
+    judge_spans(before, after, spans).number()
 }
 
 // Judges bytes by the terminal of a personality. Ruled out: one that takes a number that is no personality, or feeds the other one's terminal.
@@ -37,11 +26,10 @@ pub extern "C" fn wy50_judge_bytes(
 ) -> u8
     ensures { RawBytesVerdict personality before.now after.now bytes.now result }
 {
-    if !is_personality(personality) {
+    let Some(personality) = personality_at(personality) else {
         return 7;
-    }
-    let v = judge_bytes(before, after, personality_at(personality), bytes);
-    verdict_number(v)
+    };
+    judge_bytes(before, after, personality, bytes).number()
 }
 
 // How many spans, of the 960 that there are at most, so many numbers have room for.
@@ -49,10 +37,10 @@ fn room_for(numbers: usize) -> usize
     ensures { result ≡ span_room numbers }
 {
     let n = numbers / 3;
-    if n < 960 { n } else { 960 }
+    n.min(960)
 }
 
-// The first n spans of three lists, at the front of a list of numbers.
+// The first n spans of three lists, at the front of a list of numbers. By index: an iterator over chunks of three would be zipped with three lists.
 fn put_spans(rows: &[u16], columns: &[u16], lengths: &[u16], n: usize, numbers: &mut [u16])
     requires { ((n ≤ length rows.now) × ((n ≤ length columns.now) × (n ≤ length lengths.now)))
         × ((n ≤ 960) × (3 * n ≤ length numbers.old)) }
@@ -60,12 +48,10 @@ fn put_spans(rows: &[u16], columns: &[u16], lengths: &[u16], n: usize, numbers: 
         ≡ over (span_numbers (spans_of (take n rows.now) (take n columns.now) (take n lengths.now)))
         numbers.old }
 {
-    let mut i = 0;
-    while i < n {
+    for i in 0..n {
         numbers[3 * i] = rows[i];
         numbers[3 * i + 1] = columns[i];
         numbers[3 * i + 2] = lengths[i];
-        i += 1;
     }
 }
 
@@ -86,7 +72,7 @@ fn propose_beside(
     ensures { RawProposes (numbers_rule personality before.now after.now numbers.old bytes.old) result
         numbers.new bytes.new }
 {
-    let t = propose(before, after, personality, rows, columns, lengths, bytes);
+    let t = told(propose(before, after, personality, rows, columns, lengths, bytes));
     put_spans(rows, columns, lengths, t.spans as usize, numbers);
     t
 }
@@ -104,13 +90,13 @@ pub extern "C" fn wy50_propose_numbers(
     ensures { RawProposes (raw_propose personality before.now after.now numbers.old bytes.old) result
         numbers.new bytes.new }
 {
-    if !is_personality(personality) {
+    let Some(personality) = personality_at(personality) else {
         return ProposeResult {
             answer: 7,
             spans: 0,
             bytes: 0,
         };
-    }
+    };
     let room = room_for(numbers.len());
     let mut rows: [u16; 960] = [0; 960];
     let mut columns: [u16; 960] = [0; 960];
@@ -118,7 +104,7 @@ pub extern "C" fn wy50_propose_numbers(
     propose_beside(
         before,
         after,
-        personality_at(personality),
+        personality,
         &mut rows[0..room],
         &mut columns[0..room],
         &mut lengths[0..room],

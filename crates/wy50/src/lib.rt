@@ -12,27 +12,27 @@ pub mod display; // repainting a distant display
 ghost use Rattle.std.specs.Prelude.{◌≡◌, length, ◌+◌, ◌*◌};
 ghost use Rattle.rules.specs.Cell.{code, protected, kind, attribute, sent};
 ghost use Rattle.wy50.specs.Raw.{flag};
-ghost use Rattle.wy50.specs.Rows.{raw_step_rows, raw_run_rows, Heard, raw_rows_after, raw_rebuild_answer, raw_rebuilt};
+ghost use Rattle.wy50.specs.Rows.{raw_step_rows, raw_run_rows, next_numbers, Heard, raw_rows_after, raw_rebuild_answer, raw_rebuilt};
 ghost use Rattle.wy50.specs.Converting.{raw_convert, Turns};
 ghost use Rattle.mend.specs.Mend.{Gives};
 ghost use Rattle.wy50.specs.Mending.{raw_mend};
 ghost use Rattle.wy50.specs.Saved.{raw_save, save_given, raw_restore, state_after};
-ghost use Rattle.wy50.specs.Promise.{raw_power_on, raw_step, raw_run, raw_press, PoweredOn, Stepped, RunDone, Sent};
+ghost use Rattle.wy50.specs.Promise.{raw_power_on, raw_step, step_numbers, raw_run, run_numbers, raw_press, PoweredOn, Stepped, RunDone, Sent};
 
-use mend::{MendResult, mend};
+use mend::{MendResult, mend, mend_given};
 use pack::{flag, fresh, pack};
 use raw::{
     RawConvert, RawNext, RawPowerOn, RawPress, RawRestore, RawRun, RawSave, RawState, RawStep,
 };
-use rules::Personality;
+use rules::{Personality, RunResult, StepResult};
 use saved::{restore, save};
-use setups::{restore_number, save_numbers};
+use setups::{refusal_number, save_numbers};
 use state::power_on_state;
 use terminal::{
     answer_number, attribute_of, code_of, convert, is_protected, kind_of, next, power_on, press,
     rebuild_rows, reply_command, run, run_rows, sent_code, step, step_rows,
 };
-use unpack::{is_named, is_personality, personality_at, unpack};
+use unpack::{personality_at, state_of};
 
 // The version of this library as one number: a million times the major number, a thousand times the minor one and the patch. tools/version writes
 // it here and in the contract. Ruled out: one that gives another.
@@ -51,19 +51,81 @@ pub extern "C" fn wy50_version() -> u32
 pub extern "C" fn wy50_power_on(page: &mut [u16], personality: u8) -> RawPowerOn
     ensures { PoweredOn (raw_power_on personality page.old) result page.new }
 {
-    if !is_personality(personality) {
-        let none = power_on_state(Personality::Wy50);
+    let Some(personality) = personality_at(personality) else {
         return RawPowerOn {
             answer: 7,
-            state: fresh(none),
+            state: fresh(power_on_state(Personality::Wy50)),
         };
-    }
-    let t = power_on(page, personality_at(personality));
-    let s = t.state;
-    let a = t.answer;
+    };
+    let t = power_on(page, personality);
     RawPowerOn {
-        answer: answer_number(a),
-        state: fresh(s),
+        answer: answer_number(t.answer),
+        state: fresh(t.state),
+    }
+}
+
+// What a step, a run and `next` give: 7 and the numbers as they came where these name no state, else the terminal's in numbers. Where the terminal
+// answers 7 it leaves the state, whose numbers are those that came. `inline`, so that the machine does not copy the state on the way.
+
+fn refused_step(state: RawState) -> RawStep
+    ensures { result ≡ record { answer = 7; taken = 0; replied = 0; state = state } }
+{
+    RawStep {
+        answer: 7,
+        taken: 0,
+        replied: 0,
+        state,
+    }
+}
+
+#[inline(always)]
+fn stepped(state: RawState, t: StepResult) -> RawStep
+    ensures { result ≡ step_numbers state t }
+{
+    RawStep {
+        answer: answer_number(t.answer),
+        taken: flag(t.taken),
+        replied: t.replied,
+        state: pack(state, t.state),
+    }
+}
+
+fn refused_run(state: RawState) -> RawRun
+    ensures { result ≡ record { answer = 7; taken = 0; replied = 0; refused = 0; state = state } }
+{
+    RawRun {
+        answer: 7,
+        taken: 0,
+        replied: 0,
+        refused: 0,
+        state,
+    }
+}
+
+#[inline(always)]
+fn ran(state: RawState, t: RunResult) -> RawRun
+    ensures { result ≡ run_numbers state t }
+{
+    RawRun {
+        answer: answer_number(t.answer),
+        taken: t.taken,
+        replied: t.replied,
+        refused: t.refused,
+        state: pack(state, t.state),
+    }
+}
+
+#[inline(always)]
+fn heard(state: RawState, command: u8, r: RunResult) -> RawNext
+    ensures { result ≡ next_numbers state command r }
+{
+    RawNext {
+        answer: answer_number(r.answer),
+        command,
+        taken: r.taken,
+        replied: r.replied,
+        refused: r.refused,
+        state: pack(state, r.state),
     }
 }
 
@@ -78,32 +140,10 @@ pub extern "C" fn wy50_step(
     ensures { Stepped (raw_step page.old state byte (length reply.old)) result page.new reply.old
         reply.new }
 {
-    if !is_named(state) {
-        return RawStep {
-            answer: 7,
-            taken: 0,
-            replied: 0,
-            state: state,
-        };
-    }
-    let t = step(page, unpack(state), byte, reply);
-    let s = t.state;
-    let a = t.answer;
-    let n = answer_number(a);
-    if n == 7 {
-        return RawStep {
-            answer: 7,
-            taken: 0,
-            replied: 0,
-            state: state,
-        };
-    }
-    RawStep {
-        answer: n,
-        taken: flag(t.taken),
-        replied: t.replied,
-        state: pack(state, s),
-    }
+    let Some(s) = state_of(state) else {
+        return refused_step(state);
+    };
+    stepped(state, step(page, s, byte, reply))
 }
 
 // The run over many bytes. The bytes not taken start at `taken` of the input. Ruled out: one that loses the sequence or the send
@@ -118,35 +158,10 @@ pub extern "C" fn wy50_run(
     ensures { RunDone (raw_run page.old state input.now (length reply.old)) result input.now
         page.new reply.old reply.new }
 {
-    if !is_named(state) {
-        return RawRun {
-            answer: 7,
-            taken: 0,
-            replied: 0,
-            refused: 0,
-            state: state,
-        };
-    }
-    let t = run(page, unpack(state), input, reply);
-    let s = t.state;
-    let a = t.answer;
-    let n = answer_number(a);
-    if n == 7 {
-        return RawRun {
-            answer: 7,
-            taken: 0,
-            replied: 0,
-            refused: 0,
-            state: state,
-        };
-    }
-    RawRun {
-        answer: n,
-        taken: t.taken,
-        replied: t.replied,
-        refused: t.refused,
-        state: pack(state, s),
-    }
+    let Some(s) = state_of(state) else {
+        return refused_run(state);
+    };
+    ran(state, run(page, s, input, reply))
 }
 
 // The key press. Ruled out: one that presses another key, or takes a tab stop of 2.
@@ -154,17 +169,18 @@ pub extern "C" fn wy50_run(
 pub extern "C" fn wy50_press(page: &[u16], state: RawState, key: u8, reply: &mut [u8]) -> RawPress
     ensures { Sent (raw_press page.now state key (length reply.old)) result reply.old reply.new }
 {
-    if !is_named(state) {
+    let Some(s) = state_of(state) else {
         return RawPress {
             answer: 7,
             replied: 0,
         };
-    }
-    let t = press(page, unpack(state), key, reply);
-    let a = t.answer;
-    RawPress {
-        answer: answer_number(a),
-        replied: t.replied,
+    };
+    match press(page, s, key, reply) {
+        Ok(replied) => RawPress { answer: 0, replied },
+        Err(a) => RawPress {
+            answer: answer_number(a),
+            replied: 0,
+        },
     }
 }
 
@@ -181,32 +197,10 @@ pub extern "C" fn wy50_step_rows(
         reply.old reply.new
         × (rows.new ≡ raw_rows_after page.old rows.old state page.new result.state) }
 {
-    if !is_named(state) {
-        return RawStep {
-            answer: 7,
-            taken: 0,
-            replied: 0,
-            state: state,
-        };
-    }
-    let r = step_rows(page, rows, unpack(state), byte, reply);
-    let s = r.state;
-    let a = r.answer;
-    let n = answer_number(a);
-    if n == 7 {
-        return RawStep {
-            answer: 7,
-            taken: 0,
-            replied: 0,
-            state: state,
-        };
-    }
-    RawStep {
-        answer: n,
-        taken: flag(r.taken),
-        replied: r.replied,
-        state: pack(state, s),
-    }
+    let Some(s) = state_of(state) else {
+        return refused_step(state);
+    };
+    stepped(state, step_rows(page, rows, s, byte, reply))
 }
 
 // The run with a row list. Ruled out: one that counts the bytes of a refused call as taken.
@@ -222,35 +216,10 @@ pub extern "C" fn wy50_run_rows(
         input.now page.new reply.old reply.new
         × (rows.new ≡ raw_rows_after page.old rows.old state page.new result.state) }
 {
-    if !is_named(state) {
-        return RawRun {
-            answer: 7,
-            taken: 0,
-            replied: 0,
-            refused: 0,
-            state: state,
-        };
-    }
-    let r = run_rows(page, rows, unpack(state), input, reply);
-    let s = r.state;
-    let a = r.answer;
-    let n = answer_number(a);
-    if n == 7 {
-        return RawRun {
-            answer: 7,
-            taken: 0,
-            replied: 0,
-            refused: 0,
-            state: state,
-        };
-    }
-    RawRun {
-        answer: n,
-        taken: r.taken,
-        replied: r.replied,
-        refused: r.refused,
-        state: pack(state, s),
-    }
+    let Some(s) = state_of(state) else {
+        return refused_run(state);
+    };
+    ran(state, run_rows(page, rows, s, input, reply))
 }
 
 // The run up to the first event, with a row list or an empty one. Ruled out: one that names another command, or none where it replied.
@@ -265,40 +234,20 @@ pub extern "C" fn wy50_next(
     ensures { Heard page.old rows.old state input.now result page.new rows.new
         reply.old reply.new }
 {
-    if !is_named(state) {
+    let Some(s) = state_of(state) else {
         return RawNext {
             answer: 7,
             command: 0,
             taken: 0,
             replied: 0,
             refused: 0,
-            state: state,
+            state,
         };
-    }
-    let before = unpack(state);
-    let sending = before.sending;
-    let heard = next(page, rows, before, input, reply);
-    let s = heard.state;
-    let a = heard.answer;
-    let n = answer_number(a);
-    if n == 7 {
-        return RawNext {
-            answer: 7,
-            command: 0,
-            taken: 0,
-            replied: 0,
-            refused: 0,
-            state: state,
-        };
-    }
-    RawNext {
-        answer: n,
-        command: reply_command(sending, input, heard.taken, heard.replied),
-        taken: heard.taken,
-        replied: heard.replied,
-        refused: heard.refused,
-        state: pack(state, s),
-    }
+    };
+    let sending = s.sending;
+    let t = next(page, rows, s, input, reply);
+    let command = reply_command(sending, input, t.taken, t.replied);
+    heard(state, command, t)
 }
 
 // The row list made anew: its answer. Ruled out: one that rebuilds for numbers that name no state.
@@ -307,11 +256,13 @@ pub extern "C" fn wy50_rebuild_rows(page: &[u16], rows: &mut [u16], state: RawSt
     ensures { (result ≡ raw_rebuild_answer page.now rows.old state)
         × (rows.new ≡ raw_rebuilt page.now rows.old state) }
 {
-    if !is_named(state) {
+    let Some(s) = state_of(state) else {
         return 7;
+    };
+    match rebuild_rows(page, rows, s) {
+        Ok(()) => 0,
+        Err(a) => answer_number(a),
     }
-    let a = rebuild_rows(page, rows, unpack(state));
-    answer_number(a)
 }
 
 // Saves the set-up of the state under the next number. Ruled out: one that saves for numbers that name no state, or gives a number for what it
@@ -320,14 +271,13 @@ pub extern "C" fn wy50_rebuild_rows(page: &[u16], rows: &mut [u16], state: RawSt
 pub extern "C" fn wy50_save(state: RawState, store: &mut [u8]) -> RawSave
     ensures { (result ≡ save_given (raw_save state store.old)) × (store.new ≡ (raw_save state store.old).store) }
 {
-    if !is_named(state) {
+    let Some(s) = state_of(state) else {
         return RawSave {
             answer: 7,
             number: 0,
         };
-    }
-    let a = save(unpack(state), store);
-    save_numbers(a)
+    };
+    save_numbers(save(s, store))
 }
 
 // Restores the settings saved under a number. Ruled out: one that gives other numbers back than it was handed where it refuses.
@@ -336,25 +286,18 @@ pub extern "C" fn wy50_restore(state: RawState, store: &[u8], number: u16) -> Ra
     ensures { (result.answer ≡ (raw_restore state store.now number).answer)
         × (result.state ≡ state_after state (raw_restore state store.now number)) }
 {
-    if !is_named(state) {
-        return RawRestore {
-            answer: 7,
-            state: state,
-        };
-    }
-    let t = restore(unpack(state), store, number);
-    let s = t.state;
-    let a = t.answer;
-    let n = restore_number(a);
-    if n != 0 {
-        return RawRestore {
-            answer: n,
-            state: state,
-        };
-    }
-    RawRestore {
-        answer: 0,
-        state: pack(state, s),
+    let Some(s) = state_of(state) else {
+        return RawRestore { answer: 7, state };
+    };
+    match restore(s, store, number) {
+        Ok(t) => RawRestore {
+            answer: 0,
+            state: pack(state, t),
+        },
+        Err(e) => RawRestore {
+            answer: refusal_number(e),
+            state,
+        },
     }
 }
 
@@ -363,25 +306,18 @@ pub extern "C" fn wy50_restore(state: RawState, store: &[u8], number: u16) -> Ra
 pub extern "C" fn wy50_convert(page: &[u16], state: RawState, target: &mut [u16]) -> RawConvert
     ensures { Turns (raw_convert page.now state target.old) result target.new }
 {
-    if !is_named(state) {
-        return RawConvert {
-            answer: 7,
-            state: state,
-        };
-    }
-    let t = convert(page, unpack(state), target);
-    let s = t.state;
-    let a = t.answer;
-    let n = answer_number(a);
-    if n != 0 {
-        return RawConvert {
-            answer: n,
-            state: state,
-        };
-    }
-    RawConvert {
-        answer: 0,
-        state: pack(state, s),
+    let Some(s) = state_of(state) else {
+        return RawConvert { answer: 7, state };
+    };
+    match convert(page, s, target) {
+        Ok(t) => RawConvert {
+            answer: 0,
+            state: pack(state, t),
+        },
+        Err(a) => RawConvert {
+            answer: answer_number(a),
+            state,
+        },
     }
 }
 
@@ -390,13 +326,13 @@ pub extern "C" fn wy50_convert(page: &[u16], state: RawState, target: &mut [u16]
 pub extern "C" fn wy50_mend(page: &mut [u16], personality: u8, list: &mut [u16]) -> MendResult
     ensures { Gives (raw_mend personality page.old list.old) result page.new list.new }
 {
-    if !is_personality(personality) {
+    let Some(personality) = personality_at(personality) else {
         return MendResult {
             answer: 7,
             needed: 0,
         };
-    }
-    mend(page, personality_at(personality), list)
+    };
+    mend_given(mend(page, personality, list))
 }
 
 // Readers of a cell's number: its code, whether it is protected (0 or 1), its kind, its attribute, and what a send gives for it.
@@ -419,7 +355,7 @@ pub extern "C" fn wy50_cell_protected(cell: u16) -> u8
 pub extern "C" fn wy50_cell_kind(cell: u16) -> u8
     ensures { result ≡ kind cell }
 {
-    kind_of(cell)
+    kind_of(cell).number()
 }
 
 #[unsafe(no_mangle)]

@@ -1,25 +1,22 @@
 // The numbers of a state.
-ghost use Rattle.std.specs.Prelude.{◌≡◌, map};
+ghost use Rattle.std.specs.Prelude.{◌≡◌, ◌*◌, ◌/◌, map};
 ghost use Rattle.rules.specs.Cell.{pick};
 ghost use Rattle.wy50.specs.Raw.{flag, personality_number, gathered_in, blanked, laid_over, kind_of, text_sequence, spoilt_sequence, sequence_of};
 ghost use Rattle.wy50.specs.Raw.{text_sending, raw_sending, raw_modes, raw_key, raw_message, numbers, packed};
 ghost use Rattle.wy50.specs.Promise.{fresh_numbers};
 
 use crate::raw::{RawKey, RawMessage, RawModes, RawScreen, RawSending, RawSequence, RawState};
-use rules::{
-    Argument, LongText, Modes, Pending, Personality, Place, Sending, ShortText, Slot, State,
-};
-use state::logic::or;
+use rules::{Argument, Modes, Pending, Personality, Place, Sending, Setup, Slot, State, Text};
 use state::sending::{short_command, text_command};
 
 fn sequence(kind: u16, first: u8, second: u8, third: u16) -> RawSequence
     ensures { result ≡ record { kind = kind; first = first; second = second; third = third } }
 {
     RawSequence {
-        kind: kind,
-        first: first,
-        second: second,
-        third: third,
+        kind,
+        first,
+        second,
+        third,
     }
 }
 
@@ -83,9 +80,9 @@ fn send(command: u8, kind: u8, place: u16) -> RawSending
     ensures { result ≡ record { command = command; kind = kind; place = place } }
 {
     RawSending {
-        command: command,
-        kind: kind,
-        place: place,
+        command,
+        kind,
+        place,
     }
 }
 
@@ -112,23 +109,13 @@ pub(crate) fn raw_sending(x: Sending) -> RawSending
 pub(crate) fn flag(b: bool) -> u8
     ensures { result ≡ flag b }
 {
-    if b { 1 } else { 0 }
-}
-
-// Two bytes, so that the state has no padding.
-fn raw_flag(b: bool) -> u16
-    ensures { result ≡ flag b }
-{
-    if b { 1 } else { 0 }
+    b as u8
 }
 
 fn personality_number(m: Personality) -> u8
     ensures { result ≡ personality_number m }
 {
-    match m {
-        Personality::Wy50 => 50,
-        Personality::Wy60 => 60,
-    }
+    m as u8
 }
 
 fn raw_modes(m: Modes) -> RawModes
@@ -144,8 +131,8 @@ fn raw_modes(m: Modes) -> RawModes
     }
 }
 
-// Byte by byte, and below eight texts a turn: so the machine copies sixteen bytes at a time.
-fn raw_key(k: ShortText) -> RawKey
+// Byte by byte, and below eight texts a turn, as `key_of` does back.
+fn raw_key(k: Text<8>) -> RawKey
     ensures { result ≡ raw_key k }
 {
     RawKey {
@@ -157,83 +144,40 @@ fn raw_key(k: ShortText) -> RawKey
     }
 }
 
-// Two tab stops at a time, 22 a turn: so the machine copies sixteen at a time.
 fn raw_tabs(tabs: [bool; 132]) -> [u8; 132]
     ensures { result ≡ map flag tabs }
 {
     let mut t = [0u8; 132];
-    let mut i = 0;
-    while i < 6 {
-        let mut j = 0;
-        while j < 11 {
-            let at = 22 * i + 2 * j;
-            t[at] = flag(tabs[at]);
-            t[at + 1] = flag(tabs[at + 1]);
-            j += 1;
-        }
-        i += 1;
+    for (i, on) in tabs.iter().enumerate() {
+        t[i] = flag(*on);
     }
     t
 }
 
-fn raw_keys(keys: [ShortText; 32]) -> [RawKey; 32]
-    ensures { result ≡ map raw_key keys }
+// `keys_of` the other way: one function for both would have the contract of a closure in place of `map raw_key`.
+#[inline(always)]
+fn raw_keys<const N: usize>(keys: [Text<8>; N]) -> [RawKey; N]
+    requires { 8 * (N / 8) ≡ N }
+    ensures { result ≡ map raw_key keys.entry }
 {
     let none = RawKey {
         len: 0,
         bytes: [0; 8],
     };
-    let mut t = [none; 32];
-    let mut i = 0;
-    while i < 4 {
-        let mut j = 0;
-        while j < 8 {
-            let k = keys[8 * i + j];
-            t[8 * i + j] = raw_key(k);
-            j += 1;
+    let mut t = [none; N];
+    for i in 0..N / 8 {
+        for j in 0..8 {
+            t[8 * i + j] = raw_key(keys[8 * i + j]);
         }
-        i += 1;
     }
     t
-}
-
-fn raw_labels(labels: [ShortText; 16]) -> [RawKey; 16]
-    ensures { result ≡ map raw_key labels }
-{
-    let none = RawKey {
-        len: 0,
-        bytes: [0; 8],
-    };
-    let mut t = [none; 16];
-    let mut i = 0;
-    while i < 2 {
-        let mut j = 0;
-        while j < 8 {
-            let k = labels[8 * i + j];
-            t[8 * i + j] = raw_key(k);
-            j += 1;
-        }
-        i += 1;
-    }
-    t
-}
-
-fn raw_message(m: LongText) -> RawMessage
-    ensures { result ≡ raw_message m }
-{
-    let bytes = m.bytes;
-    RawMessage {
-        len: m.len,
-        bytes: bytes,
-    }
 }
 
 // How many bytes of a text are gathered: the second number of a text's sequence.
 fn gathered_in(q: RawSequence) -> u8
     ensures { result ≡ gathered_in q }
 {
-    let k = q.kind;
-    if or(k == 19, or(k == 21, k == 23)) {
+    if q.kind == 19 || q.kind == 21 || q.kind == 23 {
         q.second
     } else {
         0
@@ -244,41 +188,43 @@ fn gathered_in(q: RawSequence) -> u8
 fn byte_back(new: u8, counted: bool, old: u8, was: bool) -> u8
     ensures { result ≡ pick counted new (pick was 0 old) }
 {
-    if counted {
-        return new;
+    match (counted, was) {
+        (true, _) => new,
+        (false, true) => 0,
+        (false, false) => old,
     }
-    if was { 0 } else { old }
 }
 
 // The first n bytes, which are counted now, before those that came, of which m were counted. Mostly no text is under way, before or after.
 fn bytes_back(n: u8, new: [u8; 46], m: u8, old: [u8; 46]) -> [u8; 46]
     ensures { result ≡ laid_over n new (blanked m old) }
 {
-    if n == 0 {
-        if m == 0 {
-            return old;
-        }
+    if n == 0 && m == 0 {
+        return old;
     }
     let mut t = [0u8; 46];
-    let mut i = 0;
-    while i < 46 {
+    for i in 0..46 {
         t[i] = byte_back(new[i], i < n as usize, old[i], i < m as usize);
-        i += 1;
     }
     t
+}
+
+fn raw_message(m: Text<46>) -> RawMessage
+    ensures { result ≡ raw_message m }
+{
+    let Text { len, bytes } = m;
+    RawMessage { len, bytes }
 }
 
 // The numbers of a state that a call leaves, which was handed x.
 pub(crate) fn pack(x: RawState, s: State) -> RawState
     ensures { result ≡ packed x s }
 {
+    let n = gathered_in(sequence_of(s.core.pending));
+    let m = gathered_in(x.sequence);
     let old = x.gathered;
-    let begun = x.sequence;
-    let core = s.core;
-    let pending = core.pending;
     let new = s.gathered;
-    let n = gathered_in(sequence_of(pending));
-    pack_with(bytes_back(n, new, gathered_in(begun), old), s)
+    pack_with(bytes_back(n, new, m, old), s)
 }
 
 // The numbers of a power-on state.
@@ -290,45 +236,45 @@ pub(crate) fn fresh(s: State) -> RawState
 }
 
 // The numbers of a state, with these bytes for those gathered.
+#[tactic(auto, unfolding(crate::specs::Raw::numbers))]
 fn pack_with(gathered: [u8; 46], s: State) -> RawState
     ensures { result ≡ numbers gathered s }
 {
     let core = s.core;
-    let setup = s.setup;
     let screen = core.screen;
-    let modes = core.modes;
-    let pending = core.pending;
-    let personality = core.personality;
     let sending = s.sending;
-    let tabs = setup.tabs;
-    let attributes = setup.attributes;
-    let features = setup.features;
-    let keys = setup.keys;
-    let labels = setup.labels;
-    let message = setup.message;
-    let q = sequence_of(pending);
+    let Setup {
+        tabs,
+        attributes,
+        features,
+        keys,
+        labels,
+        message,
+        shifted,
+        wish,
+    } = s.setup;
     RawState {
         screen: RawScreen {
-            wide: raw_flag(screen.wide),
+            wide: flag(screen.wide) as u16,
             active: screen.active,
             split: screen.split,
             cursor0: screen.cursor0,
             cursor1: screen.cursor1,
         },
-        modes: raw_modes(modes),
+        modes: raw_modes(core.modes),
         bells: core.bells as u16,
-        personality: personality_number(personality),
+        personality: personality_number(core.personality),
         remembered: core.attribute,
-        sequence: q,
+        sequence: sequence_of(core.pending),
         sending: raw_sending(sending),
-        gathered: gathered,
+        gathered,
         tabs: raw_tabs(tabs),
-        attributes: attributes,
-        features: features,
+        attributes,
+        features,
         keys: raw_keys(keys),
-        labels: raw_labels(labels),
+        labels: raw_keys(labels),
         message: raw_message(message),
-        shifted: raw_flag(setup.shifted),
-        wish: raw_flag(setup.wish),
+        shifted: flag(shifted) as u16,
+        wish: flag(wish) as u16,
     }
 }

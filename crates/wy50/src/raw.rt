@@ -41,7 +41,7 @@ pub struct RawModes {
 
 // The sequence under way: which one it is, and its numbers in their order, 0 where it has fewer than three.
 #[repr(C)]
-#[derive(Clone, Copy)]
+#[derive(Clone, Copy, PartialEq, Eq)]
 pub struct RawSequence {
     pub kind: u16,
     pub first: u8,
@@ -51,7 +51,7 @@ pub struct RawSequence {
 
 // The send under way: the command that asked for it, what stands at its place, and the number of the place; all 0 where there is none.
 #[repr(C)]
-#[derive(Clone, Copy)]
+#[derive(Clone, Copy, PartialEq, Eq)]
 pub struct RawSending {
     pub command: u8,
     pub kind: u8,

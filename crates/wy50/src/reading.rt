@@ -4,8 +4,10 @@ ghost use Rattle.rules.specs.Fields.{next_field_rule, field_text_rule, row_text_
 ghost use Rattle.wy50.specs.Promise.{raw_possible, raw_cursor};
 
 use crate::raw::RawState;
-use crate::unpack::{is_named, unpack};
-use fields::{cell_at, field_text, next_field, position, row_text};
+use crate::unpack::state_of;
+use fields::{
+    cell_at, field_given, field_text, next_field, position, position_given, row_text, text_given,
+};
 use rules::{Field, Position, TextResult};
 use state::possible::possible;
 use state::width::cells;
@@ -15,7 +17,7 @@ use state::width::cells;
 pub extern "C" fn wy50_next_field(page: &[u16], from: usize) -> Field
     ensures { result ≡ next_field_rule page.now from }
 {
-    next_field(page, from)
+    field_given(next_field(page, from))
 }
 
 // The text of the field that starts at a cell; trailing spaces are dropped where `trim` is not 0. Ruled out: one that reads it the other way.
@@ -29,7 +31,7 @@ pub extern "C" fn wy50_field_text(
     ensures { Read (field_text_rule page.now start (not (eqb trim 0)) (length text.old)) result text.old
         text.new }
 {
-    field_text(text, page, start, is_set(trim))
+    text_given(field_text(text, page, start, is_set(trim)))
 }
 
 // The text of a row, labels too.
@@ -38,13 +40,13 @@ pub extern "C" fn wy50_row_text(page: &[u16], row: usize, trim: u8, text: &mut [
     ensures { Read (row_text_rule page.now row (not (eqb trim 0)) (length text.old)) result text.old
         text.new }
 {
-    row_text(text, page, row, is_set(trim))
+    text_given(row_text(text, page, row, is_set(trim)))
 }
 
 fn is_set(flag: u8) -> bool
     ensures { result ≡ not (eqb flag 0) }
 {
-    if flag == 0 { false } else { true }
+    flag != 0
 }
 
 // The row and column of a cell, and the cell at a row and column, in a page of so many cells.
@@ -52,24 +54,21 @@ fn is_set(flag: u8) -> bool
 pub extern "C" fn wy50_position_of(cells: usize, cell: usize) -> Position
     ensures { result ≡ position_rule cells cell }
 {
-    position(cells, cell)
+    position_given(position(cells, cell))
 }
 
 #[unsafe(no_mangle)]
 pub extern "C" fn wy50_cell_at(cells: usize, row: usize, column: usize) -> usize
     ensures { result ≡ cell_rule cells row column }
 {
-    cell_at(cells, row, column)
+    cell_at(cells, row, column).unwrap_or(cells)
 }
 
 // Whether the numbers name a possible state.
 fn is_possible(state: RawState) -> bool
     ensures { result ≡ raw_possible state }
 {
-    if !is_named(state) {
-        return false;
-    }
-    possible(unpack(state))
+    state_of(state).is_some_and(possible)
 }
 
 // The row and column of the active cursor. Ruled out: one that gives the other segment's, or a place for an impossible state.
@@ -86,8 +85,10 @@ pub extern "C" fn wy50_cursor(state: RawState) -> Position
     }
     let screen = state.screen;
     let page = cells(screen.wide == 1, 24) as usize;
-    if screen.active == 0 {
-        return position(page, screen.cursor0 as usize);
-    }
-    position(page, screen.cursor1 as usize)
+    let cursor = if screen.active == 0 {
+        screen.cursor0
+    } else {
+        screen.cursor1
+    };
+    position_given(position(page, cursor as usize))
 }

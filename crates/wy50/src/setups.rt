@@ -1,40 +1,29 @@
 // The numbers of what a save and a restore answer.
 ghost use Rattle.std.specs.Prelude.{◌≡◌};
-ghost use Rattle.saved.specs.Calls.{save_number, saved_as, restore_number};
+ghost use Rattle.saved.specs.Calls.{refusal_number, save_number, saved_as};
 
 use crate::raw::RawSave;
-use saved::{RestoreAnswer, SaveAnswer};
+use saved::Refusal;
 
-pub(crate) fn save_numbers(a: SaveAnswer) -> RawSave
-    ensures { result ≡ record { answer = save_number a; number = saved_as a } }
+pub(crate) fn refusal_number(e: Refusal) -> u8
+    ensures { result ≡ refusal_number e }
 {
-    match a {
-        SaveAnswer::Saved(n) => RawSave {
-            answer: 0,
-            number: n,
-        },
-        SaveAnswer::BadState => RawSave {
-            answer: 7,
-            number: 0,
-        },
-        SaveAnswer::BadStore => RawSave {
-            answer: 9,
-            number: 0,
-        },
-        SaveAnswer::Full => RawSave {
-            answer: 11,
-            number: 0,
-        },
+    match e {
+        Refusal::BadState => 7,
+        Refusal::BadStore => 9,
+        Refusal::BadNumber => 10,
+        Refusal::Full => 11,
     }
 }
 
-pub(crate) fn restore_number(a: RestoreAnswer) -> u8
-    ensures { result ≡ restore_number a }
+pub(crate) fn save_numbers(a: Result<u16, Refusal>) -> RawSave
+    ensures { result ≡ record { answer = save_number a; number = saved_as a } }
 {
     match a {
-        RestoreAnswer::Restored => 0,
-        RestoreAnswer::BadState => 7,
-        RestoreAnswer::BadStore => 9,
-        RestoreAnswer::BadNumber => 10,
+        Ok(number) => RawSave { answer: 0, number },
+        Err(e) => RawSave {
+            answer: refusal_number(e),
+            number: 0,
+        },
     }
 }

@@ -1,7 +1,7 @@
 -- A count as the numbers that cross to C.
-use Rattle.std.specs.Prelude.{◌≡◌, List, [], ◌∷◌, ◌++◌, ℕ, ◌≤◌, eqb, length}
+use Rattle.std.specs.Prelude.{◌≡◌, List, [], ◌∷◌, ◌++◌, ℕ, ◌≤◌, eqb, length, Err}
 use Rattle.rules.specs.Cell.{pick}
-use Rattle.counter.specs.declared.Counted.TheVariants as Counted
+use Rattle.counter.specs.declared.Refusal.{Refusal}
 use Rattle.counter.specs.Words.{words}
 use Rattle.counter.specs.Count.{Numbers, numbers, largest, text_count}
 use Rattle.counter.specs.Cases.{letters}
@@ -16,7 +16,7 @@ billed c = pick (eqb c.refusal 0) c.parts largest
 
 -- of a text that fits in memory the largest number is given for a refused byte alone
 abbrev pub Unmistaken : Type 0
-Unmistaken = (l : List ℕ) → length l ≤ largest → billed (numbers (text_count l)) ≡ largest → (n : ℕ) × (text_count l ≡ Counted.BadByte n)
+Unmistaken = (l : List ℕ) → length l ≤ largest → billed (numbers (text_count l)) ≡ largest → (n : ℕ) × (text_count l ≡ Err (Refusal.BadByte n))
 
 -- worked bills: trailing spaces are dropped; FS, US and CR are bytes like any other outside the alphabet
 pub record Bills : Type 0 where

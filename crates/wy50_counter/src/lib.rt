@@ -5,7 +5,7 @@ ghost use Rattle.std.specs.Prelude.{◌≡◌, ◌+◌, ◌*◌};
 ghost use Rattle.counter.specs.Count.{numbers, text_count, count_rule};
 ghost use Rattle.wy50_counter.specs.Raw.{raw as raw_of, billed as billed_of};
 
-use counter::{Counted, count, count_text};
+use counter::{Refusal, Size, count, count_text};
 
 // The version of this library as one number: a million times the major number, a thousand times the minor one and the patch. tools/version writes
 // it here and in the contract.
@@ -28,52 +28,41 @@ pub struct RawCount {
     pub refusal: u8,
 }
 
-fn raw(c: Counted) -> RawCount
-    ensures { result ≡ raw_of (numbers c) }
-{
-    match c {
-        Counted::Text(units, parts) => RawCount {
-            units: units,
-            parts: parts,
-            place: 0,
-            refusal: 0,
-        },
-        Counted::NoReturn => RawCount {
-            units: 0,
-            parts: 0,
-            place: 0,
-            refusal: 1,
-        },
-        Counted::BadFirst => RawCount {
-            units: 0,
-            parts: 0,
-            place: 0,
-            refusal: 2,
-        },
-        Counted::BadLast => RawCount {
-            units: 0,
-            parts: 0,
-            place: 0,
-            refusal: 3,
-        },
-        Counted::BadByte(place) => RawCount {
-            units: 0,
-            parts: 0,
-            place: place as u64,
-            refusal: 4,
-        },
+const NONE: RawCount = RawCount {
+    units: 0,
+    parts: 0,
+    place: 0,
+    refusal: 0,
+};
+
+impl From<Result<Size, Refusal>> for RawCount {
+    ghost from_gives = { λ c r. r ≡ raw_of (numbers c) };
+
+    fn from(c: Result<Size, Refusal>) -> RawCount {
+        match c {
+            Ok(Size { units, parts }) => RawCount {
+                units,
+                parts,
+                ..NONE
+            },
+            Err(Refusal::NoReturn) => RawCount { refusal: 1, ..NONE },
+            Err(Refusal::BadFirst) => RawCount { refusal: 2, ..NONE },
+            Err(Refusal::BadLast) => RawCount { refusal: 3, ..NONE },
+            Err(Refusal::BadByte(place)) => RawCount {
+                place: place as u64,
+                refusal: 4,
+                ..NONE
+            },
+        }
     }
 }
 
-fn billed(c: Counted) -> u64
+fn billed(c: Result<Size, Refusal>) -> u64
     ensures { result ≡ billed_of (numbers c) }
 {
     match c {
-        Counted::Text(_, parts) => parts,
-        Counted::NoReturn => u64::MAX,
-        Counted::BadFirst => u64::MAX,
-        Counted::BadLast => u64::MAX,
-        Counted::BadByte(_) => u64::MAX,
+        Ok(size) => size.parts,
+        Err(_) => u64::MAX,
     }
 }
 
@@ -81,22 +70,19 @@ fn billed(c: Counted) -> u64
 pub fn wy50_count_parts(text: &[u8]) -> u64
     ensures { result ≡ billed_of (numbers (text_count text.now)) }
 {
-    let c = count_text(text);
-    billed(c)
+    billed(count_text(text))
 }
 
 // The same count, with its units and the place of a refused byte.
 pub fn wy50_count_text(text: &[u8]) -> RawCount
     ensures { result ≡ raw_of (numbers (text_count text.now)) }
 {
-    let c = count_text(text);
-    raw(c)
+    RawCount::from(count_text(text))
 }
 
 // The pieces of a reply to ESC 5, from number `first` to number `last`.
 pub fn wy50_count_reply(reply: &[u8], first: usize, last: usize) -> RawCount
     ensures { result ≡ raw_of (numbers (count_rule reply.now first last)) }
 {
-    let c = count(reply, first, last);
-    raw(c)
+    RawCount::from(count(reply, first, last))
 }

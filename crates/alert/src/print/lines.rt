@@ -5,9 +5,8 @@ ghost use Rattle.rules.specs.State.{label_place};
 
 use crate::cells::trimmed;
 use crate::print::out;
-use crate::print::report::least;
 use crate::put;
-use rules::{LongText, ShortText};
+use rules::Text;
 use std::io;
 
 // A line above or below the frame, in the columns of the page.
@@ -17,21 +16,15 @@ fn show_line(rt: &impl Print, text: &[u8]) -> io::Result<()> {
     out::text(rt, b"\n")
 }
 
-fn show_message(rt: &impl Print, bytes: [u8; 46], len: usize) -> io::Result<()> {
-    let n = least(len, 46);
-    show_line(rt, &bytes[..n])
-}
-
-pub fn message(rt: &impl Print, m: LongText) -> io::Result<()> {
+pub fn message(rt: &impl Print, m: Text<46>) -> io::Result<()> {
     if m.len == 0 {
         return Ok(());
     }
-    let bytes = m.bytes;
-    show_message(rt, bytes, m.len as usize)
+    show_line(rt, &m.bytes[..(m.len as usize).min(46)])
 }
 
 // Label i of the shown line, from 0: of the fields from 50h while the shifted line is on, from 30h while it is off.
-fn shown(labels: [ShortText; 16], shifted: bool, i: usize) -> ShortText
+fn shown(labels: [Text<8>; 16], shifted: bool, i: usize) -> Text<8>
     requires { i < 8 }
     ensures { result ≡ get_or labels (label_place (pick shifted 0x50 0x30 + i)) record { len = 0; bytes = [] } }
 {
@@ -41,34 +34,25 @@ fn shown(labels: [ShortText; 16], shifted: bool, i: usize) -> ShortText
     labels[i]
 }
 
-fn draw_text(line: &mut [u8], at: usize, bytes: [u8; 8], len: usize) {
-    let n = least(len, 8);
-    put::bytes(line, at, &bytes[..n]);
-}
-
 // Puts a label on a line, in brackets; an empty one leaves its ten columns blank.
-fn draw_label(line: &mut [u8], at: usize, k: ShortText)
+fn draw_label(line: &mut [u8], at: usize, k: Text<8>)
     requires { at ≤ 70 }
 {
     if k.len == 0 {
         return;
     }
-    let bytes = k.bytes;
     put::byte(line, at, b'[');
-    draw_text(line, at + 1, bytes, k.len as usize);
+    put::bytes(line, at + 1, &k.bytes[..(k.len as usize).min(8)]);
     put::byte(line, at + 9, b']');
 }
 
-fn draw_labels(line: &mut [u8], all: [ShortText; 16], shifted: bool) {
-    let mut i = 0;
-    while i < 8 {
-        let k = shown(all, shifted, i);
-        draw_label(line, i * 10, k);
-        i += 1;
+fn draw_labels(line: &mut [u8], all: [Text<8>; 16], shifted: bool) {
+    for i in 0..8 {
+        draw_label(line, i * 10, shown(all, shifted, i));
     }
 }
 
-pub fn labels(rt: &impl Print, all: [ShortText; 16], shifted: bool) -> io::Result<()> {
+pub fn labels(rt: &impl Print, all: [Text<8>; 16], shifted: bool) -> io::Result<()> {
     let mut line = [b' '; 80];
     draw_labels(&mut line, all, shifted);
     let n = trimmed(&line);

@@ -5,63 +5,59 @@ ghost use Rattle.rules.specs.Row.{height, columns};
 
 use crate::cells::{row, trimmed};
 use crate::print::{lines, out};
-use page::cell::{is_open, kind_of, sent_code};
+use page::cell::{Kind, is_open, kind_of, sent_code};
 use rules::Setup;
 use state::width::{column_of, row_of};
 use std::io;
 
 // What is seen of a cell: a graphic as #, any other as a send gives it.
 fn seen(v: u16) -> u8 {
-    if 2 <= kind_of(v) {
-        return b'#';
+    if kind_of(v) == Kind::Graphic {
+        b'#'
+    } else {
+        sent_code(v)
     }
-    sent_code(v)
 }
 
 fn mark(protect: bool, v: u16, is_cursor: bool) -> u8 {
     if is_cursor {
-        return b'^';
+        b'^'
+    } else if protect && is_open(protect, v) {
+        b'-'
+    } else {
+        b' '
     }
-    if protect {
-        if is_open(protect, v) {
-            return b'-';
-        }
-    }
-    b' '
 }
 
 // Puts what is seen of each cell on a line.
 fn draw(cells: &[u16], line: &mut [u8])
     requires { length cells.now ≤ length line.old }
 {
-    let mut i = 0;
-    while i < cells.len() {
-        line[i] = seen(cells[i]);
-        i += 1;
+    for (i, v) in cells.iter().enumerate() {
+        line[i] = seen(*v);
     }
 }
 
 // Puts the mark of each cell on a line; `cursor` is the cursor's place among the cells, if it is there.
-fn draw_marks(cells: &[u16], protect: bool, cursor: usize, line: &mut [u8])
+fn draw_marks(cells: &[u16], protect: bool, cursor: Option<usize>, line: &mut [u8])
     requires { length cells.now ≤ length line.old }
 {
-    let mut i = 0;
-    while i < cells.len() {
-        line[i] = mark(protect, cells[i], i == cursor);
-        i += 1;
+    for (i, v) in cells.iter().enumerate() {
+        line[i] = mark(protect, *v, cursor == Some(i));
     }
 }
 
-// The cursor's column in a row, or 132 where it stands in another.
-fn cursor_in(r: usize, wide: bool, cursor: u16) -> usize {
+// The cursor's column, where it stands in the row.
+fn cursor_in(r: usize, wide: bool, cursor: u16) -> Option<usize> {
     if row_of(wide, cursor) as usize == r {
-        return column_of(wide, cursor) as usize;
+        Some(column_of(wide, cursor) as usize)
+    } else {
+        None
     }
-    132
 }
 
 // Whether nothing is seen or marked in a row.
-fn is_empty(cells: &[u16], protect: bool, cursor: usize) -> bool
+fn is_empty(cells: &[u16], protect: bool, cursor: Option<usize>) -> bool
     requires { length cells.now ≤ 132 }
 {
     let mut line = [b' '; 132];
@@ -84,14 +80,14 @@ fn show_row(
     cells: &[u16],
     protect: bool,
     number: u64,
-    cursor: usize,
+    cursor: Option<usize>,
 ) -> io::Result<()>
     requires { length cells.now ≤ 132 }
 {
     let mut line = [b' '; 132];
     let n = cells.len();
     draw(cells, &mut line);
-    out::aligned(rt, number)?;
+    print!(rt; "{number:>2}")?;
     framed(rt, &line[..n])?;
     draw_marks(cells, protect, cursor, &mut line);
     if trimmed(&line) != 0 {
@@ -106,13 +102,11 @@ fn rows_used(page: &[u16], wide: bool, protect: bool, cursor: u16) -> usize
     requires { length page.now ≡ height * columns wide }
     ensures { result ≤ 24 }
 {
-    let mut n = 24;
-    while 0 < n {
-        let r = n - 1;
+    let mut n = 0;
+    for r in 0..24 {
         if !is_empty(row(page, wide, r), protect, cursor_in(r, wide, cursor)) {
-            break;
+            n = r + 1;
         }
-        n -= 1;
     }
     n
 }
@@ -128,8 +122,7 @@ fn show_rows(
     requires page_len { length page.now ≡ height * columns wide }
     requires n_bound { n ≤ 24 }
 {
-    let mut r = 0;
-    while r < n {
+    for r in 0..n {
         show_row(
             rt,
             row(page, wide, r),
@@ -137,7 +130,6 @@ fn show_rows(
             r as u64 + 1,
             cursor_in(r, wide, cursor),
         )?;
-        r += 1;
     }
     Ok(())
 }
@@ -145,9 +137,8 @@ fn show_rows(
 // The rows that are left out.
 fn folded(rt: &impl Print, n: usize) -> io::Result<()> {
     if n < 23 {
-        out::text(rt, b"    rows ")?;
-        out::number(rt, n as u64 + 1)?;
-        out::text(rt, b" to 24 are empty\n")?;
+        let first = n + 1;
+        println!(rt; "    rows {first} to 24 are empty")?;
     }
     if n == 23 {
         out::text(rt, b"    row 24 is empty\n")?;

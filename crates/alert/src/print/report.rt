@@ -8,12 +8,11 @@ use page::cell::is_guarded;
 use rules::{Modes, Pending, Screen};
 use state::width::{column_of, row_of};
 use std::io;
-use std::num::wrapping_add_u64;
 
 pub fn heading(rt: &impl Print, name: &str, bytes: u64) -> io::Result<()> {
     out::text(rt, name.as_bytes())?;
     out::text(rt, b": ")?;
-    out::count(rt, bytes, b"byte")?;
+    out::count(rt, bytes, "byte")?;
     out::text(rt, b" from the host\n\n")
 }
 
@@ -32,29 +31,25 @@ fn split(rt: &impl Print, screen: Screen) -> io::Result<()> {
     if s == 0 {
         return Ok(());
     }
-    out::text(rt, b"Split     segment 0 is rows 1 to ")?;
-    out::number(rt, s - 1)?;
-    out::text(rt, b", segment 1 rows ")?;
-    out::number(rt, s)?;
-    out::text(rt, b" to 24; segment ")?;
-    out::number(rt, screen.active as u64)?;
-    out::text(rt, b" is active\n")
+    let last = s - 1;
+    let active = screen.active;
+    println!(rt;
+        "Split     segment 0 is rows 1 to {last}, segment 1 rows {s} to 24; segment {active} is active"
+    )
 }
 
 fn is_guarded_at(page: &[u16], protect: bool, at: usize) -> bool {
-    if at < page.len() {
-        return is_guarded(protect, page[at]);
+    match page.get(at) {
+        Some(v) => is_guarded(protect, *v),
+        None => false,
     }
-    false
 }
 
 // A cell of the page by its row and column.
 fn cell_place(rt: &impl Print, wide: bool, at: u16) -> io::Result<()> {
-    out::place(
-        rt,
-        row_of(wide, at) as u64 + 1,
-        column_of(wide, at) as u64 + 1,
-    )
+    let row = u64::from(row_of(wide, at)) + 1;
+    let column = u64::from(column_of(wide, at)) + 1;
+    print!(rt; "row {row}, column {column}")
 }
 
 pub fn place(rt: &impl Print, page: &[u16], protect: bool, screen: Screen) -> io::Result<()> {
@@ -68,27 +63,17 @@ pub fn place(rt: &impl Print, page: &[u16], protect: bool, screen: Screen) -> io
     split(rt, screen)
 }
 
-// A mode's name, where the mode is on; answers whether a name has been told.
-fn mode(rt: &impl Print, told: bool, on: bool, name: &[u8]) -> io::Result<bool> {
-    if !on {
-        return Ok(told);
-    }
-    if told {
-        out::text(rt, b", ")?;
-    }
-    out::text(rt, name)?;
-    Ok(true)
-}
-
 pub fn modes(rt: &impl Print, m: Modes) -> io::Result<()> {
     out::text(rt, b"Modes     ")?;
-    let a = mode(rt, false, m.protect, b"protect")?;
-    let b = mode(rt, a, m.writeprotect, b"write-protect")?;
-    let c = mode(rt, b, m.insert, b"insert")?;
-    let d = mode(rt, c, m.autoscroll, b"autoscroll")?;
-    let e = mode(rt, d, m.locked, b"keyboard locked")?;
-    let f = mode(rt, e, m.local, b"local edit")?;
-    if !f {
+    let modes = [
+        (m.protect, "protect"),
+        (m.writeprotect, "write-protect"),
+        (m.insert, "insert"),
+        (m.autoscroll, "autoscroll"),
+        (m.locked, "keyboard locked"),
+        (m.local, "local edit"),
+    ];
+    if !out::names(rt, &modes, "", ", ")? {
         out::text(rt, b"none is on")?;
     }
     out::text(rt, b"\n")
@@ -114,38 +99,31 @@ pub fn sequence(rt: &impl Print, q: Pending) -> io::Result<()> {
 }
 
 // A kind of refusal, where there was one: how many, of what, and why.
-fn kind(rt: &impl Print, n: u64, word: &[u8], why: &[u8]) -> io::Result<()> {
+fn kind(rt: &impl Print, n: u64, word: &str, why: &str) -> io::Result<()> {
     if n == 0 {
         return Ok(());
     }
     out::text(rt, b"          ")?;
     out::count(rt, n, word)?;
-    out::text(rt, why)?;
-    out::text(rt, b"\n")
+    println!(rt; "{why}")
 }
 
 // The bytes above 7Fh: the page was compared cell by cell before and after each.
 fn high(rt: &impl Print, n: u64, clean: bool) -> io::Result<()> {
-    if clean {
-        return kind(
-            rt,
-            n,
-            b"byte",
-            b" above 7Fh (answer 1): the page is the same before and after, cell by cell",
-        );
-    }
-    kind(
-        rt,
-        n,
-        b"byte",
-        b" above 7Fh (answer 1): THE PAGE IS NOT THE SAME before and after",
-    )
+    let why = if clean {
+        " above 7Fh (answer 1): the page is the same before and after, cell by cell"
+    } else {
+        " above 7Fh (answer 1): THE PAGE IS NOT THE SAME before and after"
+    };
+    kind(rt, n, "byte", why)
 }
 
 fn total(r: Refusals) -> u64 {
-    let a = wrapping_add_u64(r.high, r.unknown);
-    let b = wrapping_add_u64(r.argument, r.barred);
-    wrapping_add_u64(wrapping_add_u64(a, b), r.other)
+    r.high
+        .wrapping_add(r.unknown)
+        .wrapping_add(r.argument)
+        .wrapping_add(r.barred)
+        .wrapping_add(r.other)
 }
 
 // A number, or the word for none.
@@ -153,47 +131,44 @@ fn amount(rt: &impl Print, n: u64) -> io::Result<()> {
     if n == 0 {
         return out::text(rt, b"none");
     }
-    out::number(rt, n)
+    print!(rt; "{n}")
 }
 
 pub fn refused(rt: &impl Print, r: Refusals, bytes: u64, clean: bool) -> io::Result<()> {
     out::text(rt, b"Refused   ")?;
     amount(rt, total(r))?;
     out::text(rt, b" of ")?;
-    out::count(rt, bytes, b"byte")?;
+    out::count(rt, bytes, "byte")?;
     out::text(rt, b"\n")?;
     high(rt, r.high, clean)?;
     kind(
         rt,
         r.unknown,
-        b"byte",
-        b" after ESC that no rule has (answer 2)",
+        "byte",
+        " after ESC that no rule has (answer 2)",
     )?;
     kind(
         rt,
         r.argument,
-        b"argument",
-        b" outside its range or its form (answer 3)",
+        "argument",
+        " outside its range or its form (answer 3)",
     )?;
     kind(
         rt,
         r.barred,
-        b"byte",
-        b" barred by a guarded cell or by protect mode (answer 4)",
+        "byte",
+        " barred by a guarded cell or by protect mode (answer 4)",
     )?;
     kind(
         rt,
         r.other,
-        b"byte",
-        b" that the terminal did not take (answer 6, 7 or 8)",
+        "byte",
+        " that the terminal did not take (answer 6, 7 or 8)",
     )
 }
 
 fn is_text(b: u8) -> bool {
-    if b < 0x20 {
-        return false;
-    }
-    b < 0x7f
+    matches!(b, 0x20..=0x7e)
 }
 
 // A control code by its name, or by its number.
@@ -203,7 +178,7 @@ fn control(rt: &impl Print, b: u8) -> io::Result<()> {
         0x0d => out::text(rt, b"<CR>"),
         0x1c => out::text(rt, b"<FS>"),
         0x1f => out::text(rt, b"<US>"),
-        _ => out::hex(rt, b),
+        _ => print!(rt; "<{b:02x}>"),
     }
 }
 
@@ -220,19 +195,11 @@ fn reply_byte(rt: &impl Print, last: u8, b: u8) -> io::Result<()> {
 
 fn reply_bytes(rt: &impl Print, bytes: &[u8]) -> io::Result<()> {
     let mut last = b' ';
-    let mut i = 0;
-    while i < bytes.len() {
-        reply_byte(rt, last, bytes[i])?;
-        last = bytes[i];
-        i += 1;
+    for b in bytes {
+        reply_byte(rt, last, *b)?;
+        last = *b;
     }
     Ok(())
-}
-
-pub fn least(a: usize, b: usize) -> usize
-    ensures { result ≤ b }
-{
-    if a < b { a } else { b }
 }
 
 // The replies, joined; the log holds the first of their bytes.
@@ -240,9 +207,9 @@ pub fn replies(rt: &impl Print, p: Played, log: &[u8]) -> io::Result<()> {
     if p.replied == 0 {
         return Ok(());
     }
-    let n = least(p.kept, log.len());
+    let n = p.kept.min(log.len());
     out::text(rt, b"\nReplies to the host, ")?;
-    out::count(rt, p.replied, b"byte")?;
+    out::count(rt, p.replied, "byte")?;
     out::text(rt, b"\n  ")?;
     reply_bytes(rt, &log[..n])?;
     if (n as u64) < p.replied {

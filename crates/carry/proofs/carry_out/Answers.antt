@@ -1,6 +1,5 @@
 -- `carry::carry_out` meets its contract.
 use mathlib.Core.Path.{refl, sym, ◌∙◌}
-use Rattle.rules.proofs.Rows.{columns_width}
 use Rattle.carry.proofs.Carrying.{carried_out, carried_beside}
 use Rattle.carry.proofs.carry_out.Goals as goal
 
@@ -11,13 +10,13 @@ pub returns-then-is_sending : goal.returns-then-is_sending
 returns-then-is_sending c = c.begin.ensures
 
 pub write_both-requires : goal.write_both-requires
-write_both-requires c = rw c.width_of-width.ensures (c.requires.0, (c.requires.1.0.one, (c.requires.1.0.two, (columns_width _, c.requires.1.1))))
+write_both-requires c = (c.requires.0, (c.requires.1.0.one, (c.requires.1.0.two, c.requires.1.1)))
 
-pub land-c-requires : goal.land-c-requires
-land-c-requires c = (
+pub land-requires : goal.land-requires
+land-requires c = (
   c.write_both.auto.page
       ∙ c.requires.0,
-  (c.requires.1.0.screen, (c.requires.1.0.place, rw (← c.width_of-width.ensures) c.write_both.ensures.1)),
+  (c.requires.1.0.screen, (c.requires.1.0.place, c.write_both.ensures.1)),
 )
 
 pub shape_of-page : goal.shape_of-page
@@ -30,8 +29,8 @@ pub returns : goal.returns
 returns c =
     let x = c.args in (
       carried_out x.page.now x.core x.plan x.room.now (sym c.is_sending.ensures ∙ c.if-is_sending.false)
-          c.width_of-width.ensures refl c.write_both.ensures.0 c.land-c.ensures,
+          refl refl c.write_both.ensures.0 c.land.ensures,
       carried_beside x.page.now x.core x.plan
-          x.room.now (sym c.is_sending.ensures ∙ c.if-is_sending.false) c.width_of-width.ensures c.write_both.ensures.0
+          x.room.now (sym c.is_sending.ensures ∙ c.if-is_sending.false) refl c.write_both.ensures.0
           c.write_both.ensures.1,
     )

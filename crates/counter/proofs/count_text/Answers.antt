@@ -1,5 +1,5 @@
 -- `counter::count_text` meets its contract.
-use mathlib.Core.Path.{ap, ◌∙◌}
+use Rattle.std.proofs.Common.{ap, ◌∙◌}
 use Rattle.counter.specs.Count.{numbers, text_count}
 use Rattle.counter.proofs.Texts.{remaining_all}
 use Rattle.counter.proofs.count_text.Goals as goal

@@ -10,7 +10,3 @@ use Rattle.fields.proofs.put.Given as goal
 abbrev pub invariant-loop-i : goal.invariant-loop-i
 invariant-loop-i l =
     (l.from ≤ l.i) × ((l.i ≤ l.to) × (l.room ≡ over (map sent (slice l.from l.i l.page)) l.initial.room))
-
-abbrev pub decreases-loop-i : goal.decreases-loop-i
-decreases-loop-i l =
-    l.to - l.i

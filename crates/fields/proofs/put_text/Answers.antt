@@ -5,21 +5,24 @@ use lib.ListN.{length}
 use lib.Seq.{slice}
 use Rattle.rules.specs.Cell.{sent}
 use Rattle.rules.specs.Fields.{text_of}
+use Rattle.fields.specs.declared.Refusal.{Refusal}
+use Rattle.fields.specs.Given.{refusal_number}
 use Rattle.fields.proofs.Texts.{text_size, length_over}
-use Rattle.fields.proofs.Reading.{read_as, no_room, whole}
+use Rattle.fields.proofs.Reading.{read_as, refused, no_room, whole}
 use Rattle.fields.proofs.put_text.Goals as goal
 
 pub overflow_sub-to : goal.overflow_sub-to
 overflow_sub-to c = c.text_end-to.ensures.0
 
 pub returns-then-room-to : goal.returns-then-room-to
+unfolding refusal_number
 returns-then-room-to c =
     let x = c.args in
     let t = c.text_end-to.ensures in
     let k = c.requires in
     let n = text_size x.from c.text_end-to.result x.page.now (omega (arith, k, t.1.0)) in
     read_as (no_room (text_of x.trim x.from x.end x.page.now) (length x.room.now)
-    (rw (← t.1.1) (omega (arith, n, c.if-room-to.true)))) (c.refused.ensures x.room.now)
+    (rw (← t.1.1) (omega (arith, n, c.if-room-to.true)))) (refused Refusal.NoRoom x.room.now)
 
 pub put-requires : goal.put-requires
 put-requires c =

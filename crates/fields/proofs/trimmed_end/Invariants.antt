@@ -7,10 +7,6 @@ use Rattle.rules.specs.Cell.{sent}
 use Rattle.rules.specs.Fields.{trimmed}
 use Rattle.fields.proofs.trimmed_end.Given as goal
 
-abbrev pub invariant-loop-to : goal.invariant-loop-to
-invariant-loop-to l =
-    (l.from ≤ l.to) × ((l.to ≤ l.end) × (trimmed (map sent (slice l.from l.to l.page)) ≡ trimmed (map sent (slice l.from l.end l.page))))
-
-abbrev pub decreases-loop-to : goal.decreases-loop-to
-decreases-loop-to l =
-    l.to
+abbrev pub invariant-loop-at : goal.invariant-loop-at
+invariant-loop-at l =
+    (l.from ≤ l.at) × ((l.at ≤ l.end) × (trimmed (map sent (slice l.from l.at l.page)) ≡ trimmed (map sent (slice l.from l.end l.page))))

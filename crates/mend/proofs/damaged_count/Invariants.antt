@@ -1,14 +1,10 @@
 -- `mend::damaged_count` meets its contract. The loop: the cells up to the next one are counted.
 use mathlib.Core.Path.{◌≡◌}
-use Prim.Native.Nat.{◌-◌, ◌≤◌}
+use Prim.Native.Nat.{◌≤◌}
 use lib.ListN.{length, take}
 use Rattle.mend.specs.Mend.{damaged}
 use Rattle.mend.proofs.damaged_count.Given as goal
 
-abbrev pub invariant-loop-i : goal.invariant-loop-i
-invariant-loop-i l =
-    (l.i ≤ length l.page) × (l.n ≡ length (damaged l.personality 0 (take l.i l.page)))
-
-abbrev pub decreases-loop-i : goal.decreases-loop-i
-decreases-loop-i l =
-    length l.page - l.i
+abbrev pub invariant-loop-v : goal.invariant-loop-v
+invariant-loop-v l =
+    (l.v-index ≤ length l.page) × (l.n ≡ length (damaged l.personality 0 (take l.v-index l.page)))

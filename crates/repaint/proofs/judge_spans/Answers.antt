@@ -1,20 +1,16 @@
 -- `repaint::judge_spans` meets its contract.
-use mathlib.Core.Path.{refl}
 use native.Mathlib.Omega.{arith}
-use Rattle.repaint.proofs.Verdicts.{pass_on, pass_verdict}
+use Rattle.repaint.proofs.Verdicts.{spans_wrong, spans_lost, pass_on, pass_verdict}
 use Rattle.repaint.proofs.judge_spans.Goals as goal
 
-pub loop-i-init : goal.loop-i-init
-loop-i-init c = (omega arith, refl)
+pub returns-in_default : goal.returns-in_default
+returns-in_default c = spans_wrong _ _ _ c.in_default.ensures
 
-pub loop-i-preserved : goal.loop-i-preserved
-loop-i-preserved c =
-    let x = c.args in
-    let l = c.loop-i in
-    (omega arith, pass_on x.before.now x.after.now x.spans.now l.next l.i c.turn-next.result (omega arith) l.invariant.1 c.turn-next.ensures)
+pub returns-in_default-turn : goal.returns-in_default-turn
+returns-in_default-turn c = spans_lost _ _ c.args.spans.now _ c.loop-s.s-index c.in-Some.ensures.0 (omega arith) c.loop-s.invariant c.in_default-turn.ensures
+
+pub loop-s-preserved : goal.loop-s-preserved
+loop-s-preserved c = pass_on _ _ c.args.spans.now _ c.loop-s.s-index _ (omega arith) c.loop-s.invariant c.in-Some-turn.ensures
 
 pub returns : goal.returns
-returns c =
-    let x = c.args in
-    let l = c.loop-i in
-    pass_verdict x.before.now x.after.now x.spans.now l.next l.i c.finish.result (omega arith) l.invariant.1 c.finish.ensures
+returns c = pass_verdict _ _ c.args.spans.now _ c.loop-s.s-index _ (omega arith) c.loop-s.invariant c.finish.ensures

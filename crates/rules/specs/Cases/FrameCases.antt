@@ -1,7 +1,7 @@
 -- The other side of Frames: each part that a row lists does change, in a worked case.
 use Rattle.std.specs.Prelude.{Bool, true, false, not, ◌≡◌, List, [], ◌∷◌, ◌++◌, map, ℕ, ◌-◌, eqb, get_or}
 use Rattle.rules.specs.declared.State.{State}
-use Rattle.rules.specs.declared.ShortText.{ShortText}
+use Rattle.rules.specs.declared.Text.{Text}
 use Rattle.rules.specs.declared.Personality.TheVariants as Personality
 use Rattle.rules.specs.Cell.{pick, both, either, same}
 use Rattle.rules.specs.Decode.{decode_rule}
@@ -18,7 +18,7 @@ use Rattle.rules.specs.Cases.ReplyCases.{mode_trials}
 use Rattle.rules.specs.Theorems.Areas.{area_from, area_to}
 
 -- what a part holds, as numbers
-unfoldable pub text_numbers : List ShortText → List ℕ
+unfoldable pub text_numbers : List (Text 8) → List ℕ
 text_numbers [] = []
 text_numbers (t ∷ l) = t.len ∷ (t.bytes ++ text_numbers l)
 

@@ -2,7 +2,7 @@
 -- of answer 5, which is unused.
 use Rattle.std.specs.Prelude.{◌≡◌, true, List, [], ◌∷◌, ℕ, ◌+◌, ◌≤◌, length, take}
 use Rattle.rules.specs.declared.State.{State}
-use Rattle.rules.specs.declared.ShortText.{ShortText}
+use Rattle.rules.specs.declared.Text.{Text}
 use Rattle.rules.specs.declared.Slot.TheVariants as Slot
 use Rattle.rules.specs.State.{stored}
 use Rattle.rules.specs.Slot.{text_ok}
@@ -10,7 +10,7 @@ use Rattle.rules.specs.Possible.{possible}
 use Rattle.rules.specs.Step.{step_rule}
 
 -- the key bytes in all
-unfoldable pub key_bytes : List ShortText → ℕ
+unfoldable pub key_bytes : List (Text 8) → ℕ
 key_bytes [] = 0
 key_bytes (k ∷ ks) = k.len + key_bytes ks
 

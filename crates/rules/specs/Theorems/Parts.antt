@@ -2,8 +2,7 @@
 use Rattle.std.specs.Prelude.{Bool, true, false, List, [], ◌∷◌, ℕ, eqb}
 use Rattle.rules.specs.declared.Screen.{Screen}
 use Rattle.rules.specs.declared.Personality.{Personality}
-use Rattle.rules.specs.declared.ShortText.{ShortText}
-use Rattle.rules.specs.declared.LongText.{LongText}
+use Rattle.rules.specs.declared.Text.{Text}
 use Rattle.rules.specs.declared.Core.{Core}
 use Rattle.rules.specs.declared.Setup.{Setup}
 use Rattle.rules.specs.Cell.{pick, either}
@@ -46,8 +45,8 @@ pub data Value : Type 0 where
   Number : ℕ → Value
   Flags : List Bool → Value
   Numbers : List ℕ → Value
-  Texts : List ShortText → Value
-  Long : LongText → Value
+  Texts : List (Text 8) → Value
+  Long : Text 46 → Value
   Named : Personality → Value
 
 -- the cursor of segment n, and of the other one

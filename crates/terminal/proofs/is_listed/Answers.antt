@@ -2,7 +2,6 @@
 use Rattle.std.specs.Prelude.{◌≡◌, true}
 use mathlib.Core.Path.{sym, ◌∙◌}
 use Rattle.rules.specs.Possible.{good}
-use Rattle.rules.proofs.Rows.{columns_width}
 use Rattle.rules.proofs.Kept.{good_parts}
 use Rattle.terminal.proofs.is_listed.Goals as goal
 
@@ -13,10 +12,10 @@ pub is_row_list-requires : goal.is_row_list-requires
 is_row_list-requires c =
     let fine : good c.args.page.now c.args.state ≡ true =
     sym c.is_good.ensures ∙ c.if-not-is_good.false in
-    rw c.width_of-width.ensures (columns_width _, (good_parts c.args.page.now c.args.state (fine)).0)
+    (good_parts c.args.page.now c.args.state fine).0
 
 pub returns : goal.returns
 returns c =
     let fine : good c.args.page.now c.args.state ≡ true =
     sym c.is_good.ensures ∙ c.if-not-is_good.false in
-    c.is_row_list.ensures ∙ rw (fine, c.width_of-width.ensures)
+    c.is_row_list.ensures ∙ rw fine

@@ -1,30 +1,19 @@
 -- `terminal::rebuild_rows` meets its contract.
-use Rattle.std.specs.Prelude.{◌≡◌, eqb, length}
-use mathlib.Core.Path.{ap, ◌∙◌}
-use Rattle.rules.specs.Cell.{both}
-use Rattle.rules.specs.RowCalls.{can_rebuild}
-use Rattle.rules.proofs.Rows.{columns_width}
-use Rattle.terminal.proofs.RowCalls.{rebuilt_none, rebuilt_all, can_rebuild_lem}
+use mathlib.Core.Path.{sym, ◌∙◌}
+use Rattle.terminal.proofs.RowCalls.{not_rebuilt, no_list, no_good, rebuilt_all, long_page}
+use Rattle.terminal.proofs.rebuild_rows.Goals.{then-rows-ne48-via-then-rows-ne48, then-rows-ne48-via-else-rows-ne48+then-not-is_good}
 use Rattle.terminal.proofs.rebuild_rows.Goals as goal
 
-pub returns-then-not-and : goal.returns-then-not-and
-unfolding can_rebuild
-returns-then-not-and c =
-    let tested : c.and.result ≡ can_rebuild c.args.page.now c.args.rows.now c.args.state =
-    c.and.ensures ∙ ap (both (eqb (length c.args.rows.now) 48)) c.is_good.ensures in
-    rebuilt_none _ _ _ (tested) (c.if-not-and.true)
+pub returns-then-rows-ne48 : goal.returns-then-rows-ne48
+returns-then-rows-ne48 c =
+    not_rebuilt _ _ _
+    (elim c.then-rows-ne48.branch [
+      | then-rows-ne48-via-then-rows-ne48 w ↦ no_list _ _ _ w.if-rows-ne48.true
+      | then-rows-ne48-via-else-rows-ne48+then-not-is_good w ↦ no_good _ _ _ (sym w.is_good.ensures ∙ w.if-not-is_good.true)
+    ])
 
 pub rebuild-requires : goal.rebuild-requires
-unfolding can_rebuild
-rebuild-requires c =
-    let tested : c.and.result ≡ can_rebuild c.args.page.now c.args.rows.now c.args.state =
-    c.and.ensures ∙ ap (both (eqb (length c.args.rows.now) 48)) c.is_good.ensures in
-    let k = can_rebuild_lem _ _ _ (tested) (c.if-not-and.false) in
-    rw c.width_of-width.ensures (columns_width _, (k.0, k.1))
+rebuild-requires c = (long_page _ _ (sym c.is_good.ensures ∙ c.if-not-is_good.false), c.if-rows-ne48.false)
 
 pub returns : goal.returns
-unfolding can_rebuild
-returns c =
-    let tested : c.and.result ≡ can_rebuild c.args.page.now c.args.rows.now c.args.state =
-    c.and.ensures ∙ ap (both (eqb (length c.args.rows.now) 48)) c.is_good.ensures in
-    rebuilt_all _ _ _ (tested) (c.if-not-and.false) (c.rebuild.ensures ∙ rw c.width_of-width.ensures)
+returns c = rebuilt_all _ _ _ c.if-rows-ne48.false (sym c.is_good.ensures ∙ c.if-not-is_good.false) c.rebuild.ensures

@@ -1,5 +1,5 @@
 // What the fast path edits and clears: a plan with no core in it.
-ghost use Rattle.std.specs.Prelude.{◌≡◌, ℕ, ◌<◌, ◌≤◌, Bool, List};
+ghost use Rattle.std.specs.Prelude.{◌≡◌, ℕ, ◌<◌, ◌≤◌, Bool, List, IfSome};
 ghost use Rattle.rules.specs.Cell.{pick};
 ghost use Rattle.rules.specs.Row.{height, columns as columns_of, wide_cells, row_end};
 ghost use Rattle.rules.specs.declared.Write.TheVariants as Write;
@@ -12,75 +12,68 @@ use page::search::is_guarded_at;
 use rules::Write;
 use state::width::{columns, row_of};
 
-// What is written, and the cursor after it; `end` where nothing is.
+// What is written, and the cursor after it.
 #[derive(Clone, Copy)]
 pub struct Act {
     pub write: Write,
     pub at: usize,
 }
 
-fn none(ground: Ground) -> Act
-    ensures { result.at ≡ ground.end }
-{
-    Act {
-        write: Write::Nothing,
-        at: ground.end,
-    }
-}
-
 // ESC Q and ESC W.
-fn edit_cell(page: &[u16], ground: Ground, at: usize, right: bool) -> Act
+fn edit_cell(page: &[u16], ground: Ground, at: usize, right: bool) -> Option<Act>
     requires { Fits ground page.now × (at < ground.end) }
-    ensures { (b : ℕ) → b ≡ pick right 0x51 0x57 → result.at < ground.end → Edits ground page.now at b result.write result.at }
+    ensures { (b : ℕ) → b ≡ pick right 0x51 0x57
+        → IfSome result (λ a. (a.at < ground.end) × Edits ground page.now at b a.write a.at) }
 {
     if is_guarded_at(page, ground.protect, at) {
-        return none(ground);
+        return None;
     }
     let w = Write::Edit {
-        right: right,
+        right,
         at: at as u16,
         value: SPACE,
     };
-    Act { write: w, at: at }
+    Some(Act { write: w, at })
 }
 
 // ESC E and ESC R.
-fn edit_row(ground: Ground, at: usize, down: bool) -> Act
+fn edit_row(ground: Ground, at: usize, down: bool) -> Option<Act>
     requires { (at < ground.end) × ((ground.end ≤ wide_cells) × (ground.bottom ≤ height)) }
-    ensures { (p : List ℕ) (b : ℕ) → b ≡ pick down 0x45 0x52 → result.at < ground.end → Edits ground p at b result.write result.at }
+    ensures { (p : List ℕ) (b : ℕ) → b ≡ pick down 0x45 0x52
+        → IfSome result (λ a. (a.at < ground.end) × Edits ground p at b a.write a.at) }
 {
     if ground.protect {
-        return none(ground);
+        return None;
     }
     let w = Write::Rows {
-        down: down,
+        down,
         top: row_of(ground.wide, at as u16),
         bottom: ground.bottom as u16,
     };
-    Act {
+    Some(Act {
         write: w,
         at: line_start(ground.wide, at),
-    }
+    })
 }
 
 // ESC j in the top row.
-fn reverse(ground: Ground, at: usize) -> Act
+fn reverse(ground: Ground, at: usize) -> Option<Act>
     requires { (at < ground.end)
         × ((ground.end ≤ wide_cells) × ((ground.home ≤ ground.end) × ((ground.top ≤ height) × (ground.bottom ≤ height)))) }
-    ensures { (p : List ℕ) → result.at < ground.end → Edits ground p at 0x6a result.write result.at }
+    ensures { (p : List ℕ) → IfSome result (λ a. (a.at < ground.end) × Edits ground p at 0x6a a.write a.at) }
 {
     if ground.protect {
-        return none(ground);
+        return None;
     }
     if ground.home + columns(ground.wide) as usize <= at {
-        return none(ground);
+        return None;
     }
     let w = Write::Rows {
         down: true,
         top: ground.top as u16,
         bottom: ground.bottom as u16,
     };
-    Act { write: w, at: at }
+    Some(Act { write: w, at })
 }
 
 // The open cells from the cursor up to `to`.
@@ -91,21 +84,21 @@ fn clear(at: usize, to: usize, value: u16) -> Act
     let w = Write::Fill {
         from: at as u16,
         to: to as u16,
-        value: value,
+        value,
     };
-    Act { write: w, at: at }
+    Act { write: w, at }
 }
 
 // Those of the segment, whose first cell is open.
-fn clear_segment(page: &[u16], ground: Ground, value: u16) -> Act
+fn clear_segment(page: &[u16], ground: Ground, value: u16) -> Option<Act>
     requires { Fits ground page.now }
-    ensures { (at b : ℕ) (spaces : Bool) → value ≡ blank spaces → b ≡ pick spaces 0x3b 0x3a → result.at < ground.end
-        → Edits ground page.now at b result.write result.at }
+    ensures { (at b : ℕ) (spaces : Bool) → value ≡ blank spaces → b ≡ pick spaces 0x3b 0x3a
+        → IfSome result (λ a. (a.at < ground.end) × Edits ground page.now at b a.write a.at) }
 {
     if is_guarded_at(page, ground.protect, ground.home) {
-        return none(ground);
+        return None;
     }
-    clear(ground.home, ground.end, value)
+    Some(clear(ground.home, ground.end, value))
 }
 
 // The end of the cursor's row.
@@ -117,9 +110,9 @@ fn line_end(wide: bool, at: usize) -> usize
 }
 
 // The byte b after ESC.
-pub(crate) fn edit(page: &[u16], ground: Ground, at: usize, b: u8) -> Act
+pub(crate) fn edit(page: &[u16], ground: Ground, at: usize, b: u8) -> Option<Act>
     requires { Fits ground page.now × (at < ground.end) }
-    ensures { result.at < ground.end → Edits ground page.now at b result.write result.at }
+    ensures { IfSome result (λ a. (a.at < ground.end) × Edits ground page.now at b a.write a.at) }
 {
     match b {
         0x3a => clear_segment(page, ground, NULL),
@@ -127,12 +120,12 @@ pub(crate) fn edit(page: &[u16], ground: Ground, at: usize, b: u8) -> Act
         0x45 => edit_row(ground, at, true),
         0x51 => edit_cell(page, ground, at, true),
         0x52 => edit_row(ground, at, false),
-        0x54 => clear(at, line_end(ground.wide, at), SPACE),
+        0x54 => Some(clear(at, line_end(ground.wide, at), SPACE)),
         0x57 => edit_cell(page, ground, at, false),
-        0x59 => clear(at, ground.end, SPACE),
+        0x59 => Some(clear(at, ground.end, SPACE)),
         0x6a => reverse(ground, at),
-        0x74 => clear(at, line_end(ground.wide, at), NULL),
-        0x79 => clear(at, ground.end, NULL),
-        _ => none(ground),
+        0x74 => Some(clear(at, line_end(ground.wide, at), NULL)),
+        0x79 => Some(clear(at, ground.end, NULL)),
+        _ => None,
     }
 }

@@ -1,12 +1,12 @@
 // Where the fast path moves the cursor: ESC =, the moves of one byte, and the scrolls of 0Ah and 1Fh.
-ghost use Rattle.std.specs.Prelude.{◌≡◌, ℕ, ◌+◌, ◌-◌, ◌*◌, ◌<◌, ◌≤◌, true, false, List, length, slice_index};
+ghost use Rattle.std.specs.Prelude.{◌≡◌, ℕ, ◌+◌, ◌-◌, ◌*◌, ◌<◌, ◌≤◌, true, false, List, length, slice_index, IfSome};
 ghost use Rattle.rules.specs.Cell.{both, among as among_of};
 ghost use Rattle.rules.specs.Row.{height, columns as columns_of, addressed, row_start, wide_cells};
 ghost use Rattle.terminal.specs.FastPath.{Fits, OpenAt, Addressed, Outside, Goes, Rolled};
 
 use crate::fast::Ground;
 use page::search::{is_guarded_at, next_field};
-use state::logic::{among, and};
+use state::logic::among;
 use state::width::{cells, column_of, columns};
 
 // The cell of a row and a column code.
@@ -17,37 +17,37 @@ fn cell_at(ground: Ground, row: u8, column: u8) -> usize
     ground.home + cells(ground.wide, (row - 0x20) as u16) as usize + (column - 0x20) as usize
 }
 
-// The cell of an ESC = whose ESC is byte i, if it is an open one of the segment; else `end`.
-pub(crate) fn address(page: &[u16], ground: Ground, input: &[u8], i: usize) -> usize
+// The cell of an ESC = whose ESC is byte i, if it is an open one of the segment.
+pub(crate) fn address(page: &[u16], ground: Ground, input: &[u8], i: usize) -> Option<usize>
     requires { Fits ground page.now × ((i < length input.now) × (slice_index input.now i ≡ 0x1b)) }
-    ensures { result < ground.end
-        → (i + 4 ≤ length input.now) × (Addressed ground input.now i result × OpenAt ground page.now result) }
+    ensures { IfSome result (λ k. (k < ground.end)
+        × ((i + 4 ≤ length input.now) × (Addressed ground input.now i k × OpenAt ground page.now k))) }
 {
     if input.len() <= i + 3 {
-        return ground.end;
+        return None;
     }
     if input[i + 1] != 0x3d {
-        return ground.end;
+        return None;
     }
     let row = input[i + 2];
     let column = input[i + 3];
     if row < 0x20 {
-        return ground.end;
+        return None;
     }
     if column < 0x20 {
-        return ground.end;
+        return None;
     }
     if 0x6f < column {
-        return ground.end;
+        return None;
     }
     let k = cell_at(ground, row, column);
     if ground.end <= k {
-        return ground.end;
+        return None;
     }
     if is_guarded_at(page, ground.protect, k) {
-        return ground.end;
+        return None;
     }
-    k
+    Some(k)
 }
 
 // Whether a row and a column code are of the segment.
@@ -55,13 +55,10 @@ fn is_addressed(ground: Ground, row: u8, column: u8) -> bool
     requires { (ground.top ≤ ground.bottom) × (ground.bottom ≤ height) }
     ensures { result ≡ both (among_of 0x20 (ground.bottom - ground.top) row) (among_of 0x20 addressed column) }
 {
-    and(
-        among(0x20, (ground.bottom - ground.top) as u8, row),
-        among(0x20, 80, column),
-    )
+    among(0x20, (ground.bottom - ground.top) as u8, row) && among(0x20, 80, column)
 }
 
-// Whether the ESC at byte i begins an ESC = out of the segment, and that is not to stop the ground.
+// Whether the ESC at byte i begins an ESC = out of the segment, and that is not to stop the path.
 pub(crate) fn is_outside(ground: Ground, input: &[u8], i: usize, stop: bool) -> bool
     requires { (ground.top ≤ ground.bottom) × ((ground.bottom ≤ height) × ((i < length input.now) × (slice_index input.now i ≡ 0x1b))) }
     ensures { result ≡ true → (stop ≡ false) × ((i + 4 ≤ length input.now) × Outside ground input.now i) }
@@ -127,78 +124,80 @@ fn right(ground: Ground, at: usize) -> usize
     ground.home
 }
 
-// The cell that a byte moves the cursor to, in the segment: 08h, 0Ah, 0Bh, 0Ch, 0Dh, 1Eh, 1Fh, with no scroll.
-fn goal(ground: Ground, at: usize, b: u8) -> usize
+// The cell that a byte moves the cursor to, with no scroll: 08h, 0Ah, 0Bh, 0Ch, 0Dh, 1Eh, 1Fh.
+fn goal(ground: Ground, at: usize, b: u8) -> Option<usize>
     requires { (at < ground.end) × ((ground.end ≤ wide_cells) × ((ground.home ≤ wide_cells) × (columns_of ground.wide ≤ ground.end))) }
-    ensures { (p : List ℕ) → result < ground.end → Goes ground p at b result }
+    ensures { (p : List ℕ) → IfSome result (λ k. Goes ground p at b k) }
 {
     let width = columns(ground.wide) as usize;
     match b {
-        0x08 => back(ground, at),
-        0x0a => at + width,
-        0x0b => up(ground, at),
-        0x0c => right(ground, at),
-        0x0d => line_start(ground.wide, at),
-        0x1e => ground.home,
-        0x1f => line_start(ground.wide, at) + width,
-        _ => ground.end,
+        0x08 => Some(back(ground, at)),
+        0x0a => Some(at + width),
+        0x0b => Some(up(ground, at)),
+        0x0c => Some(right(ground, at)),
+        0x0d => Some(line_start(ground.wide, at)),
+        0x1e => Some(ground.home),
+        0x1f => Some(line_start(ground.wide, at) + width),
+        _ => None,
     }
 }
 
 // The same, and 09h with protect mode on.
-fn goal_on(page: &[u16], ground: Ground, at: usize, b: u8) -> usize
+fn goal_on(page: &[u16], ground: Ground, at: usize, b: u8) -> Option<usize>
     requires { Fits ground page.now × (at < ground.end) }
-    ensures { result < ground.end → Goes ground page.now at b result }
+    ensures { IfSome result (λ k. Goes ground page.now at b k) }
 {
     if b != 0x09 {
         return goal(ground, at, b);
     }
     if !ground.protect {
-        return ground.end;
+        return None;
     }
     if at < ground.home {
-        return ground.end;
+        return None;
     }
-    next_field(page, true, ground.home, ground.end, at)
+    Some(next_field(page, true, ground.home, ground.end, at))
 }
 
-// That cell, if it is an open one of the segment; else `end`.
-pub(crate) fn open_goal(page: &[u16], ground: Ground, at: usize, b: u8) -> usize
+// That cell, if it is an open one of the segment.
+pub(crate) fn open_goal(page: &[u16], ground: Ground, at: usize, b: u8) -> Option<usize>
     requires { Fits ground page.now × (at < ground.end) }
-    ensures { result < ground.end → Goes ground page.now at b result × OpenAt ground page.now result }
+    ensures { IfSome result (λ k. (k < ground.end) × (Goes ground page.now at b k × OpenAt ground page.now k)) }
 {
-    let k = goal_on(page, ground, at, b);
+    let Some(k) = goal_on(page, ground, at, b) else {
+        return None;
+    };
     if ground.end <= k {
-        return ground.end;
+        return None;
     }
     if is_guarded_at(page, ground.protect, k) {
-        return ground.end;
+        return None;
     }
-    k
+    Some(k)
 }
 
-// A cell of the segment's last row; else `end`.
-fn in_last_row(ground: Ground, k: usize) -> usize
+// A cell, if it is one of the segment's last row.
+fn in_last_row(ground: Ground, k: usize) -> Option<usize>
     requires { k < wide_cells }
-    ensures { result < ground.end → (result ≡ k) × (ground.end ≤ k + columns_of ground.wide) }
+    ensures { IfSome result (λ m. (m ≡ k) × (ground.end ≤ k + columns_of ground.wide)) }
 {
     if k + (columns(ground.wide) as usize) < ground.end {
-        return ground.end;
+        return None;
     }
-    k
+    Some(k)
 }
 
-// The cell where 0Ah or 1Fh leaves the cursor if it scrolls the segment; else `end`.
-pub(crate) fn roll(ground: Ground, at: usize, b: u8) -> usize
-    requires { at < wide_cells }
-    ensures { result < ground.end → Rolled ground at b result }
+// The cell where 0Ah or 1Fh leaves the cursor if it scrolls the segment.
+pub(crate) fn roll(ground: Ground, at: usize, b: u8) -> Option<usize>
+    requires { (at < ground.end) × (at < wide_cells) }
+    ensures { IfSome result (λ k. (k < ground.end) × Rolled ground at b k) }
 {
     if !ground.rolls {
-        return ground.end;
+        return None;
     }
     match b {
         0x0a => in_last_row(ground, at),
         0x1f => in_last_row(ground, line_start(ground.wide, at)),
-        _ => ground.end,
+        _ => None,
     }
 }

@@ -6,7 +6,6 @@ use crate::fast::{Ground, Reached};
 use page::cell::is_guarded;
 use page::change::shift_edit_run;
 use page::search::is_guarded_at;
-use state::width::columns;
 
 // Whether the byte is text, and the cell and the next one are open.
 fn is_stored(page: &[u16], ground: Ground, at: usize, b: u8) -> bool
@@ -56,13 +55,13 @@ fn store(page: &mut [u16], ground: Ground, first: usize, input: &[u8], from: usi
     while i < last {
         let b = input[i];
         if !is_stored(page, ground, at, b) {
-            return Reached { at: at, taken: i };
+            return Reached { at, taken: i };
         }
         page[at] = text_cell(ground.base, b);
         at += 1;
         i += 1;
     }
-    Reached { at: at, taken: i }
+    Reached { at, taken: i }
 }
 
 // Text is inserted from there on; not where that would guard a cell.
@@ -70,24 +69,23 @@ fn insert(page: &mut [u16], ground: Ground, first: usize, input: &[u8], from: us
     requires { Fits ground page.old × ((first < ground.end) × ((from ≤ length input.now) × (ground.insert ≡ true))) }
     ensures { Passes ground input.now first from page.old result.at result.taken page.new 0 }
 {
-    let width = columns(ground.wide) as usize;
     let last = stop(first, ground.end, from, input.len());
     let mut at = first;
     let mut i = from;
     while i < last {
         let b = input[i];
         if !is_stored(page, ground, at, b) {
-            return Reached { at: at, taken: i };
+            return Reached { at, taken: i };
         }
         let v = text_cell(ground.base, b);
         if is_guarded(ground.protect, v) {
-            return Reached { at: at, taken: i };
+            return Reached { at, taken: i };
         }
-        shift_edit_run(page, width, ground.protect, true, at, v);
+        shift_edit_run(page, ground.wide, ground.protect, true, at, v);
         at += 1;
         i += 1;
     }
-    Reached { at: at, taken: i }
+    Reached { at, taken: i }
 }
 
 pub(crate) fn put(

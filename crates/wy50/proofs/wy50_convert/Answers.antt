@@ -1,26 +1,13 @@
 -- `wy50::wy50_convert` meets its contract.
-use mathlib.Core.Path.{sym, ◌∙◌}
-use Rattle.wy50.proofs.ConvertCalls.{turns_unnamed, turns_refused, turns_done}
+use Rattle.wy50.proofs.Options.{none_is, some_is}
+use Rattle.wy50.proofs.ConvertCalls.{turns_unnamed, turns_done, turns_refused}
 use Rattle.wy50.proofs.wy50_convert.Goals as goal
 
-pub returns-then-not-is_named : goal.returns-then-not-is_named
-returns-then-not-is_named c =
-    let x = c.args in
-    turns_unnamed x.page.now x.state x.target.now (sym c.is_named.ensures ∙ c.if-not-is_named.true)
+pub returns-in_default : goal.returns-in_default
+returns-in_default c = turns_unnamed _ _ _ (none_is _ _ c.in_default.ensures)
 
-pub unpack-requires : goal.unpack-requires
-unpack-requires c = sym c.is_named.ensures ∙ c.if-not-is_named.false
+pub returns-in-Ok : goal.returns-in-Ok
+returns-in-Ok c = let s = some_is _ c.in-Some.ensures in turns_done _ _ _ s.0 s.1 c.in-Ok.ensures c.pack.ensures
 
-pub returns-then-n-ne0 : goal.returns-then-n-ne0
-returns-then-n-ne0 c =
-    let x = c.args in
-    turns_refused x.page.now x.state x.target.now (sym c.is_named.ensures ∙ c.if-not-is_named.false)
-    c.unpack.ensures
-    c.convert-t.ensures c.answer_number-n.ensures c.if-n-ne0.true
-
-pub returns : goal.returns
-returns c =
-    let x = c.args in
-    turns_done x.page.now x.state x.target.now (sym c.is_named.ensures ∙ c.if-not-is_named.false)
-    c.unpack.ensures
-    c.convert-t.ensures c.answer_number-n.ensures c.if-n-ne0.false c.pack.ensures
+pub returns-in-Err : goal.returns-in-Err
+returns-in-Err c = let s = some_is _ c.in-Some.ensures in turns_refused _ _ _ s.0 s.1 c.in-Err.ensures c.answer_number.ensures

@@ -1,22 +1,17 @@
 -- `wy50::wy50_rebuild_rows` meets its contract.
-use mathlib.Core.Bool.{true}
-use mathlib.Core.Path.{◌≡◌, sym, ◌∙◌}
-use Rattle.wy50.specs.Raw.{named}
+use mathlib.Core.Path.{refl}
+use Rattle.wy50.proofs.Options.{none_is, some_is}
 use Rattle.wy50.proofs.RowCalls.{rebuilt_named, rebuilt_unnamed}
 use Rattle.wy50.proofs.wy50_rebuild_rows.Goals as goal
 
-pub returns-then-not-is_named : goal.returns-then-not-is_named
-returns-then-not-is_named c = rebuilt_unnamed _ _ _ (sym c.is_named.ensures ∙ c.if-not-is_named.true)
+pub returns-in_default : goal.returns-in_default
+returns-in_default c = rebuilt_unnamed _ _ _ (none_is _ _ c.in_default.ensures)
 
-pub unpack-requires : goal.unpack-requires
-unpack-requires c =
-    let known : named c.args.state ≡ true =
-    sym c.is_named.ensures ∙ c.if-not-is_named.false in
-    known
+pub returns-in-Ok : goal.returns-in-Ok
+returns-in-Ok c =
+    let s = some_is _ c.in-Some.ensures in rebuilt_named _ _ _ s.0 s.1 refl c.in-Ok.ensures.0.answer c.in-Ok.ensures.1
 
-pub returns : goal.returns
-returns c =
-    let known : named c.args.state ≡ true =
-    sym c.is_named.ensures ∙ c.if-not-is_named.false in
-    rebuilt_named _ _ _ (known) c.unpack.ensures c.answer_number.ensures c.rebuild_rows-a.ensures.0
-    c.rebuild_rows-a.ensures.1
+pub returns-in-Err : goal.returns-in-Err
+returns-in-Err c =
+    let s = some_is _ c.in-Some.ensures in
+    rebuilt_named _ _ _ s.0 s.1 c.answer_number.ensures c.in-Err.ensures.0.answer c.in-Err.ensures.1

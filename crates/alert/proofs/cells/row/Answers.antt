@@ -1,22 +1,15 @@
 -- `alert::cells::row` meets its contract.
-use Rattle.alert.proofs.Starting.{wide_length, narrow_length, wide_row, narrow_row}
-use Rattle.std.proofs.Common.{rules}
+use Rattle.std.proofs.Common.{arith, rules}
+use Rattle.alert.proofs.Starting.{columns_most, row_within, row_is}
 use Rattle.alert.proofs.cells.row.Goals as goal
 
+pub overflow_mul-a : goal.overflow_mul-a
+overflow_mul-a c =
+    omega (arith, columns_most c.args.wide, row_within c.args.wide c.args.page.now c.args.r c.columns-n.ensures (omega arith))
+
 pub slice_bounds-result-end : goal.slice_bounds-result-end
-slice_bounds-result-end c = let e = wide_length c.args.wide c.requires.0 c.if-wide.true in search rules
-
-pub returns-then-wide : goal.returns-then-wide
-returns-then-wide c = (
-  wide_row c.args.wide c.args.page.now c.args.r c.if-wide.true,
-  search rules,
-)
-
-pub slice_bounds-result-end-2 : goal.slice_bounds-result-end-2
-slice_bounds-result-end-2 c = let e = narrow_length c.args.wide c.requires.0 c.if-wide.false in search rules
+slice_bounds-result-end c =
+    omega (arith, row_within c.args.wide c.args.page.now c.args.r c.columns-n.ensures (omega arith))
 
 pub returns : goal.returns
-returns c = (
-  narrow_row c.args.wide c.args.page.now c.args.r c.if-wide.false,
-  search rules,
-)
+returns c = (row_is c.args.wide c.args.page.now c.args.r c.columns-n.ensures, let m = columns_most c.args.wide in search rules)

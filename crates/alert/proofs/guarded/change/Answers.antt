@@ -11,9 +11,7 @@ returns-then-at-end c = rw (eq-eqb _ _ c.if-at-end.true) c.bytes.ensures
 pub place-b-requires : goal.place-b-requires
 unfolding change_of
 place-b-requires c =
-    let k = c.requires in
-    let t1 = c.if-at-end in
-    (k.0, omega (arith, k, t1.false))
+    omega (arith, c.requires, c.if-at-end.false)
 
 pub returns : goal.returns
 unfolding change_of

@@ -1,5 +1,5 @@
 -- `alert::message::lines` meets its contract. The loop: the lines to come make of the room what all of them make of the first.
-use Rattle.std.proofs.Common.{◌≡◌, ◌-◌, ◌≤◌, length}
+use Rattle.std.proofs.Common.{◌≡◌, length}
 use Rattle.counter.specs.Pieces.{pieces}
 use Rattle.alert.specs.Message.{piece_lines}
 use Rattle.alert.proofs.Puts.{Left}
@@ -8,8 +8,5 @@ use Rattle.alert.proofs.message.lines.Given as goal
 
 abbrev pub invariant-loop-i : goal.invariant-loop-i
 invariant-loop-i l =
-    (l.i ≤ l.count) × ((length l.room ≡ length l.initial.room) × Left (lines_left l.first l.last l.reply l.i) l.n l.room (piece_lines l.first l.last 1 (pieces l.reply)) l.start l.initial.room)
-
-abbrev pub decreases-loop-i : goal.decreases-loop-i
-decreases-loop-i l =
-    l.count - l.i
+    (length l.room ≡ length l.initial.room)
+    × Left (lines_left l.first l.last l.reply l.i) l.n l.room (piece_lines l.first l.last 1 (pieces l.reply)) l.start l.initial.room

@@ -1,5 +1,5 @@
 -- `alert::message::message` meets its contract.
-use Rattle.std.proofs.Common.{sym, arith, length-take-le, rules}
+use Rattle.std.proofs.Common.{is_none, unwrap_or, sym, arith, length-take-le, rules}
 use Rattle.alert.proofs.Messages.{room_kept, replied_within, message_is}
 use Rattle.alert.proofs.message.message.Goals as goal
 
@@ -24,6 +24,6 @@ slice_bounds-sent-end c = sym (length-take-le _ _ (replied_within c.count_alert-
 pub returns : goal.returns
 returns c =
     let x = c.args in
-    message_is x.page.now x.state x.first x.all x.last
+    message_is x.page.now x.state x.first (is_none x.last) (unwrap_or x.last 0)
     c.count_alert-a.ensures c.last_of-end.ensures c.count_alert-b.ensures
     c.sent.ensures (search rules)

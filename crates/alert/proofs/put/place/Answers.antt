@@ -2,38 +2,17 @@
 use Rattle.alert.specs.Room.{place_of}
 use Rattle.alert.proofs.Puts.{and}
 use Rattle.alert.proofs.Texts.{place_small}
-use Rattle.std.proofs.Common.{arith, rules}
+use Rattle.std.proofs.Common.{arith, sym}
 use Rattle.alert.proofs.put.place.Goals as goal
 
-pub nonzero_div-at : goal.nonzero_div-at
-unfolding place_of
-nonzero_div-at c = omega (arith, c.requires)
+pub overflow_add-row_of : goal.overflow_add-row_of
+overflow_add-row_of c = omega (arith, c.row_of.ensures, place_small c.args.wide c.requires)
 
-pub overflow_add-at : goal.overflow_add-at
-unfolding place_of
-overflow_add-at c =
-    let k = c.requires in
-    let s = place_small k.0 k.1 in
-    search rules
-
-pub nonzero_rem-at : goal.nonzero_rem-at
-unfolding place_of
-nonzero_rem-at c =
-    let k = c.requires in
-    omega (arith, k)
-
-pub overflow_add-at-2 : goal.overflow_add-at-2
-unfolding place_of
-overflow_add-at-2 c =
-    let k = c.requires in
-    let s = place_small k.0 k.1 in
-    search rules
+pub overflow_add-column_of : goal.overflow_add-column_of
+overflow_add-column_of c = omega (arith, c.column_of.ensures, place_small c.args.wide c.requires)
 
 pub returns : goal.returns
 unfolding place_of
 returns c =
-    let bytes' = c.bytes-a in
-    let decimal' = c.decimal-b in
-    let bytes2' = c.bytes-c in
-    let decimal2' = c.decimal in
-    and (and (and bytes'.ensures decimal'.ensures) bytes2'.ensures) decimal2'.ensures
+    rw (sym c.row_of.ensures, sym c.column_of.ensures)
+    (and (and (and c.bytes-a.ensures c.decimal-b.ensures) c.bytes-c.ensures) c.decimal.ensures)

@@ -1,5 +1,5 @@
 -- `alert::stream::obey` meets its contract.
-use Rattle.std.proofs.Common.{length, arith}
+use Rattle.std.proofs.Common.{length, refl, arith}
 use Rattle.alert.proofs.Watching.{obeyed}
 use Rattle.alert.proofs.stream.obey.Goals as goal
 
@@ -54,7 +54,7 @@ returns c =
     let remember' = c.remember in
     let finish' = c.finish in
     obeyed (length x.room.now) x.byte x.page.now x.drawn.now x.p.state take'.ensures
-    c.protects.ensures
-    c.protects-2.ensures
+    refl
+    refl
     remember'.ensures
     (omega (arith, take'.auto)) finish'.ensures

@@ -5,10 +5,10 @@ use Rattle.alert.proofs.stream.start_narrow.Goals as goal
 
 pub returns : goal.returns
 returns c = (
-  c.power_on-on.ensures.state
+  c.power_on.ensures.state
       ∙ on_state c.args.personality
       c.args.page.now,
-  c.power_on-on.ensures.page
+  c.power_on.ensures.page
       ∙ on_page c.args.personality
       c.args.page.now c.requires,
 )

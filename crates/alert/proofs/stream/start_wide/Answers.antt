@@ -1,4 +1,5 @@
 -- `alert::stream::start_wide` meets its contract.
+use mathlib.Core.Path.{◌∙◌}
 use Rattle.alert.proofs.Starting.{turned}
 use Rattle.alert.proofs.stream.start_wide.Goals as goal
 
@@ -8,5 +9,5 @@ returns c =
     c.args.page.now
     c.start_narrow-state.ensures.1
     c.start_narrow-state.ensures.0
-    c.requires c.convert-there.ensures.state
-    c.convert-there.ensures.target
+    c.requires (c.unwrap_or.ensures ∙ c.convert.ensures.state)
+    c.convert.ensures.target

@@ -7,5 +7,5 @@ returns-then-byte-lt128 c = c.step.ensures
 pub step_high-requires : goal.step_high-requires
 step_high-requires c = c.requires
 
-pub returns : goal.returns
-returns c = c.step_high.ensures
+pub returns-else-byte-lt128 : goal.returns-else-byte-lt128
+returns-else-byte-lt128 c = c.step_high.ensures

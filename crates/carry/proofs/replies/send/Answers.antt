@@ -1,4 +1,5 @@
 -- `carry::replies::send` meets its contract. In each arm the send is the one that the match told.
+use mathlib.Core.Path.{refl}
 use native.Mathlib.Omega.{arith}
 use Rattle.carry.proofs.Went.{went, went_none, short_went, text_went, text_needs, cursor_below}
 use Rattle.carry.proofs.replies.send.Goals as goal
@@ -14,8 +15,8 @@ overflow_add-to c = omega (arith, cursor_below _ c.requires.1.0 c.cursor_of.ensu
 pub send_text-requires : goal.send_text-requires
 send_text-requires c =
     let t = text_needs c.args.core.screen c.args.page.now c.requires.0 c.requires.1.0 c.requires.1.1.0 c.in-Text.is
-    c.width_of-width.ensures c.cursor_of.ensures in
-    (t.0, (t.1.0, (t.1.1.0, (t.1.1.1, c.requires.1.1.1))))
+    c.cursor_of.ensures in
+    (t.0, (t.1.0, (t.1.1, c.requires.1.1.1)))
 
 pub returns-in-Nothing : goal.returns-in-Nothing
 returns-in-Nothing c =
@@ -32,5 +33,5 @@ pub returns-in-Text : goal.returns-in-Text
 returns-in-Text c =
     let x = c.args in
     went x.page.now x.core x.sending x.room.now
-    (text_went x.page.now x.core x.room.now c.in-Text.is c.width_of-width.ensures c.cursor_of.ensures
+    (text_went x.page.now x.core x.room.now c.in-Text.is refl c.cursor_of.ensures
     c.send_text.ensures)

@@ -5,27 +5,27 @@ use Rattle.carry.proofs.writes.write.Goals as goal
 
 pub fill_cells-requires : goal.fill_cells-requires
 unfolding applied
-fill_cells-requires c = omega (arith, rw c.in-Fill.is at c.requires.1.0)
+fill_cells-requires c = omega (arith, rw c.in-Fill.is at c.requires.1)
 
 pub fill_cells-requires-in-FillAll : goal.fill_cells-requires-in-FillAll
 unfolding applied
-fill_cells-requires-in-FillAll c = omega (arith, rw c.in-FillAll.is at c.requires.1.0)
+fill_cells-requires-in-FillAll c = omega (arith, rw c.in-FillAll.is at c.requires.1)
 
 pub fill_column-requires : goal.fill_column-requires
 unfolding applied
 fill_column-requires c =
-    let good = rw c.in-Column.is at c.requires.1.0 in
-    (c.requires.1.1, (good.0, (good.1.0, (good.1.1, c.requires.0))))
+    let good = rw c.in-Column.is at c.requires.1 in
+    (good.0, (good.1.0, (good.1.1, c.requires.0)))
 
 pub shift_edit_run-requires : goal.shift_edit_run-requires
 unfolding applied
-shift_edit_run-requires c = (c.requires.1.1, (c.requires.0, rw c.in-Edit.is at c.requires.1.0))
+shift_edit_run-requires c = (c.requires.0, rw c.in-Edit.is at c.requires.1)
 
 pub shift_rows-requires : goal.shift_rows-requires
 unfolding applied
 shift_rows-requires c =
-    let good = rw c.in-Rows.is at c.requires.1.0 in
-    (c.requires.1.1, (good.0, (good.1, c.requires.0)))
+    let good = rw c.in-Rows.is at c.requires.1 in
+    (good.0, (good.1, c.requires.0))
 
 pub returns-in-Nothing : goal.returns-in-Nothing
 unfolding applied

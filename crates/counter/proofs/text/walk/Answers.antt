@@ -1,43 +1,18 @@
 -- `counter::text::walk` meets its contract. The loop: the count from here on is the whole count.
-use mathlib.Core.Path.{sym, ap, ◌∙◌}
-use Prim.Native.Nat.{◌+◌}
-use native.Mathlib.Omega.{arith}
-use lib.ListN.{drop, get_or}
-use Rattle.counter.specs.declared.Counted.TheVariants as Counted
-use Rattle.counter.specs.declared.text.Tally.{Tally}
-use Rattle.counter.specs.Walk.{walked}
-use Rattle.counter.proofs.Tallies.{within_begin, within_more, within_on, walk_refused, walk_on, walk_end}
+use Rattle.std.proofs.Common.{get_or, sym, ◌∙◌, arith}
+use Rattle.counter.proofs.Fewest.{cost_small}
+use Rattle.counter.proofs.Tallies.{within_more, within_character, walk_on}
 use Rattle.counter.proofs.text.walk.Goals as goal
 
-pub loop-i-init : goal.loop-i-init
-loop-i-init c =
-    let x = c.args in
-    (omega arith, (within_begin c.nothing-t.ensures, ap (λ (t : Tally). walked x.cut t x.text.now) c.nothing-t.ensures))
+pub add-t-requires : goal.add-t-requires
+add-t-requires c =
+    let l = c.loop-b in
+    (omega (arith, c.cost_of.ensures, cost_small (get_or c.args.text.now l.b-index 0)), within_more l.invariant.0 (omega arith))
 
-pub returns-then-is_refused : goal.returns-then-is_refused
-returns-then-is_refused c =
-    let x = c.args in
-    let l = c.loop-i in
-    sym (walk_refused x.cut l.t x.text.now l.i (omega arith) (sym c.is_refused.ensures ∙ c.if-is_refused.true)) ∙ l.invariant.1.1
-
-pub advance-t-requires : goal.advance-t-requires
-advance-t-requires c = within_more c.loop-i.invariant.1.0 (omega arith)
-
-pub loop-i-preserved : goal.loop-i-preserved
-loop-i-preserved c =
-    let x = c.args in
-    let l = c.loop-i in (
-      omega arith,
-      (
-        within_on x.cut l.t (get_or x.text.now l.i 0) l.i c.advance-t.ensures l.invariant.1.0,
-        ap (λ (t : Tally). walked x.cut t (drop (l.i + 1) x.text.now)) c.advance-t.ensures
-            ∙ (sym (walk_on x.cut l.t x.text.now l.i (omega arith)
-            (sym c.is_refused.ensures ∙ c.if-is_refused.false)) ∙ l.invariant.1.1),
-      ),
+pub loop-b-preserved : goal.loop-b-preserved
+loop-b-preserved c =
+    let l = c.loop-b in
+    rw (c.add-t.ensures, c.cost_of.ensures) (
+      within_character l.t (get_or c.args.text.now l.b-index 0) l.b-index l.invariant.0,
+      sym (walk_on c.args.cut l.t c.args.text.now l.b-index (omega arith) (sym c.if-is_cut.ensures) (sym c.if-not-in_alphabet.ensures)) ∙ l.invariant.1,
     )
-
-pub returns : goal.returns
-returns c =
-    let x = c.args in
-    let l = c.loop-i in
-    ap (Counted.Text l.t.units) c.tally_parts.ensures ∙ (sym (walk_end x.cut l.t x.text.now l.i (omega arith)) ∙ l.invariant.1.1)

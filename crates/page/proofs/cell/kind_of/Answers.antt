@@ -1,9 +1,20 @@
 -- `page::cell::kind_of` meets its contract.
-use borrow.Author.Tests.{lt-ltb, le-ltb}
+use native.Mathlib.Omega.{arith}
+use Prim.Native.Nat.{◌/◌, ◌%◌}
+use borrow.Author.Tests.{le-ltb}
+use Rattle.page.specs.Kind.{kind_number}
 use Rattle.page.proofs.cell.kind_of.Goals as goal
 
-pub returns-then-k-lt2 : goal.returns-then-k-lt2
-returns-then-k-lt2 c = rw (lt-ltb _ _ c.if-k-lt2.true)
+pub returns-in-0 : goal.returns-in-0
+unfolding kind_number
+returns-in-0 c = rw c.in-0.is
 
-pub returns-else-k-lt2 : goal.returns-else-k-lt2
-returns-else-k-lt2 c = rw (le-ltb _ _ c.if-k-lt2.false)
+pub returns-in-1 : goal.returns-in-1
+unfolding kind_number
+returns-in-1 c = rw c.in-1.is
+
+pub returns-in_default : goal.returns-in_default
+unfolding kind_number
+returns-in_default c =
+    let none = c.in_default.in_default-own.rest in
+    rw (le-ltb (c.args.v / 256 % 4) 2 (omega (arith, none)))

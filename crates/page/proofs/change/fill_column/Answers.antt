@@ -2,36 +2,22 @@
 use mathlib.Core.Path.{◌≡◌, sym, ap, ◌∙◌}
 use Prim.Native.Nat.{◌+◌, ◌-◌}
 use native.Mathlib.Omega.{arith}
+use Rattle.rules.specs.Row.{columns}
 use Rattle.rules.specs.Change.{column_filled}
-use Rattle.rules.proofs.Rows.{page_small, cell_inside}
+use Rattle.rules.proofs.Rows.{columns_width, page_small, cell_inside}
 use Rattle.page.proofs.Changes.{column_step}
 use Rattle.page.proofs.change.fill_column.Goals as goal
 
-pub overflow_mul-row : goal.overflow_mul-row
+pub overflow_add-first_cell : goal.overflow_add-first_cell
 unfolding column_filled
-overflow_mul-row c =
-    let x = c.args in
-    let k = c.requires in
-    let l = c.loop-row in
-    let i = cell_inside k.0 {row = l.row} {bottom = 24} (omega arith) k.1.1.1.0 in
-    omega (arith, page_small k.0)
-
-pub overflow_add-row : goal.overflow_add-row
-unfolding column_filled
-overflow_add-row c =
-    let x = c.args in
-    let k = c.requires in
-    let l = c.loop-row in
-    let i = cell_inside k.0 {row = l.row} {bottom = 24} (omega arith) k.1.1.1.0 in
-    omega (arith, page_small k.0)
+overflow_add-first_cell c =
+    let i = cell_inside (columns_width c.args.wide) {row = c.loop-row.row} {bottom = 24} (omega arith) c.requires.1.1.0 in
+    omega (arith, page_small (columns_width c.args.wide))
 
 pub fill_cell-requires : goal.fill_cell-requires
 unfolding column_filled
 fill_cell-requires c =
-    let x = c.args in
-    let k = c.requires in
-    let l = c.loop-row in
-    let i = cell_inside k.0 {row = l.row} {bottom = 24} (omega arith) k.1.1.1.0 in
+    let i = cell_inside (columns_width c.args.wide) {row = c.loop-row.row} {bottom = 24} (omega arith) c.requires.1.1.0 in
     omega arith
 
 pub loop-row-preserved : goal.loop-row-preserved
@@ -46,8 +32,9 @@ loop-row-preserved c =
         (
           f.auto.page ∙ l.invariant.1.1.0,
           l.invariant.1.1.1
-              ∙ column_step x.width x.protect x.value x.column l.row x.bottom l.page (omega arith)
-              ∙ ap (column_filled x.width x.protect x.value x.column (x.bottom - (l.row + 1)) (l.row + 1)) (sym f.ensures),
+              ∙ column_step (columns x.wide) x.protect x.value x.column l.row x.bottom l.page (omega arith)
+              ∙ ap (column_filled (columns x.wide) x.protect x.value x.column (x.bottom - (l.row + 1)) (l.row + 1))
+              (sym (rw c.first_cell.ensures at f.ensures)),
         ),
       ),
     )

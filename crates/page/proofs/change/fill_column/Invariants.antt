@@ -3,13 +3,10 @@ use mathlib.Core.Path.{◌≡◌}
 use Prim.Native.Nat.{◌-◌, ◌≤◌}
 use lib.ListN.{length}
 use Rattle.rules.specs.Change.{column_filled}
+use Rattle.rules.specs.Row.{columns}
 use Rattle.page.proofs.change.fill_column.Given as goal
 
 abbrev pub invariant-loop-row : goal.invariant-loop-row
 invariant-loop-row l =
     (l.top ≤ l.row) × ((l.row ≤ l.bottom) × ((length l.page ≡ length l.initial.page)
-    × (column_filled l.width l.protect l.value l.column (l.bottom - l.top) l.top l.initial.page ≡ column_filled l.width l.protect l.value l.column (l.bottom - l.row) l.row l.page)))
-
-abbrev pub decreases-loop-row : goal.decreases-loop-row
-decreases-loop-row l =
-    l.bottom - l.row
+    × (column_filled (columns l.wide) l.protect l.value l.column (l.bottom - l.top) l.top l.initial.page ≡ column_filled (columns l.wide) l.protect l.value l.column (l.bottom - l.row) l.row l.page)))

@@ -10,26 +10,26 @@ use Rattle.page.proofs.rows.open_count.Goals as goal
 pub overflow_add-n : goal.overflow_add-n
 overflow_add-n c =
     let x = c.args in
-    let l = c.loop-i in
-    let one = guarded_at x.protect (get_or x.part.now l.i 0 ∷ []) in
+    let l = c.loop-v in
+    let one = guarded_at x.protect (get_or x.part.now l.v-index 0 ∷ []) in
     omega (
       arith,
       c.requires,
       c.open_cell-n.ensures,
       count_most one,
-      length_guards x.protect (get_or x.part.now l.i 0 ∷ []),
+      length_guards x.protect (get_or x.part.now l.v-index 0 ∷ []),
     )
 
-pub loop-i-preserved : goal.loop-i-preserved
-loop-i-preserved c =
+pub loop-v-preserved : goal.loop-v-preserved
+loop-v-preserved c =
     let x = c.args in
-    let l = c.loop-i in
-    let one = guarded_at x.protect (get_or x.part.now l.i 0 ∷ []) in
-    let s = count_step x.protect x.part.now l.i (omega arith) in
-    omega (arith, count_most one, length_guards x.protect (get_or x.part.now l.i 0 ∷ []))
+    let l = c.loop-v in
+    let one = guarded_at x.protect (get_or x.part.now l.v-index 0 ∷ []) in
+    let s = count_step x.protect x.part.now l.v-index (omega arith) in
+    omega (arith, count_most one, length_guards x.protect (get_or x.part.now l.v-index 0 ∷ []))
 
 pub returns : goal.returns
 returns c =
     let x = c.args in
-    let l = c.loop-i in
-    omega (arith, count_none x.protect x.part.now l.i (omega arith))
+    let l = c.loop-v in
+    omega (arith, count_none x.protect x.part.now l.v-index (omega arith))

@@ -6,7 +6,7 @@ use Rattle.page.proofs.rows.rebuild.Goals as goal
 pub recount-requires : goal.recount-requires
 recount-requires c =
     let p = c.requires in
-    (p.0, (p.1.0, (p.1.1, (omega arith, (omega arith, λ k h o. absurd (⊎_elim (λ a. omega arith) (λ a. omega arith) o))))))
+    (p.0, (p.1, (omega arith, (omega arith, λ k h o. absurd (⊎_elim (λ a. omega arith) (λ a. omega arith) o)))))
 
 pub returns : goal.returns
 returns c = c.recount.ensures

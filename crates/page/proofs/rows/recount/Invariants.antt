@@ -1,15 +1,12 @@
 -- `page::rows::recount` meets its contract. The loop: all rows but those to come are right.
 use mathlib.Core.Path.{◌≡◌}
-use Prim.Native.Nat.{◌-◌, ◌≤◌}
+use Prim.Native.Nat.{◌≤◌}
 use lib.ListN.{length}
 use Rattle.rules.specs.Search.{guarded_at}
 use Rattle.page.specs.RowList.{AllBut}
+use Rattle.rules.specs.Row.{columns}
 use Rattle.page.proofs.rows.recount.Given as goal
 
 abbrev pub invariant-loop-row : goal.invariant-loop-row
 invariant-loop-row l =
-    (l.row ≤ l.bottom) × ((length l.rows ≡ length l.initial.rows) × AllBut l.width (guarded_at l.protect l.page) l.rows l.row l.bottom)
-
-abbrev pub decreases-loop-row : goal.decreases-loop-row
-decreases-loop-row l =
-    l.bottom - l.row
+    (l.row ≤ l.bottom) × ((length l.rows ≡ length l.initial.rows) × AllBut (columns l.wide) (guarded_at l.protect l.page) l.rows l.row l.bottom)

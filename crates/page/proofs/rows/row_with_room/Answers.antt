@@ -32,4 +32,4 @@ loop-row-preserved c =
 pub returns : goal.returns
 returns c =
     let l = c.loop-row in
-    record { from = l.invariant.0; most = l.invariant.1.0; none = l.invariant.1.1; some = λ h. absurd (omega arith) }
+    record { from = omega arith; most = omega arith; none = λ k a b. l.invariant.1.1 k a (omega arith); some = λ h. absurd (omega arith) }

@@ -8,7 +8,3 @@ abbrev pub invariant-loop-at : goal.invariant-loop-at
 invariant-loop-at l =
     (l.first ≤ l.at) × ((l.at ≤ l.end)
     × (last_in l.none (sought_at l.sought (guarded_at l.protect l.page)) l.first l.end ≡ last_in l.none (sought_at l.sought (guarded_at l.protect l.page)) l.first l.at))
-
-abbrev pub decreases-loop-at : goal.decreases-loop-at
-decreases-loop-at l =
-    l.at

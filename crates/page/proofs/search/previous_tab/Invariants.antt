@@ -7,7 +7,3 @@ use Rattle.page.proofs.search.previous_tab.Given as goal
 abbrev pub invariant-loop-stop : goal.invariant-loop-stop
 invariant-loop-stop l =
     (l.stop ≤ 132) × (last_in 0 l.tabs 0 l.column ≡ last_in 0 l.tabs 0 l.stop)
-
-abbrev pub decreases-loop-stop : goal.decreases-loop-stop
-decreases-loop-stop l =
-    l.stop

@@ -1,19 +1,15 @@
 -- `page::search::row_end` meets its contract.
+use mathlib.Core.Path.{◌∙◌, ap}
+use Prim.Native.Nat.{ℕ, ◌+◌, ◌*◌}
 use native.Mathlib.Omega.{arith}
-use Rattle.rules.proofs.Rows.{row_is, row_inside, page_small}
+use Rattle.rules.specs.Row.{columns, row_end}
+use Rattle.rules.proofs.Rows.{columns_width}
+use Rattle.page.proofs.RowSearch.{row_span}
 use Rattle.page.proofs.search.row_end.Goals as goal
 
-pub overflow_mul-result : goal.overflow_mul-result
-overflow_mul-result c =
-    let x = c.args in
-    let k = c.requires in
-    rw c.row_of.ensures (omega (arith, row_is k.0 x.at, row_inside k.0 x.at k.1, page_small k.0))
-
-pub overflow_add-result : goal.overflow_add-result
-overflow_add-result c =
-    let x = c.args in
-    let k = c.requires in
-    rw c.row_of.ensures (omega (arith, row_is k.0 x.at, row_inside k.0 x.at k.1, page_small k.0))
+pub first_cell-requires : goal.first_cell-requires
+first_cell-requires c = omega (arith, (row_span (columns_width c.args.wide) c.args.at c.requires).row)
 
 pub returns : goal.returns
-returns c = rw c.row_of.ensures (row_is c.requires.0 c.args.at)
+unfolding row_end
+returns c = c.first_cell.ensures ∙ ap (λ (k : ℕ). (k + 1) * columns c.args.wide) c.row_of.ensures

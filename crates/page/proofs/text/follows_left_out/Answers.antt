@@ -1,25 +1,19 @@
 -- `page::text::follows_left_out` meets its contract.
-use native.Mathlib.Omega.{arith}
+use mathlib.Core.Path.{sym, ◌∙◌}
 use borrow.Author.Tests.{eq-eqb, ne_eqb}
-use Rattle.rules.specs.Row.{column_of}
+use Rattle.rules.specs.Row.{columns, column_of}
 use Rattle.rules.specs.Send.{follows_left_out}
-use Rattle.rules.proofs.Rows.{width_range, column_most}
 use Rattle.page.proofs.text.follows_left_out.Goals as goal
 
-pub nonzero_rem-at : goal.nonzero_rem-at
+pub returns-then-column_of-ne0 : goal.returns-then-column_of-ne0
 unfolding follows_left_out
-nonzero_rem-at c = omega (arith, width_range c.requires.0)
+returns-then-column_of-ne0 c =
+    rw (ne_eqb (column_of (columns c.args.wide) c.args.at) 0 (λ e. c.if-column_of-ne0.true (c.column_of.ensures ∙ e))) c.left_out.ensures
 
-pub returns-then-at-width-eq0 : goal.returns-then-at-width-eq0
+pub returns-else-column_of-ne0 : goal.returns-else-column_of-ne0
 unfolding follows_left_out
-returns-then-at-width-eq0 c = rw (eq-eqb (column_of c.args.width c.args.at) 0 c.if-at-width-eq0.true)
-
-pub overflow_sub-at : goal.overflow_sub-at
-unfolding follows_left_out
-overflow_sub-at c = omega (arith, column_most c.requires.0 c.args.at, c.if-at-width-eq0.false)
-
-pub returns : goal.returns
-unfolding follows_left_out
-returns c =
-    rw (ne_eqb (column_of c.args.width c.args.at) 0
-    c.if-at-width-eq0.false) c.left_out.ensures
+returns-else-column_of-ne0 c =
+    rw (
+      eq-eqb c.column_of.result 0 c.if-column_of-ne0.false,
+      eq-eqb (column_of (columns c.args.wide) c.args.at) 0 (sym c.column_of.ensures ∙ c.if-column_of-ne0.false),
+    )

@@ -1,13 +1,7 @@
 -- `page::text::send_bytes` meets its contract. The loop: what goes of the bytes to come is what goes of all.
-use Prim.Native.Nat.{◌-◌}
-use lib.ListN.{length}
 use Rattle.page.proofs.Sends.{Copying}
 use Rattle.page.proofs.text.send_bytes.Given as goal
 
 abbrev pub invariant-loop-i : goal.invariant-loop-i
 invariant-loop-i l =
     Copying l.reply l.bytes l.from l.initial.room l.i l.n l.room
-
-abbrev pub decreases-loop-i : goal.decreases-loop-i
-decreases-loop-i l =
-    length l.bytes - l.i

@@ -1,5 +1,7 @@
 -- `page::text::send_stretch` meets its contract. The loop: what goes from the next cell on is what goes from the first.
-use mathlib.Core.Path.{sym, ◌∙◌}
+use mathlib.Core.Path.{◌≡◌, subst, sym, ◌∙◌}
+use Prim.Native.Nat.{ℕ}
+use Rattle.page.specs.Text.{Stretch}
 use native.Mathlib.Omega.{arith}
 use Rattle.page.proofs.Sends.{put_begin, put_fits, put_next, put_end}
 use Rattle.page.proofs.text.send_stretch.Goals as goal
@@ -22,4 +24,8 @@ loop-i-preserved c =
     c.sent_code.ensures
 
 pub returns : goal.returns
-returns c = put_end c.loop-i.invariant (λ h. absurd (omega (arith, c.loop-i-test.false)))
+returns c =
+    let x = c.args in
+    let e : c.loop-i.i ≡ x.end = omega arith in
+    subst (λ (j : ℕ). Stretch x.page.now x.all x.from x.end x.n x.room.now j c.loop-i.room) e
+    (put_end c.loop-i.invariant (λ h. absurd (omega arith)))

@@ -1,5 +1,7 @@
 -- `page::text::stretch_end` meets its contract. The loop: no cell so far gives a byte.
-use mathlib.Core.Path.{sym, ◌∙◌}
+use mathlib.Core.Path.{◌≡◌, subst, sym, ◌∙◌}
+use Prim.Native.Nat.{ℕ}
+use Rattle.page.specs.Text.{Skipped}
 use native.Mathlib.Omega.{arith}
 use Rattle.page.proofs.Sends.{skip_none, skip_begin, skip_next, skip_end}
 use Rattle.page.proofs.text.stretch_end.Goals as goal
@@ -21,4 +23,8 @@ loop-i-preserved c =
     (sym c.left_out.ensures ∙ c.if-not-left_out.false)
 
 pub returns : goal.returns
-returns c = skip_end c.loop-i.invariant (c.if-not-after.false) (λ h. absurd (omega (arith, c.loop-i-test.false)))
+returns c =
+    let x = c.args in
+    let e : c.loop-i.i ≡ x.end = omega arith in
+    subst (λ (j : ℕ). Skipped x.page.now x.all x.after x.from x.end j) e
+    (skip_end c.loop-i.invariant (c.if-not-after.false) (λ h. absurd (omega arith)))

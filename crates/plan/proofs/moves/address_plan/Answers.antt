@@ -7,7 +7,7 @@ use Rattle.rules.specs.Plan.{address_plan}
 use Rattle.rules.proofs.Rows.{columns_width, width_range}
 use Rattle.rules.proofs.Tests.{among_parts}
 use Rattle.plan.proofs.moves.address_plan.Goals as goal
-use Rattle.plan.proofs.moves.address_plan.Goals.{then-among+else-among-2, else-among}
+use Rattle.plan.proofs.moves.address_plan.Goals.{else-among-via-then-among+else-among-2, else-among-via-else-among}
 
 pub among-requires-then-among : goal.among-requires-then-among
 unfolding address_plan
@@ -41,5 +41,8 @@ unfolding address_plan
 returns c =
     let x = c.args in
     let outside : both c.among.result (among x.base x.most x.column) ≡ false =
-    elim c.if-among.branch [ then-among+else-among-2 w ↦ rw (w.if-among.true, ← w.among-then-among.ensures, w.if-among-2.false) | else-among w ↦ rw w.if-among.false ] in
+    elim c.else-among.branch [
+      | else-among-via-then-among+else-among-2 w ↦ rw (w.if-among.true, ← w.among-then-among.ensures, w.if-among-2.false)
+      | else-among-via-else-among w ↦ rw w.if-among.false
+    ] in
     c.refusing.ensures ∙ rw (← c.segment_top-top.ensures, ← c.segment_bottom.ensures, ← c.among.ensures, outside)

@@ -5,18 +5,18 @@ use Rattle.rules.specs.Plan.{reverse_plan}
 use Rattle.plan.proofs.Ranges.{below_top}
 use Rattle.plan.proofs.moves.reverse_plan.Goals as goal
 
-pub returns-then-core : goal.returns-then-core
-unfolding reverse_plan
-returns-then-core c = c.settling.ensures ∙ rw (c.cursor_of-at.ensures, ← c.at_top.ensures, c.if-at_top.true, c.if-core.true)
-
-pub returns-then-at_top : goal.returns-then-at_top
-unfolding reverse_plan
-returns-then-at_top c = c.writing.ensures ∙ rw (c.scroll.ensures, c.cursor_of-at.ensures, ← c.at_top.ensures, c.if-at_top.true, c.if-core.false)
-
 pub overflow_sub-at : goal.overflow_sub-at
 unfolding reverse_plan
-overflow_sub-at c = omega (arith, below_top c.args.core.screen c.at_top.ensures c.if-at_top.false, c.cursor_of-at.ensures, c.width_of.ensures)
+overflow_sub-at c = omega (arith, below_top c.args.core.screen c.at_top.ensures c.if-not-at_top.true, c.cursor_of-at.ensures, c.width_of.ensures)
+
+pub returns-then-not-at_top : goal.returns-then-not-at_top
+unfolding reverse_plan
+returns-then-not-at_top c = c.settling.ensures ∙ rw (c.cursor_of-at.ensures, c.width_of.ensures, ← c.at_top.ensures, c.if-not-at_top.true)
+
+pub returns-then-core : goal.returns-then-core
+unfolding reverse_plan
+returns-then-core c = c.settling-then-core.ensures ∙ rw (c.cursor_of-at.ensures, ← c.at_top.ensures, c.if-not-at_top.false, c.if-core.true)
 
 pub returns : goal.returns
 unfolding reverse_plan
-returns c = c.settling-2.ensures ∙ rw (c.cursor_of-at.ensures, c.width_of.ensures, ← c.at_top.ensures, c.if-at_top.false)
+returns c = c.writing.ensures ∙ rw (c.scroll.ensures, c.cursor_of-at.ensures, ← c.at_top.ensures, c.if-not-at_top.false, c.if-core.false)

@@ -2,6 +2,7 @@
 use Rattle.std.specs.Prelude.{◌<◌, true}
 use mathlib.Core.Path.{◌∙◌}
 use native.Mathlib.Omega.{arith}
+use Rattle.rules.specs.Row.{columns}
 use Rattle.rules.specs.Plan.{tab_cell}
 use Rattle.rules.proofs.Places.{next_tab_below}
 use Rattle.plan.proofs.Ranges.{next_field_range}
@@ -22,24 +23,24 @@ returns-then-core c = c.next_field.ensures ∙ rw (c.segment_start-start.ensures
 
 pub next_tab-column-requires : goal.next_tab-column-requires
 unfolding tab_cell
-next_tab-column-requires c = omega (arith, c.cursor_column.ensures, c.width_of.ensures, c.requires.1.placed)
+next_tab-column-requires c = omega (arith, c.cursor_column.ensures, c.requires.1.placed)
 
 pub overflow_cast-result-2 : goal.overflow_cast-result-2
 unfolding tab_cell
 overflow_cast-result-2 c =
-    let tab_column : c.next_tab-column.result < c.width_of.result =
+    let tab_column : c.next_tab-column.result < columns c.args.core.screen.wide =
     rw c.next_tab-column.ensures
-    (next_tab_below _ c.args.tabs _ (omega (arith, c.cursor_column.ensures, c.width_of.ensures, c.requires.1.placed))) in
-    omega (arith, tab_column, c.width_of.ensures, c.requires.1.placed)
+    (next_tab_below _ c.args.tabs _ (omega (arith, c.cursor_column.ensures, c.requires.1.placed))) in
+    omega (arith, tab_column, c.requires.1.placed)
 
 pub overflow_add-result : goal.overflow_add-result
 unfolding tab_cell
 overflow_add-result c =
-    let tab_column : c.next_tab-column.result < c.width_of.result =
+    let tab_column : c.next_tab-column.result < columns c.args.core.screen.wide =
     rw c.next_tab-column.ensures
-    (next_tab_below _ c.args.tabs _ (omega (arith, c.cursor_column.ensures, c.width_of.ensures, c.requires.1.placed))) in
-    omega (arith, tab_column, c.row_start.ensures, c.width_of.ensures, c.requires.1)
+    (next_tab_below _ c.args.tabs _ (omega (arith, c.cursor_column.ensures, c.requires.1.placed))) in
+    omega (arith, tab_column, c.row_start.ensures, c.requires.1)
 
 pub returns : goal.returns
 unfolding tab_cell
-returns c = rw (c.if-core.false, c.row_start.ensures, c.next_tab-column.ensures, c.cursor_column.ensures, c.width_of.ensures)
+returns c = rw (c.if-core.false, c.row_start.ensures, c.next_tab-column.ensures, c.cursor_column.ensures)

@@ -8,6 +8,6 @@ pub returns-then-a-lt112 : goal.returns-then-a-lt112
 unfolding attribute_of
 returns-then-a-lt112 c = rw (lt-ltb _ _ c.if-a-lt112.true) (omega arith)
 
-pub returns : goal.returns
+pub returns-else-a-lt112 : goal.returns-else-a-lt112
 unfolding attribute_of
-returns c = rw (le-ltb _ _ c.if-a-lt112.false)
+returns-else-a-lt112 c = rw (le-ltb _ _ c.if-a-lt112.false)

@@ -6,6 +6,6 @@ pub returns-then-insert : goal.returns-then-insert
 unfolding storing
 returns-then-insert c = rw c.if-insert.true
 
-pub returns : goal.returns
+pub returns-else-insert : goal.returns-else-insert
 unfolding storing
-returns c = rw c.if-insert.false
+returns-else-insert c = rw c.if-insert.false

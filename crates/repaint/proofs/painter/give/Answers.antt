@@ -4,15 +4,10 @@ use Rattle.repaint.proofs.painter.give.Goals as goal
 
 pub returns : goal.returns
 returns c =
-    let x = c.args in (
-      over_part x.r.now x.rows.now x.n
-          c.copy_cells.ensures,
+    let k = c.requires.0 in (
+      over_part _ _ _ k.1.0 c.copy_from_slice.ensures.after,
       (
-        over_part x.c.now x.columns.now x.n
-            c.copy_cells-2.ensures,
-        (
-          over_part x.l.now x.lengths.now x.n c.copy_cells-3.ensures,
-          over_part x.o.now x.out.now x.k c.copy_bytes.ensures,
-        ),
+        over_part _ _ _ k.1.1.0 c.copy_from_slice-2.ensures.after,
+        (over_part _ _ _ k.1.1.1.0 c.copy_from_slice-3.ensures.after, over_part _ _ _ k.1.1.1.1 c.copy_from_slice-4.ensures.after),
       ),
     )

@@ -1,31 +1,13 @@
 -- `repaint::painter::is_all_text` meets its contract.
-use mathlib.Core.Path.{refl, sym, ◌∙◌}
-use native.Mathlib.Omega.{arith}
-use Rattle.repaint.proofs.Forwards.{text_stops, text_goes, text_ends}
+use Rattle.std.proofs.Common.{rules, tests}
+use Rattle.std.proofs.lemmas.Iterator.{YieldsList-from_slice}
+use Rattle.std.proofs.lemmas.Iterator.Search.{all_from_yields_List}
+use mathlib.Core.Path.{◌∙◌}
+use Rattle.repaint.specs.Proposal.{is_text}
+use Rattle.repaint.proofs.Forwards.{text_each}
 use Rattle.repaint.proofs.painter.is_all_text.Goals as goal
-
-pub loop-i-init : goal.loop-i-init
-loop-i-init c = (omega arith, refl)
-
-pub returns-then-not-is_text : goal.returns-then-not-is_text
-returns-then-not-is_text c =
-    let x = c.args in
-    let l = c.loop-i in
-    sym (text_stops x.personality x.page.now l.i c.loop-i-test.true
-    (sym c.is_text.ensures ∙ c.if-not-is_text.true)) ∙ l.invariant.1
-
-pub loop-i-preserved : goal.loop-i-preserved
-loop-i-preserved c =
-    let x = c.args in
-    let l = c.loop-i in
-    let h = c.loop-i-test.true in (
-      omega (arith, h),
-      text_goes x.personality x.page.now l.i h (sym c.is_text.ensures ∙ c.if-not-is_text.false)
-          ∙ l.invariant.1,
-    )
 
 pub returns : goal.returns
 returns c =
     let x = c.args in
-    let l = c.loop-i in
-    sym (text_ends x.personality x.page.now l.i (omega (arith, c.loop-i-test.false))) ∙ l.invariant.1
+    all_from_yields_List (is_text x.personality) _ _ _ c.all.ensures.ran (YieldsList-from_slice x.page.now cc) (λ v b q k. search (rules, tests)) ∙ text_each x.personality x.page.now

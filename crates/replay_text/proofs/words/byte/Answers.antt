@@ -1,12 +1,13 @@
 -- `replay_text::words::byte` is right.
-use Rattle.replay_text.proofs.Hex.{word_other, word_bad, word_byte}
+use Rattle.std.proofs.Common.{arith}
+use Rattle.replay_text.proofs.Hex.{word_few, word_many, word_two}
 use Rattle.replay_text.proofs.words.byte.Goals as goal
 
-pub returns-then-word-ne2 : goal.returns-then-word-ne2
-returns-then-word-ne2 c = word_other _ c.if-word-ne2.true
+pub returns-in-len2 : goal.returns-in-len2
+returns-in-len2 c = word_two _ (omega arith) c.hex_byte.ensures
 
-pub returns-then-b-gt255 : goal.returns-then-b-gt255
-returns-then-b-gt255 c = word_bad _ c.if-word-ne2.false c.hex_byte-b.ensures c.if-b-gt255.true
+pub returns-in_default : goal.returns-in_default
+returns-in_default c = word_few _ (omega arith)
 
-pub returns : goal.returns
-returns c = word_byte _ c.if-word-ne2.false c.hex_byte-b.ensures c.if-b-gt255.false
+pub returns-in_default-2 : goal.returns-in_default-2
+returns-in_default-2 c = word_many _ (omega arith)

@@ -1,12 +1,7 @@
 -- `replay_text::words::hex_bytes` is right. The invariant: the first n bytes of the room are right.
-use Rattle.std.proofs.Common.{◌-◌, ◌/◌, length}
 use Rattle.replay_text.proofs.Hex.{Putting}
 use Rattle.replay_text.proofs.words.hex_bytes.Given as goal
 
 abbrev pub invariant-loop-n : goal.invariant-loop-n
 invariant-loop-n l =
     Putting l.digits l.initial.room l.room l.n
-
-abbrev pub decreases-loop-n : goal.decreases-loop-n
-decreases-loop-n l =
-    length l.digits / 2 - l.n

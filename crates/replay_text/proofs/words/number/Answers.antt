@@ -1,46 +1,22 @@
--- `replay_text::words::number` is right. The invariant: the number is n after i digits.
-use Rattle.std.proofs.Common.{arith}
-use Rattle.replay_text.proofs.Numbers.{read_start, read_none, read_bad, read_large, read_on, read_end}
+-- `replay_text::words::number` is right. The invariant: the number is n after so many digits.
+use Rattle.std.proofs.Common.{◌≡◌, ◌<◌, ◌∙◌, length, None, arith, rules}
+use Rattle.replay_text.proofs.Numbers.{read_bad, read_large, read_on, read_end}
 use Rattle.replay_text.proofs.words.number.Goals as goal
 
-pub returns-then-word-eq0 : goal.returns-then-word-eq0
-returns-then-word-eq0 c = read_none c.args.word.now c.if-word-eq0.true
-
-pub loop-i-init : goal.loop-i-init
-loop-i-init c = read_start _
-
-pub bounds-word-i : goal.bounds-word-i
-bounds-word-i c = omega arith
-
-pub decimal_digit-d-requires : goal.decimal_digit-d-requires
-decimal_digit-d-requires c = tt
-
-pub returns-then-d-gt9 : goal.returns-then-d-gt9
-returns-then-d-gt9 c =
-    read_bad c.loop-i.invariant c.loop-i-test.true
-    c.decimal_digit-d.ensures c.if-d-gt9.true
-
-pub overflow_mul-n : goal.overflow_mul-n
-overflow_mul-n c = omega arith
-
-pub overflow_add-n : goal.overflow_add-n
-overflow_add-n c = omega arith
+pub returns-in_err-n : goal.returns-in_err-n
+returns-in_err-n c =
+    let e : c.from_residual.result ≡ None = search rules in
+    e ∙ read_bad c.loop-c.invariant c.loop-c-test.true c.decimal_digit.ensures c.in_err-n.was
 
 pub returns-then-n-ge-LIMIT : goal.returns-then-n-ge-LIMIT
 returns-then-n-ge-LIMIT c =
-    read_large c.loop-i.invariant c.loop-i-test.true
-    c.decimal_digit-d.ensures c.if-n-ge-LIMIT.true
+    read_large c.loop-c.invariant c.loop-c-test.true
+    c.decimal_digit.ensures c.in_ok-n.was c.if-n-ge-LIMIT.true
 
-pub overflow_add-i : goal.overflow_add-i
-overflow_add-i c = omega arith
-
-pub loop-i-smaller : goal.loop-i-smaller
-loop-i-smaller c = omega arith
-
-pub loop-i-preserved : goal.loop-i-preserved
-loop-i-preserved c =
-    read_on c.loop-i.invariant c.loop-i-test.true
-    c.decimal_digit-d.ensures c.if-d-gt9.false c.if-n-ge-LIMIT.false
+pub loop-c-preserved : goal.loop-c-preserved
+loop-c-preserved c =
+    read_on c.loop-c.invariant c.loop-c-test.true
+    c.decimal_digit.ensures c.in_ok-n.was c.if-n-ge-LIMIT.false
 
 pub returns : goal.returns
-returns c = read_end c.loop-i.invariant (omega arith) c.loop-i-test.false
+returns c = let p : 0 < length c.args.word.now = search (rules, arith) in read_end c.loop-c.invariant p c.loop-c-test.false

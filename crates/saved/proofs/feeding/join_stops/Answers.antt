@@ -1,31 +1,22 @@
 -- `saved::feeding::join_stops` meets its contract.
-use mathlib.Core.Path.{◌≡◌, refl, ap, ◌∙◌}
-use mathlib.Core.Bool.{Bool, false}
-use mathlib.Core.List.{List, ◌++◌}
-use Prim.Native.Nat.{ℕ}
+use mathlib.Core.Path.{◌≡◌, ap}
 use native.Mathlib.Omega.{arith}
-use lib.ListN.{length, get_or, take, drop, set}
-use Rattle.saved.proofs.Running.{stops_step}
+use lib.ListN.{length, length-take}
 use borrow.Author.Rules.{rules}
+use Rattle.std.specs.Prelude.{Bool, List, ◌++◌, drop}
 use Rattle.saved.proofs.feeding.join_stops.Goals as goal
 
-pub loop-i-init : goal.loop-i-init
-loop-i-init c = (omega arith, refl)
+pub slice_bounds-copy_from_slice-end : goal.slice_bounds-copy_from_slice-end
+slice_bounds-copy_from_slice-end c = let e : length c.args.beyond ≡ 132 = search rules in omega (arith, e, length-take 80 c.args.beyond)
 
-pub loop-i-preserved : goal.loop-i-preserved
-loop-i-preserved c =
-    let x = c.args in
-    let l = c.loop-i in
-    let a : length x.from ≡ 132 = search rules in
-    let b : length x.beyond ≡ 132 = search rules in (
-      omega arith,
-      ap (λ (z : List Bool). set z l.i (get_or x.from l.i false)) l.invariant.1
-          ∙ stops_step x.from x.beyond l.i (omega (arith, a, c.loop-i-test.true)) (omega (arith, b, c.loop-i-test.true)),
-    )
+pub slice_bounds-copy_from_slice-end-2 : goal.slice_bounds-copy_from_slice-end-2
+slice_bounds-copy_from_slice-end-2 c = let e : length c.args.from ≡ 132 = search rules in omega (arith, e, length-take 80 c.args.from)
+
+pub copy_from_slice-requires : goal.copy_from_slice-requires
+copy_from_slice-requires c =
+    let d : length c.args.beyond ≡ 132 = search rules in
+    let e : length c.args.from ≡ 132 = search rules in
+    omega (arith, d, e, length-take 80 c.args.beyond, length-take 80 c.args.from)
 
 pub returns : goal.returns
-returns c =
-    let x = c.args in
-    let l = c.loop-i in
-    let e : l.i ≡ 80 = omega (arith, c.loop-i-test.false) in
-    l.invariant.1 ∙ ap (λ (k : ℕ). take k x.from ++ drop k x.beyond) e
+returns c = ap (λ (l : List Bool). l ++ drop 80 c.args.beyond) c.copy_from_slice.ensures.after

@@ -6,5 +6,5 @@ use Rattle.saved.proofs.feeding.setup_after.Goals as goal
 pub returns : goal.returns
 returns c =
     let x = c.args in after_run x.m x.bytes.now refl
-    c.power_on_state-s.ensures refl
-    c.run-t.ensures.state
+    c.power_on_state.ensures refl
+    c.run.ensures.state

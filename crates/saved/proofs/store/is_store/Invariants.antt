@@ -1,12 +1,7 @@
 -- `saved::store::is_store` meets its contract.
-use Prim.Native.Nat.{◌-◌}
 use Rattle.saved.proofs.Running.{Judging}
 use Rattle.saved.proofs.store.is_store.Given as goal
 
 abbrev pub invariant-loop-k : goal.invariant-loop-k
 invariant-loop-k l =
     Judging l.store l.n l.k
-
-abbrev pub decreases-loop-k : goal.decreases-loop-k
-decreases-loop-k l =
-    8 - l.k

@@ -29,9 +29,9 @@ slice_bounds-restore_place-end c =
     let size = store_length store c.requires.0 in
     omega (arith, size)
 
-pub restore_place-v-requires : goal.restore_place-v-requires
+pub restore_place-setup-requires : goal.restore_place-setup-requires
 unfolding restored
-restore_place-v-requires c =
+restore_place-setup-requires c =
     let x = c.args in
     let store = x.store.now in
     let r = number_range store x.n c.requires.0 c.requires.1 in
@@ -53,4 +53,4 @@ returns c =
     let at = 2 + 1089 * ((x.n - 1) % 8) in
     let p = place_part store ((x.n - 1) % 8) at (at + 1089 - at) (omega arith) refl (omega arith) in
     ap (λ (u : Setup). with_setup x.state u)
-    (c.restore_place-v.ensures ∙ ap (λ (z : List ℕ). with_settings (fed x.state.core.personality (setup_in z)) x.state.setup) p)
+    (c.restore_place-setup.ensures ∙ ap (λ (z : List ℕ). with_settings (fed x.state.core.personality (setup_in z)) x.state.setup) p)

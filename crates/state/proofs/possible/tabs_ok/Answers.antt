@@ -1,5 +1,5 @@
 -- `state::possible::tabs_ok` meets its contract. The loop: no stop was seen, and the tab stops from i on decide.
-use Rattle.std.specs.Prelude.{◌≡◌, suc, ◌<◌, ◌≤◌, Bool, true, false, not, length, get_or, drop}
+use Rattle.std.specs.Prelude.{◌≡◌, suc, ◌<◌, ◌≤◌, Bool, true, false, not, ◌&&◌, length, get_or, drop}
 use mathlib.Core.Path.{refl, sym, ◌∙◌}
 use native.Mathlib.Numerals.{add-one}
 use borrow.Author.Rules.{rules}
@@ -9,7 +9,7 @@ use Rattle.rules.specs.Cell.{both}
 use Rattle.rules.specs.Possible.{no_stops}
 use Rattle.state.proofs.possible.tabs_ok.Goals as goal
 
-both_both : (a b c : Bool) → both a (both b c) ≡ both (both a b) c
+both_both : (a b c : Bool) → both a (both b c) ≡ both (a && b) c
 both_both true b c = refl
 both_both false b c = refl
 
@@ -24,8 +24,7 @@ loop-i-preserved c =
     let tabs = c.args.tabs in
     let h : x.i < length tabs = search rules in
     x.invariant
-    ∙ rw (drop-cons tabs x.i false h, add-one, c.and-none.ensures)
-    (both_both x.none (not (get_or tabs x.i false)) (no_stops (drop (suc x.i) tabs)))
+    ∙ rw (drop-cons tabs x.i false h, add-one) (both_both x.none (not (get_or tabs x.i false)) (no_stops (drop (suc x.i) tabs)))
 
 pub returns : goal.returns
 unfolding no_stops

@@ -1,66 +1,77 @@
 -- `terminal::bytes::run_beside` meets its contract. The loop: what the send and the bytes taken gave, and the repeated step on the rest, are the
 -- whole run; and a row list beside the page is the page's.
-use Rattle.std.specs.Prelude.{◌≡◌, ℕ, ◌+◌, ◌<◌, ◌≤◌, Bool, true, eqb, List, length}
-use mathlib.Core.Path.{refl, sym, ap, ap₂, ◌∙◌}
+use Rattle.std.specs.Prelude.{◌≡◌, ℕ, ◌+◌, ◌<◌, ◌≤◌, true, eqb, List, length}
+use mathlib.Core.Path.{refl, sym, ap, ◌∙◌}
+use mathlib.Core.Bool.{false≢true}
+use borrow.Author.Tests.{eqb-false}
 use native.Mathlib.Omega.{arith}
 use Rattle.rules.specs.State.{number, width_of, sends}
-use Rattle.rules.specs.Cell.{both, either}
+use Rattle.rules.specs.Cell.{both}
 use Rattle.rules.specs.Next.{is_event}
 use Rattle.rules.specs.declared.RunResult.{RunResult}
-use Rattle.rules.proofs.Tests.{both_parts}
+use Rattle.rules.proofs.Tests.{either_first, either_second}
 use Rattle.rules.proofs.Sends.{not_sending}
-use Rattle.rules.proofs.Noninterference.{either_left, either_right}
 use Rattle.rules.specs.Search.{guarded_at}
 use Rattle.rules.specs.RowList.{Beside}
 use Rattle.terminal.specs.Promise.{RunDone}
 use Rattle.terminal.specs.Loop.{call_to}
-use Rattle.terminal.proofs.Calls.{run_none, run_sent, run_on_lem, went_fits, went_long, has_room, send_ready, good_quiet}
-use Rattle.terminal.proofs.Loop.{run_behind, ran_is, begin, stops, go, halt, finish, ready, room_size, back_size, more_replied}
+use Rattle.terminal.proofs.Calls.{run_none, run_sent, run_on_lem, went_fits, went_long, send_ready, good_quiet}
+use Rattle.terminal.proofs.Loop.{run_behind, ran_is, begin, stops, go, halt, finish, ready}
 use Rattle.terminal.proofs.Loop.{more_refused, nothing_made, event_ends, event_answer, no_event, stop_beside, go_beside, ended_beside}
 use Rattle.terminal.proofs.FastPaths.{Resumed, resumed, path_fits}
 use Rattle.terminal.proofs.FastRows.{path_behind, moved_behind}
 use Rattle.terminal.proofs.Sequences.{passed, passed_beside, passed_reads}
+use Rattle.terminal.proofs.bytes.run_beside.Goals.{else-under-via-then-under+else-is_empty, else-under-via-else-under, then-stop, else-stop}
+use Rattle.terminal.proofs.bytes.run_beside.Goals.{then-is_sending-via-then-is_sending, then-is_sending-via-else-is_sending+then-ends}
+use Rattle.terminal.proofs.bytes.run_beside.Goals.{then-stop-2, else-stop-2, then-event-2-via-then-event-2}
+use Rattle.terminal.proofs.bytes.run_beside.Goals.{then-event-2-via-else-event-2+then-is_sending-2}
 use Rattle.terminal.proofs.bytes.run_beside.Goals as goal
 
-pub returns-then-and : goal.returns-then-and
-returns-then-and c =
-    let unheard : let x = c.args in c.and.result ≡ both (sends x.state.sending) (eqb (length x.reply.now) 0) =
-    c.and.ensures ∙ ap (λ (t : Bool). both t (eqb (length c.args.reply.now) 0)) c.is_sending-under.ensures in
-    let b = both_parts _ _ (sym (unheard) ∙ c.if-and.true) in (
-      ran_is c.finished.ensures
-          (run_none c.args.page.now c.args.state c.requires.0 b.0 c.args.stop _ _ _ b.1 c.no_room.ensures),
-      ended_beside c.finished.result c.args.page.now (ap (λ (z : RunResult). z.state.core) c.finished.ensures) c.requires.1,
-    )
+pub returns-then-is_empty : goal.returns-then-is_empty
+returns-then-is_empty c = (
+  ran_is c.finished.ensures
+      (run_none c.args.page.now c.args.state c.requires.0 (sym c.is_sending-under.ensures ∙ c.if-under.true) c.args.stop _ _ _
+      (sym c.is_empty.ensures ∙ c.if-is_empty.true) c.no_room.ensures),
+  ended_beside c.finished.result c.args.page.now (ap (λ (z : RunResult). z.state.core) c.finished.ensures) c.requires.1,
+)
 
 pub resume-sent-requires : goal.resume-sent-requires
 resume-sent-requires c u =
-    let unheard : let x = c.args in c.and.result ≡ both (sends x.state.sending) (eqb (length x.reply.now) 0) =
-    c.and.ensures ∙ ap (λ (t : Bool). both t (eqb (length c.args.reply.now) 0)) c.is_sending-under.ensures in
     let heard : let x = c.args in sends x.state.sending ≡ true → 0 < length x.reply.now =
-    λ u. has_room _ _ (sym (unheard) ∙ c.if-and.false) u in
+    λ u. (elim c.else-under.branch [
+      | else-under-via-then-under+else-is_empty w ↦ omega (arith, eqb-false _ _ (sym w.is_empty.ensures ∙ w.if-is_empty.false))
+      | else-under-via-else-under w ↦ absurd (false≢true (sym w.if-under.false ∙ (c.is_sending-under.ensures ∙ u)))
+    ]) in
     send_ready c.args.page.now c.args.state c.requires.0 c.args.reply.now (heard u)
 
-pub returns-then-or : goal.returns-then-or
-returns-then-or c =
-    let unheard : let x = c.args in c.and.result ≡ both (sends x.state.sending) (eqb (length x.reply.now) 0) =
-    c.and.ensures ∙ ap (λ (t : Bool). both t (eqb (length c.args.reply.now) 0)) c.is_sending-under.ensures in
+pub returns-then-is_sending : goal.returns-then-is_sending
+returns-then-is_sending c =
     let heard : let x = c.args in sends x.state.sending ≡ true → 0 < length x.reply.now =
-    λ u. has_room _ _ (sym (unheard) ∙ c.if-and.false) u in
-    let all : let x = c.args in c.or.result ≡ either (sends c.resume-sent.result.left) (both x.stop (sends x.state.sending)) =
-    c.or.ensures ∙ ap₂ either c.is_sending.ensures
-    (c.and-2.ensures ∙ ap (both c.args.stop) c.is_sending-under.ensures) in (
-      ran_is c.finished-then-or.ensures
+    λ u. (elim c.else-under.branch [
+      | else-under-via-then-under+else-is_empty w ↦ omega (arith, eqb-false _ _ (sym w.is_empty.ensures ∙ w.if-is_empty.false))
+      | else-under-via-else-under w ↦ absurd (false≢true (sym w.if-under.false ∙ (c.is_sending-under.ensures ∙ u)))
+    ]) in
+    let ends : c.if-stop.ends ≡ both c.args.stop (sends c.args.state.sending) =
+    elim c.if-stop.branch [
+      | then-stop w ↦ rw w.if-stop.true (w.ends-is ∙ c.is_sending-under.ensures)
+      | else-stop w ↦ rw w.if-stop.false (w.ends-is ∙ w.if-stop.false)
+    ] in (
+      ran_is c.finished-then-is_sending.ensures
           (run_sent c.args.page.now c.args.state c.requires.0 c.resume-sent.ensures (heard) c.args.stop _
-          (sym (all) ∙ c.if-or.true)),
-      ended_beside c.finished-then-or.result c.args.page.now (ap (λ (z : RunResult). z.state.core) c.finished-then-or.ensures) c.requires.1,
+          (elim c.then-is_sending.branch [
+            | then-is_sending-via-then-is_sending w ↦ either_first _ (sym c.is_sending.ensures ∙ w.if-is_sending.true)
+            | then-is_sending-via-else-is_sending+then-ends w ↦ either_second _ (sym (ends) ∙ w.if-ends.true)
+          ])),
+      ended_beside c.finished-then-is_sending.result c.args.page.now (ap (λ (z : RunResult). z.state.core) c.finished-then-is_sending.ensures) c.requires.1,
     )
 
 pub loop-taken-init : goal.loop-taken-init
 loop-taken-init c =
-    let unheard : let x = c.args in c.and.result ≡ both (sends x.state.sending) (eqb (length x.reply.now) 0) =
-    c.and.ensures ∙ ap (λ (t : Bool). both t (eqb (length c.args.reply.now) 0)) c.is_sending-under.ensures in
     let heard : let x = c.args in sends x.state.sending ≡ true → 0 < length x.reply.now =
-    λ u. has_room _ _ (sym (unheard) ∙ c.if-and.false) u in
+    λ u. (elim c.else-under.branch [
+      | else-under-via-then-under+else-is_empty w ↦ omega (arith, eqb-false _ _ (sym w.is_empty.ensures ∙ w.if-is_empty.false))
+      | else-under-via-else-under w ↦ absurd (false≢true (sym w.if-under.false ∙ (c.is_sending-under.ensures ∙ u)))
+    ]) in
     let room = c.resume-sent.new.reply in
     let resized : length (room) ≡ length c.args.reply.now =
     went_long c.args.page.now c.args.state c.requires.0 c.resume-sent.ensures (heard) in
@@ -104,9 +115,6 @@ follow_path-requires c =
           (path_behind l.c g.1.0 (omega (arith, c.loop-taken-test.true)) c.fast_path-fast.ensures.0 l.invariant.1.0),
     )
 
-pub loop-taken-smaller-then-input-taken : goal.loop-taken-smaller-then-input-taken
-loop-taken-smaller-then-input-taken c = omega (arith, c.if-input-taken.true, c.loop-taken-test.true)
-
 pub loop-taken-preserved-then-input-taken : goal.loop-taken-preserved-then-input-taken
 loop-taken-preserved-then-input-taken c =
     let room = c.resume-sent.new.reply in
@@ -133,9 +141,6 @@ awaited-s-requires c =
     resumed c.loop-taken.invariant.0 (omega (arith, c.loop-taken-test.true)) t.0 t.1 c.moved-moved_core.ensures in
     let r = run in ((ready r.running).1.1.0, r.left)
 
-pub loop-taken-smaller-then-input-taken-2 : goal.loop-taken-smaller-then-input-taken-2
-loop-taken-smaller-then-input-taken-2 c = omega (arith, c.if-input-taken-2.true, c.loop-taken-test.true)
-
 pub loop-taken-preserved-then-input-taken-2 : goal.loop-taken-preserved-then-input-taken-2
 loop-taken-preserved-then-input-taken-2 c =
     let room = c.resume-sent.new.reply in
@@ -156,44 +161,6 @@ loop-taken-preserved-then-input-taken-2 c =
     let listed : length c.follow_path.new.rows ≡ length c.args.rows.now =
     c.follow_path.auto.rows ∙ c.loop-taken.invariant.1.1 in
     ((past).running, (beside, listed))
-
-pub bounds-input-taken : goal.bounds-input-taken
-bounds-input-taken c = c.if-input-taken-2.false
-
-pub slice_bounds-inner-count : goal.slice_bounds-inner-count
-slice_bounds-inner-count c =
-    let room = c.resume-sent.new.reply in
-    let whole = let x = c.args in
-    run_behind x.stop x.page.now x.state.core x.state.gathered x.state.setup x.input.now (room) c.resume-sent.result.replied in
-    let run : let x = c.args in let l = c.loop-taken in let r = c.fast_path-fast in
-    Resumed x.stop x.page.now (whole) x.input.now (room) r.new.page l.reply c.moved-moved_core.result
-    l.g l.u r.result.taken l.replied (l.refused + r.result.refused) l.taken =
-    let t = c.fast_path-fast.ensures in
-    resumed c.loop-taken.invariant.0 (omega (arith, c.loop-taken-test.true)) t.0 t.1 c.moved-moved_core.ensures in
-    let past : let x = c.args in let l = c.loop-taken in
-    Resumed x.stop x.page.now (whole) x.input.now (room) c.fast_path-fast.new.page l.reply
-    c.awaiting-waiting.result l.g l.u c.awaited-s.result.taken l.replied (l.refused + c.fast_path-fast.result.refused) l.taken =
-    passed (run) c.awaited-s.ensures.0 c.awaiting-waiting.ensures in
-    room_size (past).running
-
-pub slice_bounds-inner-start : goal.slice_bounds-inner-start
-slice_bounds-inner-start c =
-    let room = c.resume-sent.new.reply in
-    let whole = let x = c.args in
-    run_behind x.stop x.page.now x.state.core x.state.gathered x.state.setup x.input.now (room) c.resume-sent.result.replied in
-    let run : let x = c.args in let l = c.loop-taken in let r = c.fast_path-fast in
-    Resumed x.stop x.page.now (whole) x.input.now (room) r.new.page l.reply c.moved-moved_core.result
-    l.g l.u r.result.taken l.replied (l.refused + r.result.refused) l.taken =
-    let t = c.fast_path-fast.ensures in
-    resumed c.loop-taken.invariant.0 (omega (arith, c.loop-taken-test.true)) t.0 t.1 c.moved-moved_core.ensures in
-    let past : let x = c.args in let l = c.loop-taken in
-    Resumed x.stop x.page.now (whole) x.input.now (room) c.fast_path-fast.new.page l.reply
-    c.awaiting-waiting.result l.g l.u c.awaited-s.result.taken l.replied (l.refused + c.fast_path-fast.result.refused) l.taken =
-    passed (run) c.awaited-s.ensures.0 c.awaiting-waiting.ensures in
-    room_size (past).running
-
-pub slice_bounds-inner-end : goal.slice_bounds-inner-end
-slice_bounds-inner-end c = omega arith
 
 pub inner-t-requires : goal.inner-t-requires
 inner-t-requires c =
@@ -224,62 +191,18 @@ inner-t-requires c =
       ),
     )
 
-pub shape_of-page-then-is_no_room : goal.shape_of-page-then-is_no_room
-shape_of-page-then-is_no_room c =
-    let room = c.resume-sent.new.reply in
-    let whole = let x = c.args in
-    run_behind x.stop x.page.now x.state.core x.state.gathered x.state.setup x.input.now (room) c.resume-sent.result.replied in
-    let run : let x = c.args in let l = c.loop-taken in let r = c.fast_path-fast in
-    Resumed x.stop x.page.now (whole) x.input.now (room) r.new.page l.reply c.moved-moved_core.result
-    l.g l.u r.result.taken l.replied (l.refused + r.result.refused) l.taken =
-    let t = c.fast_path-fast.ensures in
-    resumed c.loop-taken.invariant.0 (omega (arith, c.loop-taken-test.true)) t.0 t.1 c.moved-moved_core.ensures in
-    let past : let x = c.args in let l = c.loop-taken in
-    Resumed x.stop x.page.now (whole) x.input.now (room) c.fast_path-fast.new.page l.reply
-    c.awaiting-waiting.result l.g l.u c.awaited-s.result.taken l.replied (l.refused + c.fast_path-fast.result.refused) l.taken =
-    passed (run) c.awaited-s.ensures.0 c.awaiting-waiting.ensures in
-    c.inner-t.auto.page ∙ (past).running.long
-
-pub shape_of-rows-then-is_no_room : goal.shape_of-rows-then-is_no_room
-shape_of-rows-then-is_no_room c =
-    let listed : length c.follow_path.new.rows ≡ length c.args.rows.now =
-    c.follow_path.auto.rows ∙ c.loop-taken.invariant.1.1 in
-    let sized : length c.inner-t.new.rows ≡ length c.args.rows.now =
-    c.inner-t.auto.rows ∙ listed in
-    sized
-
-pub shape_of-reply-then-is_no_room : goal.shape_of-reply-then-is_no_room
-shape_of-reply-then-is_no_room c =
-    let unheard : let x = c.args in c.and.result ≡ both (sends x.state.sending) (eqb (length x.reply.now) 0) =
-    c.and.ensures ∙ ap (λ (t : Bool). both t (eqb (length c.args.reply.now) 0)) c.is_sending-under.ensures in
-    let heard : let x = c.args in sends x.state.sending ≡ true → 0 < length x.reply.now =
-    λ u. has_room _ _ (sym (unheard) ∙ c.if-and.false) u in
-    let room = c.resume-sent.new.reply in
-    let resized : length (room) ≡ length c.args.reply.now =
-    went_long c.args.page.now c.args.state c.requires.0 c.resume-sent.ensures (heard) in
-    let whole = let x = c.args in
-    run_behind x.stop x.page.now x.state.core x.state.gathered x.state.setup x.input.now (room) c.resume-sent.result.replied in
-    let run : let x = c.args in let l = c.loop-taken in let r = c.fast_path-fast in
-    Resumed x.stop x.page.now (whole) x.input.now (room) r.new.page l.reply c.moved-moved_core.result
-    l.g l.u r.result.taken l.replied (l.refused + r.result.refused) l.taken =
-    let t = c.fast_path-fast.ensures in
-    resumed c.loop-taken.invariant.0 (omega (arith, c.loop-taken-test.true)) t.0 t.1 c.moved-moved_core.ensures in
-    let past : let x = c.args in let l = c.loop-taken in
-    Resumed x.stop x.page.now (whole) x.input.now (room) c.fast_path-fast.new.page l.reply
-    c.awaiting-waiting.result l.g l.u c.awaited-s.result.taken l.replied (l.refused + c.fast_path-fast.result.refused) l.taken =
-    passed (run) c.awaited-s.ensures.0 c.awaiting-waiting.ensures in
-    back_size (past).running c.inner-t.new.room c.inner-t.auto.room
-    ∙ resized
-
 pub returns-then-is_no_room : goal.returns-then-is_no_room
 returns-then-is_no_room c =
-    let unheard : let x = c.args in c.and.result ≡ both (sends x.state.sending) (eqb (length x.reply.now) 0) =
-    c.and.ensures ∙ ap (λ (t : Bool). both t (eqb (length c.args.reply.now) 0)) c.is_sending-under.ensures in
     let heard : let x = c.args in sends x.state.sending ≡ true → 0 < length x.reply.now =
-    λ u. has_room _ _ (sym (unheard) ∙ c.if-and.false) u in
-    let all : let x = c.args in c.or.result ≡ either (sends c.resume-sent.result.left) (both x.stop (sends x.state.sending)) =
-    c.or.ensures ∙ ap₂ either c.is_sending.ensures
-    (c.and-2.ensures ∙ ap (both c.args.stop) c.is_sending-under.ensures) in
+    λ u. (elim c.else-under.branch [
+      | else-under-via-then-under+else-is_empty w ↦ omega (arith, eqb-false _ _ (sym w.is_empty.ensures ∙ w.if-is_empty.false))
+      | else-under-via-else-under w ↦ absurd (false≢true (sym w.if-under.false ∙ (c.is_sending-under.ensures ∙ u)))
+    ]) in
+    let ends : c.if-stop.ends ≡ both c.args.stop (sends c.args.state.sending) =
+    elim c.if-stop.branch [
+      | then-stop w ↦ rw w.if-stop.true (w.ends-is ∙ c.is_sending-under.ensures)
+      | else-stop w ↦ rw w.if-stop.false (w.ends-is ∙ w.if-stop.false)
+    ] in
     let room = c.resume-sent.new.reply in
     let whole = let x = c.args in
     run_behind x.stop x.page.now x.state.core x.state.gathered x.state.setup x.input.now (room) c.resume-sent.result.replied in
@@ -287,7 +210,7 @@ returns-then-is_no_room c =
     RunDone (whole) z x.input.now p (room) w
     → RunDone (call_to x.stop x.page.now x.state x.input.now (length x.reply.now)) z x.input.now p x.reply.now w =
     λ z p w k. run_on_lem c.args.page.now c.args.state c.requires.0 c.resume-sent.ensures (heard) c.args.stop
-    (sym (all) ∙ c.if-or.false) k in
+    (rw (sym c.is_sending.ensures ∙ c.if-is_sending.false) (sym (ends) ∙ c.if-ends.false)) k in
     let run : let x = c.args in let l = c.loop-taken in let r = c.fast_path-fast in
     Resumed x.stop x.page.now (whole) x.input.now (room) r.new.page l.reply c.moved-moved_core.result
     l.g l.u r.result.taken l.replied (l.refused + r.result.refused) l.taken =
@@ -303,31 +226,6 @@ returns-then-is_no_room c =
       ended_beside c.finished-then-is_no_room.result c.inner-t.new.page (ap (λ (z : RunResult). z.state.core) c.finished-then-is_no_room.ensures)
           (stop_beside r.running c.if-input-taken-2.false c.inner-t.ensures.0 six c.inner-t.ensures.1),
     )
-
-pub overflow_add-taken : goal.overflow_add-taken
-overflow_add-taken c = omega (arith, c.if-input-taken-2.false, c.well_formed)
-
-pub overflow_add-replied : goal.overflow_add-replied
-overflow_add-replied c =
-    let unheard : let x = c.args in c.and.result ≡ both (sends x.state.sending) (eqb (length x.reply.now) 0) =
-    c.and.ensures ∙ ap (λ (t : Bool). both t (eqb (length c.args.reply.now) 0)) c.is_sending-under.ensures in
-    let heard : let x = c.args in sends x.state.sending ≡ true → 0 < length x.reply.now =
-    λ u. has_room _ _ (sym (unheard) ∙ c.if-and.false) u in
-    let room = c.resume-sent.new.reply in
-    let resized : length (room) ≡ length c.args.reply.now =
-    went_long c.args.page.now c.args.state c.requires.0 c.resume-sent.ensures (heard) in
-    let whole = let x = c.args in
-    run_behind x.stop x.page.now x.state.core x.state.gathered x.state.setup x.input.now (room) c.resume-sent.result.replied in
-    let run : let x = c.args in let l = c.loop-taken in let r = c.fast_path-fast in
-    Resumed x.stop x.page.now (whole) x.input.now (room) r.new.page l.reply c.moved-moved_core.result
-    l.g l.u r.result.taken l.replied (l.refused + r.result.refused) l.taken =
-    let t = c.fast_path-fast.ensures in
-    resumed c.loop-taken.invariant.0 (omega (arith, c.loop-taken-test.true)) t.0 t.1 c.moved-moved_core.ensures in
-    let past : let x = c.args in let l = c.loop-taken in
-    Resumed x.stop x.page.now (whole) x.input.now (room) c.fast_path-fast.new.page l.reply
-    c.awaiting-waiting.result l.g l.u c.awaited-s.result.taken l.replied (l.refused + c.fast_path-fast.result.refused) l.taken =
-    passed (run) c.awaited-s.ensures.0 c.awaiting-waiting.ensures in
-    omega (arith, more_replied (past).running _ c.inner-t.ensures.0.fits, resized, c.well_formed)
 
 pub overflow_add-refused-in-loop-taken : goal.overflow_add-refused-in-loop-taken
 overflow_add-refused-in-loop-taken c =
@@ -346,62 +244,18 @@ overflow_add-refused-in-loop-taken c =
     let f = more_refused (past).running (number c.inner-t.result.answer) c.if-input-taken-2.false in
     omega (arith, f, c.refusals-refused.ensures, c.well_formed)
 
-pub shape_of-page-then-event : goal.shape_of-page-then-event
-shape_of-page-then-event c =
-    let room = c.resume-sent.new.reply in
-    let whole = let x = c.args in
-    run_behind x.stop x.page.now x.state.core x.state.gathered x.state.setup x.input.now (room) c.resume-sent.result.replied in
-    let run : let x = c.args in let l = c.loop-taken in let r = c.fast_path-fast in
-    Resumed x.stop x.page.now (whole) x.input.now (room) r.new.page l.reply c.moved-moved_core.result
-    l.g l.u r.result.taken l.replied (l.refused + r.result.refused) l.taken =
-    let t = c.fast_path-fast.ensures in
-    resumed c.loop-taken.invariant.0 (omega (arith, c.loop-taken-test.true)) t.0 t.1 c.moved-moved_core.ensures in
-    let past : let x = c.args in let l = c.loop-taken in
-    Resumed x.stop x.page.now (whole) x.input.now (room) c.fast_path-fast.new.page l.reply
-    c.awaiting-waiting.result l.g l.u c.awaited-s.result.taken l.replied (l.refused + c.fast_path-fast.result.refused) l.taken =
-    passed (run) c.awaited-s.ensures.0 c.awaiting-waiting.ensures in
-    c.inner-t.auto.page ∙ (past).running.long
-
-pub shape_of-rows-then-event : goal.shape_of-rows-then-event
-shape_of-rows-then-event c =
-    let listed : length c.follow_path.new.rows ≡ length c.args.rows.now =
-    c.follow_path.auto.rows ∙ c.loop-taken.invariant.1.1 in
-    let sized : length c.inner-t.new.rows ≡ length c.args.rows.now =
-    c.inner-t.auto.rows ∙ listed in
-    sized
-
-pub shape_of-reply-then-event : goal.shape_of-reply-then-event
-shape_of-reply-then-event c =
-    let unheard : let x = c.args in c.and.result ≡ both (sends x.state.sending) (eqb (length x.reply.now) 0) =
-    c.and.ensures ∙ ap (λ (t : Bool). both t (eqb (length c.args.reply.now) 0)) c.is_sending-under.ensures in
-    let heard : let x = c.args in sends x.state.sending ≡ true → 0 < length x.reply.now =
-    λ u. has_room _ _ (sym (unheard) ∙ c.if-and.false) u in
-    let room = c.resume-sent.new.reply in
-    let resized : length (room) ≡ length c.args.reply.now =
-    went_long c.args.page.now c.args.state c.requires.0 c.resume-sent.ensures (heard) in
-    let whole = let x = c.args in
-    run_behind x.stop x.page.now x.state.core x.state.gathered x.state.setup x.input.now (room) c.resume-sent.result.replied in
-    let run : let x = c.args in let l = c.loop-taken in let r = c.fast_path-fast in
-    Resumed x.stop x.page.now (whole) x.input.now (room) r.new.page l.reply c.moved-moved_core.result
-    l.g l.u r.result.taken l.replied (l.refused + r.result.refused) l.taken =
-    let t = c.fast_path-fast.ensures in
-    resumed c.loop-taken.invariant.0 (omega (arith, c.loop-taken-test.true)) t.0 t.1 c.moved-moved_core.ensures in
-    let past : let x = c.args in let l = c.loop-taken in
-    Resumed x.stop x.page.now (whole) x.input.now (room) c.fast_path-fast.new.page l.reply
-    c.awaiting-waiting.result l.g l.u c.awaited-s.result.taken l.replied (l.refused + c.fast_path-fast.result.refused) l.taken =
-    passed (run) c.awaited-s.ensures.0 c.awaiting-waiting.ensures in
-    back_size (past).running c.inner-t.new.room c.inner-t.auto.room
-    ∙ resized
-
 pub returns-then-event : goal.returns-then-event
 returns-then-event c =
-    let unheard : let x = c.args in c.and.result ≡ both (sends x.state.sending) (eqb (length x.reply.now) 0) =
-    c.and.ensures ∙ ap (λ (t : Bool). both t (eqb (length c.args.reply.now) 0)) c.is_sending-under.ensures in
     let heard : let x = c.args in sends x.state.sending ≡ true → 0 < length x.reply.now =
-    λ u. has_room _ _ (sym (unheard) ∙ c.if-and.false) u in
-    let all : let x = c.args in c.or.result ≡ either (sends c.resume-sent.result.left) (both x.stop (sends x.state.sending)) =
-    c.or.ensures ∙ ap₂ either c.is_sending.ensures
-    (c.and-2.ensures ∙ ap (both c.args.stop) c.is_sending-under.ensures) in
+    λ u. (elim c.else-under.branch [
+      | else-under-via-then-under+else-is_empty w ↦ omega (arith, eqb-false _ _ (sym w.is_empty.ensures ∙ w.if-is_empty.false))
+      | else-under-via-else-under w ↦ absurd (false≢true (sym w.if-under.false ∙ (c.is_sending-under.ensures ∙ u)))
+    ]) in
+    let ends : c.if-stop.ends ≡ both c.args.stop (sends c.args.state.sending) =
+    elim c.if-stop.branch [
+      | then-stop w ↦ rw w.if-stop.true (w.ends-is ∙ c.is_sending-under.ensures)
+      | else-stop w ↦ rw w.if-stop.false (w.ends-is ∙ w.if-stop.false)
+    ] in
     let room = c.resume-sent.new.reply in
     let whole = let x = c.args in
     run_behind x.stop x.page.now x.state.core x.state.gathered x.state.setup x.input.now (room) c.resume-sent.result.replied in
@@ -409,7 +263,7 @@ returns-then-event c =
     RunDone (whole) z x.input.now p (room) w
     → RunDone (call_to x.stop x.page.now x.state x.input.now (length x.reply.now)) z x.input.now p x.reply.now w =
     λ z p w k. run_on_lem c.args.page.now c.args.state c.requires.0 c.resume-sent.ensures (heard) c.args.stop
-    (sym (all) ∙ c.if-or.false) k in
+    (rw (sym c.is_sending.ensures ∙ c.if-is_sending.false) (sym (ends) ∙ c.if-ends.false)) k in
     let run : let x = c.args in let l = c.loop-taken in let r = c.fast_path-fast in
     Resumed x.stop x.page.now (whole) x.input.now (room) r.new.page l.reply c.moved-moved_core.result
     l.g l.u r.result.taken l.replied (l.refused + r.result.refused) l.taken =
@@ -421,8 +275,11 @@ returns-then-event c =
     passed (run) c.awaited-s.ensures.0 c.awaiting-waiting.ensures in
     let stopping = c.args.stop in
     let event = let t = c.inner-t.result in is_event (number t.answer) t.replied in
-    let tested : c.and-event.result ≡ both (stopping) (event) =
-    c.and-event.ensures ∙ ap (both (stopping)) c.is_event.ensures in
+    let tested : c.if-stop-2.event ≡ both (stopping) (event) =
+    elim c.if-stop-2.branch [
+      | then-stop-2 w ↦ rw w.if-stop-2.true (w.event-is ∙ w.is_event-event.ensures)
+      | else-stop-2 w ↦ rw w.if-stop-2.false (w.event-is ∙ w.if-stop-2.false)
+    ] in
     let r = past in
     let n = nothing_made _ _ _ (sym c.is_nothing.ensures ∙ c.if-is_nothing.true) in
     let other = sym c.is_no_room.ensures ∙ c.if-is_no_room.false in
@@ -470,8 +327,11 @@ loop-taken-preserved-then-is_nothing c =
     c.inner-t.auto.rows ∙ listed in
     let stopping = c.args.stop in
     let event = let t = c.inner-t.result in is_event (number t.answer) t.replied in
-    let tested : c.and-event.result ≡ both (stopping) (event) =
-    c.and-event.ensures ∙ ap (both (stopping)) c.is_event.ensures in
+    let tested : c.if-stop-2.event ≡ both (stopping) (event) =
+    elim c.if-stop-2.branch [
+      | then-stop-2 w ↦ rw w.if-stop-2.true (w.event-is ∙ w.is_event-event.ensures)
+      | else-stop-2 w ↦ rw w.if-stop-2.false (w.event-is ∙ w.if-stop-2.false)
+    ] in
     let r = past in
     let n = nothing_made _ _ _ (sym c.is_nothing.ensures ∙ c.if-is_nothing.true) in
     let other = sym c.is_no_room.ensures ∙ c.if-is_no_room.false in (
@@ -481,62 +341,18 @@ loop-taken-preserved-then-is_nothing c =
       (go_beside r.running c.if-input-taken-2.false c.inner-t.ensures.0 other c.inner-t.ensures.1, sized),
     )
 
-pub shape_of-page-then-or-2 : goal.shape_of-page-then-or-2
-shape_of-page-then-or-2 c =
-    let room = c.resume-sent.new.reply in
-    let whole = let x = c.args in
-    run_behind x.stop x.page.now x.state.core x.state.gathered x.state.setup x.input.now (room) c.resume-sent.result.replied in
-    let run : let x = c.args in let l = c.loop-taken in let r = c.fast_path-fast in
-    Resumed x.stop x.page.now (whole) x.input.now (room) r.new.page l.reply c.moved-moved_core.result
-    l.g l.u r.result.taken l.replied (l.refused + r.result.refused) l.taken =
-    let t = c.fast_path-fast.ensures in
-    resumed c.loop-taken.invariant.0 (omega (arith, c.loop-taken-test.true)) t.0 t.1 c.moved-moved_core.ensures in
-    let past : let x = c.args in let l = c.loop-taken in
-    Resumed x.stop x.page.now (whole) x.input.now (room) c.fast_path-fast.new.page l.reply
-    c.awaiting-waiting.result l.g l.u c.awaited-s.result.taken l.replied (l.refused + c.fast_path-fast.result.refused) l.taken =
-    passed (run) c.awaited-s.ensures.0 c.awaiting-waiting.ensures in
-    c.inner-t.auto.page ∙ (past).running.long
-
-pub shape_of-rows-then-or-2 : goal.shape_of-rows-then-or-2
-shape_of-rows-then-or-2 c =
-    let listed : length c.follow_path.new.rows ≡ length c.args.rows.now =
-    c.follow_path.auto.rows ∙ c.loop-taken.invariant.1.1 in
-    let sized : length c.inner-t.new.rows ≡ length c.args.rows.now =
-    c.inner-t.auto.rows ∙ listed in
-    sized
-
-pub shape_of-reply-then-or-2 : goal.shape_of-reply-then-or-2
-shape_of-reply-then-or-2 c =
-    let unheard : let x = c.args in c.and.result ≡ both (sends x.state.sending) (eqb (length x.reply.now) 0) =
-    c.and.ensures ∙ ap (λ (t : Bool). both t (eqb (length c.args.reply.now) 0)) c.is_sending-under.ensures in
+pub returns-then-event-2 : goal.returns-then-event-2
+returns-then-event-2 c =
     let heard : let x = c.args in sends x.state.sending ≡ true → 0 < length x.reply.now =
-    λ u. has_room _ _ (sym (unheard) ∙ c.if-and.false) u in
-    let room = c.resume-sent.new.reply in
-    let resized : length (room) ≡ length c.args.reply.now =
-    went_long c.args.page.now c.args.state c.requires.0 c.resume-sent.ensures (heard) in
-    let whole = let x = c.args in
-    run_behind x.stop x.page.now x.state.core x.state.gathered x.state.setup x.input.now (room) c.resume-sent.result.replied in
-    let run : let x = c.args in let l = c.loop-taken in let r = c.fast_path-fast in
-    Resumed x.stop x.page.now (whole) x.input.now (room) r.new.page l.reply c.moved-moved_core.result
-    l.g l.u r.result.taken l.replied (l.refused + r.result.refused) l.taken =
-    let t = c.fast_path-fast.ensures in
-    resumed c.loop-taken.invariant.0 (omega (arith, c.loop-taken-test.true)) t.0 t.1 c.moved-moved_core.ensures in
-    let past : let x = c.args in let l = c.loop-taken in
-    Resumed x.stop x.page.now (whole) x.input.now (room) c.fast_path-fast.new.page l.reply
-    c.awaiting-waiting.result l.g l.u c.awaited-s.result.taken l.replied (l.refused + c.fast_path-fast.result.refused) l.taken =
-    passed (run) c.awaited-s.ensures.0 c.awaiting-waiting.ensures in
-    back_size (past).running c.inner-t.new.room c.inner-t.auto.room
-    ∙ resized
-
-pub returns-then-or-2 : goal.returns-then-or-2
-returns-then-or-2 c =
-    let unheard : let x = c.args in c.and.result ≡ both (sends x.state.sending) (eqb (length x.reply.now) 0) =
-    c.and.ensures ∙ ap (λ (t : Bool). both t (eqb (length c.args.reply.now) 0)) c.is_sending-under.ensures in
-    let heard : let x = c.args in sends x.state.sending ≡ true → 0 < length x.reply.now =
-    λ u. has_room _ _ (sym (unheard) ∙ c.if-and.false) u in
-    let all : let x = c.args in c.or.result ≡ either (sends c.resume-sent.result.left) (both x.stop (sends x.state.sending)) =
-    c.or.ensures ∙ ap₂ either c.is_sending.ensures
-    (c.and-2.ensures ∙ ap (both c.args.stop) c.is_sending-under.ensures) in
+    λ u. (elim c.else-under.branch [
+      | else-under-via-then-under+else-is_empty w ↦ omega (arith, eqb-false _ _ (sym w.is_empty.ensures ∙ w.if-is_empty.false))
+      | else-under-via-else-under w ↦ absurd (false≢true (sym w.if-under.false ∙ (c.is_sending-under.ensures ∙ u)))
+    ]) in
+    let ends : c.if-stop.ends ≡ both c.args.stop (sends c.args.state.sending) =
+    elim c.if-stop.branch [
+      | then-stop w ↦ rw w.if-stop.true (w.ends-is ∙ c.is_sending-under.ensures)
+      | else-stop w ↦ rw w.if-stop.false (w.ends-is ∙ w.if-stop.false)
+    ] in
     let room = c.resume-sent.new.reply in
     let whole = let x = c.args in
     run_behind x.stop x.page.now x.state.core x.state.gathered x.state.setup x.input.now (room) c.resume-sent.result.replied in
@@ -544,7 +360,7 @@ returns-then-or-2 c =
     RunDone (whole) z x.input.now p (room) w
     → RunDone (call_to x.stop x.page.now x.state x.input.now (length x.reply.now)) z x.input.now p x.reply.now w =
     λ z p w k. run_on_lem c.args.page.now c.args.state c.requires.0 c.resume-sent.ensures (heard) c.args.stop
-    (sym (all) ∙ c.if-or.false) k in
+    (rw (sym c.is_sending.ensures ∙ c.if-is_sending.false) (sym (ends) ∙ c.if-ends.false)) k in
     let run : let x = c.args in let l = c.loop-taken in let r = c.fast_path-fast in
     Resumed x.stop x.page.now (whole) x.input.now (room) r.new.page l.reply c.moved-moved_core.result
     l.g l.u r.result.taken l.replied (l.refused + r.result.refused) l.taken =
@@ -556,17 +372,22 @@ returns-then-or-2 c =
     passed (run) c.awaited-s.ensures.0 c.awaiting-waiting.ensures in
     let stopping = c.args.stop in
     let event = let t = c.inner-t.result in is_event (number t.answer) t.replied in
-    let tested : c.and-event.result ≡ both (stopping) (event) =
-    c.and-event.ensures ∙ ap (both (stopping)) c.is_event.ensures in
-    let ends : c.or-in-loop-taken.result ≡ either (both (stopping) (event)) (sends c.sending_after-left.result) =
-    c.or-in-loop-taken.ensures ∙ ap₂ either (tested) c.is_sending-in-loop-taken.ensures in
+    let tested : c.if-stop-2.event ≡ both (stopping) (event) =
+    elim c.if-stop-2.branch [
+      | then-stop-2 w ↦ rw w.if-stop-2.true (w.event-is ∙ w.is_event-event.ensures)
+      | else-stop-2 w ↦ rw w.if-stop-2.false (w.event-is ∙ w.if-stop-2.false)
+    ] in
     let r = past in
     let other = sym c.is_no_room.ensures ∙ c.if-is_no_room.false in (
       on _ _ _ (halt r.running c.if-input-taken-2.false c.inner-t.ensures.0 other c.gathered_after-h.ensures
           c.setup_after-v.ensures
-          c.sending_after-left.ensures c.refusals-refused.ensures (sym (ends) ∙ c.if-or-2.true) c.answer_to.ensures
-          c.finished-then-or-2.ensures),
-      ended_beside c.finished-then-or-2.result c.inner-t.new.page (ap (λ (z : RunResult). z.state.core) c.finished-then-or-2.ensures)
+          c.sending_after-left.ensures c.refusals-refused.ensures (elim c.then-event-2.branch [
+            | then-event-2-via-then-event-2 w ↦ either_first _ (sym (tested) ∙ w.if-event-2.true)
+            | then-event-2-via-else-event-2+then-is_sending-2 w ↦
+                either_second _ (sym w.is_sending-else-event-2.ensures ∙ w.if-is_sending-2.true)
+          ]) c.answer_to.ensures
+          c.finished-then-event-2.ensures),
+      ended_beside c.finished-then-event-2.result c.inner-t.new.page (ap (λ (z : RunResult). z.state.core) c.finished-then-event-2.ensures)
           (go_beside r.running c.if-input-taken-2.false c.inner-t.ensures.0 other c.inner-t.ensures.1),
     )
 
@@ -588,13 +409,16 @@ loop-taken-smaller c =
 
 pub loop-taken-preserved : goal.loop-taken-preserved
 loop-taken-preserved c =
-    let unheard : let x = c.args in c.and.result ≡ both (sends x.state.sending) (eqb (length x.reply.now) 0) =
-    c.and.ensures ∙ ap (λ (t : Bool). both t (eqb (length c.args.reply.now) 0)) c.is_sending-under.ensures in
     let heard : let x = c.args in sends x.state.sending ≡ true → 0 < length x.reply.now =
-    λ u. has_room _ _ (sym (unheard) ∙ c.if-and.false) u in
-    let all : let x = c.args in c.or.result ≡ either (sends c.resume-sent.result.left) (both x.stop (sends x.state.sending)) =
-    c.or.ensures ∙ ap₂ either c.is_sending.ensures
-    (c.and-2.ensures ∙ ap (both c.args.stop) c.is_sending-under.ensures) in
+    λ u. (elim c.else-under.branch [
+      | else-under-via-then-under+else-is_empty w ↦ omega (arith, eqb-false _ _ (sym w.is_empty.ensures ∙ w.if-is_empty.false))
+      | else-under-via-else-under w ↦ absurd (false≢true (sym w.if-under.false ∙ (c.is_sending-under.ensures ∙ u)))
+    ]) in
+    let ends : c.if-stop.ends ≡ both c.args.stop (sends c.args.state.sending) =
+    elim c.if-stop.branch [
+      | then-stop w ↦ rw w.if-stop.true (w.ends-is ∙ c.is_sending-under.ensures)
+      | else-stop w ↦ rw w.if-stop.false (w.ends-is ∙ w.if-stop.false)
+    ] in
     let room = c.resume-sent.new.reply in
     let whole = let x = c.args in
     run_behind x.stop x.page.now x.state.core x.state.gathered x.state.setup x.input.now (room) c.resume-sent.result.replied in
@@ -602,7 +426,7 @@ loop-taken-preserved c =
     RunDone (whole) z x.input.now p (room) w
     → RunDone (call_to x.stop x.page.now x.state x.input.now (length x.reply.now)) z x.input.now p x.reply.now w =
     λ z p w k. run_on_lem c.args.page.now c.args.state c.requires.0 c.resume-sent.ensures (heard) c.args.stop
-    (sym (all) ∙ c.if-or.false) k in
+    (rw (sym c.is_sending.ensures ∙ c.if-is_sending.false) (sym (ends) ∙ c.if-ends.false)) k in
     let run : let x = c.args in let l = c.loop-taken in let r = c.fast_path-fast in
     Resumed x.stop x.page.now (whole) x.input.now (room) r.new.page l.reply c.moved-moved_core.result
     l.g l.u r.result.taken l.replied (l.refused + r.result.refused) l.taken =
@@ -618,46 +442,32 @@ loop-taken-preserved c =
     c.inner-t.auto.rows ∙ listed in
     let stopping = c.args.stop in
     let event = let t = c.inner-t.result in is_event (number t.answer) t.replied in
-    let tested : c.and-event.result ≡ both (stopping) (event) =
-    c.and-event.ensures ∙ ap (both (stopping)) c.is_event.ensures in
-    let ends : c.or-in-loop-taken.result ≡ either (both (stopping) (event)) (sends c.sending_after-left.result) =
-    c.or-in-loop-taken.ensures ∙ ap₂ either (tested) c.is_sending-in-loop-taken.ensures in
+    let tested : c.if-stop-2.event ≡ both (stopping) (event) =
+    elim c.if-stop-2.branch [
+      | then-stop-2 w ↦ rw w.if-stop-2.true (w.event-is ∙ w.is_event-event.ensures)
+      | else-stop-2 w ↦ rw w.if-stop-2.false (w.event-is ∙ w.if-stop-2.false)
+    ] in
     let r = past in
-    let going = sym (ends) ∙ c.if-or-2.false in
     let other = sym c.is_no_room.ensures ∙ c.if-is_no_room.false in (
       go r.running c.if-input-taken-2.false c.inner-t.ensures.0 other c.gathered_after-h.ensures
           c.setup_after-v.ensures
-          c.sending_after-left.ensures c.refusals-refused.ensures (not_sending _ (either_right (both (stopping) (event)) _ going))
-          (no_event (stopping) (event) (either_left (both (stopping) (event)) _ going)),
+          c.sending_after-left.ensures c.refusals-refused.ensures (not_sending _ (sym c.is_sending-else-event-2.ensures ∙ c.if-is_sending-2.false))
+          (no_event (stopping) (event) (sym (tested) ∙ c.if-event-2.false)),
       (go_beside r.running c.if-input-taken-2.false c.inner-t.ensures.0 other c.inner-t.ensures.1, sized),
     )
 
-pub shape_of-page : goal.shape_of-page
-shape_of-page c = c.loop-taken.invariant.0.long
-
-pub shape_of-rows : goal.shape_of-rows
-shape_of-rows c = c.loop-taken.invariant.1.1
-
-pub shape_of-reply : goal.shape_of-reply
-shape_of-reply c =
-    let unheard : let x = c.args in c.and.result ≡ both (sends x.state.sending) (eqb (length x.reply.now) 0) =
-    c.and.ensures ∙ ap (λ (t : Bool). both t (eqb (length c.args.reply.now) 0)) c.is_sending-under.ensures in
-    let heard : let x = c.args in sends x.state.sending ≡ true → 0 < length x.reply.now =
-    λ u. has_room _ _ (sym (unheard) ∙ c.if-and.false) u in
-    let room = c.resume-sent.new.reply in
-    let resized : length (room) ≡ length c.args.reply.now =
-    went_long c.args.page.now c.args.state c.requires.0 c.resume-sent.ensures (heard) in
-    c.loop-taken.invariant.0.size ∙ resized
-
 pub returns : goal.returns
 returns c =
-    let unheard : let x = c.args in c.and.result ≡ both (sends x.state.sending) (eqb (length x.reply.now) 0) =
-    c.and.ensures ∙ ap (λ (t : Bool). both t (eqb (length c.args.reply.now) 0)) c.is_sending-under.ensures in
     let heard : let x = c.args in sends x.state.sending ≡ true → 0 < length x.reply.now =
-    λ u. has_room _ _ (sym (unheard) ∙ c.if-and.false) u in
-    let all : let x = c.args in c.or.result ≡ either (sends c.resume-sent.result.left) (both x.stop (sends x.state.sending)) =
-    c.or.ensures ∙ ap₂ either c.is_sending.ensures
-    (c.and-2.ensures ∙ ap (both c.args.stop) c.is_sending-under.ensures) in
+    λ u. (elim c.else-under.branch [
+      | else-under-via-then-under+else-is_empty w ↦ omega (arith, eqb-false _ _ (sym w.is_empty.ensures ∙ w.if-is_empty.false))
+      | else-under-via-else-under w ↦ absurd (false≢true (sym w.if-under.false ∙ (c.is_sending-under.ensures ∙ u)))
+    ]) in
+    let ends : c.if-stop.ends ≡ both c.args.stop (sends c.args.state.sending) =
+    elim c.if-stop.branch [
+      | then-stop w ↦ rw w.if-stop.true (w.ends-is ∙ c.is_sending-under.ensures)
+      | else-stop w ↦ rw w.if-stop.false (w.ends-is ∙ w.if-stop.false)
+    ] in
     let room = c.resume-sent.new.reply in
     let whole = let x = c.args in
     run_behind x.stop x.page.now x.state.core x.state.gathered x.state.setup x.input.now (room) c.resume-sent.result.replied in
@@ -665,7 +475,7 @@ returns c =
     RunDone (whole) z x.input.now p (room) w
     → RunDone (call_to x.stop x.page.now x.state x.input.now (length x.reply.now)) z x.input.now p x.reply.now w =
     λ z p w k. run_on_lem c.args.page.now c.args.state c.requires.0 c.resume-sent.ensures (heard) c.args.stop
-    (sym (all) ∙ c.if-or.false) k in
+    (rw (sym c.is_sending.ensures ∙ c.if-is_sending.false) (sym (ends) ∙ c.if-ends.false)) k in
     let l = c.loop-taken in (
       on _ _ _ (finish l.invariant.0 c.loop-taken-test.false c.finished-2.ensures),
       ended_beside c.finished-2.result l.page (ap (λ (z : RunResult). z.state.core) c.finished-2.ensures) l.invariant.1.0,

@@ -1,8 +1,7 @@
 -- `terminal::fast::go` meets its contract.
-use Rattle.std.specs.Prelude.{ℕ, ◌*◌, false}
-use mathlib.Core.Path.{refl, sym, ap, ◌∙◌}
+use Rattle.std.specs.Prelude.{false}
+use mathlib.Core.Path.{refl}
 use native.Mathlib.Omega.{arith}
-use Rattle.rules.proofs.Rows.{columns_width}
 use Rattle.terminal.specs.FastPath.{none, acted, goes, rolls}
 use Rattle.terminal.proofs.FastPaths.{nothing_written, rolled_page}
 use Rattle.terminal.proofs.fast.go.Goals as goal
@@ -10,34 +9,33 @@ use Rattle.terminal.proofs.fast.go.Goals as goal
 pub bounds-input-i : goal.bounds-input-i
 bounds-input-i c = c.requires.1.1
 
-pub open_goal-m-requires : goal.open_goal-m-requires
-open_goal-m-requires c = let p = c.requires in (p.0, p.1.0)
+pub open_goal-requires : goal.open_goal-requires
+open_goal-requires c = let p = c.requires in (p.0, p.1.0)
 
 pub overflow_add-result : goal.overflow_add-result
 overflow_add-result c = omega (arith, c.requires.1.1, c.well_formed)
 
-pub shape_of-page-then-m-ground : goal.shape_of-page-then-m-ground
-shape_of-page-then-m-ground c = refl
+pub shape_of-page-in-Some : goal.shape_of-page-in-Some
+shape_of-page-in-Some c = refl
 
-pub returns-then-m-ground : goal.returns-then-m-ground
-returns-then-m-ground c =
-    let k = c.open_goal-m.ensures c.if-m-ground.true in
-    acted none (goes k.0 k.1) (omega (arith, c.requires.1.1)) c.if-m-ground.true (nothing_written c.args.ground _)
+pub returns-in-Some : goal.returns-in-Some
+returns-in-Some c =
+    let k = c.in-Some.ensures in
+    acted none (goes k.1.0 k.1.1) (omega (arith, c.requires.1.1)) k.0 (nothing_written c.args.ground _)
 
-pub roll-k-requires : goal.roll-k-requires
-roll-k-requires c = let p = c.requires in omega (arith, p.1.0, p.0.inside, p.0.size)
+pub roll-requires : goal.roll-requires
+roll-requires c = let p = c.requires in (p.1.0, omega (arith, p.1.0, p.0.inside, p.0.size))
 
-pub shape_of-page-then-ground-k : goal.shape_of-page-then-ground-k
-shape_of-page-then-ground-k c = refl
+pub shape_of-page-in_default-roll : goal.shape_of-page-in_default-roll
+shape_of-page-in_default-roll c = refl
 
-pub returns-then-ground-k : goal.returns-then-ground-k
-returns-then-ground-k c = none
+pub returns-in_default-roll : goal.returns-in_default-roll
+returns-in_default-roll c = none
 
 pub shift_rows-requires : goal.shift_rows-requires
 shift_rows-requires c =
     let f = c.requires.0 in
-    let w = c.columns.ensures in
-    (rw w (columns_width _), (omega (arith, f.rows), (f.most, f.whole ∙ ap (λ (n : ℕ). 24 * n) (sym w))))
+    (omega (arith, f.rows), (f.most, f.whole))
 
 pub overflow_add-result-2 : goal.overflow_add-result-2
 overflow_add-result-2 c = omega (arith, c.requires.1.1, c.well_formed)
@@ -45,12 +43,10 @@ overflow_add-result-2 c = omega (arith, c.requires.1.1, c.well_formed)
 pub shape_of-page : goal.shape_of-page
 shape_of-page c =
     let a = c.args in
-    (rolled_page a.ground a.page.now false a.ground.top a.ground.bottom c.shift_rows.ensures
-    c.columns.ensures).1
+    (rolled_page a.ground a.page.now false a.ground.top a.ground.bottom c.shift_rows.ensures refl).1
 
 pub returns : goal.returns
 returns c =
     let a = c.args in
-    acted none (rolls (c.roll-k.ensures (omega (arith, c.if-ground-k.false)))) (omega (arith, c.requires.1.1)) (omega (arith, c.if-ground-k.false))
-    (rolled_page a.ground a.page.now false a.ground.top a.ground.bottom c.shift_rows.ensures
-    c.columns.ensures).0
+    acted none (rolls c.in-Some-roll.ensures.1) (omega (arith, c.requires.1.1)) c.in-Some-roll.ensures.0
+    (rolled_page a.ground a.page.now false a.ground.top a.ground.bottom c.shift_rows.ensures refl).0

@@ -9,5 +9,5 @@ home-x-requires c = c.requires
 pub returns : goal.returns
 returns c =
     let s = c.args in
-    on_state s.state s.page.now _ _ (c.with_screen-c.ensures ∙ on_core s.state.core s.page.now _ c.home-x.ensures)
-    c.stops_within-t.ensures
+    on_state s.state s.page.now _ _ (c.with_screen.ensures ∙ on_core s.state.core s.page.now _ c.home-x.ensures)
+    c.stops_within-tabs.ensures

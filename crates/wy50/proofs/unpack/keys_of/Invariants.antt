@@ -1,21 +1,11 @@
--- `wy50::unpack::keys_of` meets its contract. The loops: the first 8 i and j keys are translated.
-use Prim.Native.Nat.{◌+◌, ◌*◌, ◌-◌, ◌≤◌}
+-- `wy50::unpack::keys_of` meets its contract. The loops: the first 8 i and j texts are translated.
+use Prim.Native.Nat.{◌+◌, ◌*◌}
 use Rattle.wy50.specs.Raw.{key_of}
 use Rattle.wy50.proofs.Loops.{Translated}
 use Rattle.wy50.proofs.unpack.keys_of.Given as goal
 
-abbrev pub invariant-loop-j : goal.invariant-loop-j
-invariant-loop-j l =
-    Translated key_of l.keys l.t (8 * l.i + l.j) × (l.j ≤ 8)
-
-abbrev pub decreases-loop-j : goal.decreases-loop-j
-decreases-loop-j l =
-    8 - l.j
-
 abbrev pub invariant-loop-i : goal.invariant-loop-i
-invariant-loop-i l =
-    Translated key_of l.keys l.t (8 * l.i)
+invariant-loop-i g l = Translated key_of l.keys l.t (8 * l.i)
 
-abbrev pub decreases-loop-i : goal.decreases-loop-i
-decreases-loop-i l =
-    4 - l.i
+abbrev pub invariant-loop-j : goal.invariant-loop-j
+invariant-loop-j g l = Translated key_of l.keys l.t (8 * l.i + l.j)

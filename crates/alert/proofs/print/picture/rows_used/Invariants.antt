@@ -1,11 +1,6 @@
--- `alert::print::picture::rows_used` is safe and ends.
+-- `alert::print::picture::rows_used` meets its contract.
 use Rattle.std.proofs.Common.{◌≤◌}
 use Rattle.alert.proofs.print.picture.rows_used.Given as goal
 
-abbrev pub invariant-loop-n : goal.invariant-loop-n
-invariant-loop-n l =
-    l.n ≤ 24
-
-abbrev pub decreases-loop-n : goal.decreases-loop-n
-decreases-loop-n l =
-    l.n
+abbrev pub invariant-loop-r : goal.invariant-loop-r
+invariant-loop-r l = l.n ≤ l.r

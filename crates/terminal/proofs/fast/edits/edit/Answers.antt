@@ -60,37 +60,34 @@ pub clear-requires-in-121 : goal.clear-requires-in-121
 clear-requires-in-121 c = let p = c.requires in (omega (arith, p.1, p.0.inside, p.0.size), omega (arith, p.0.inside, p.0.size))
 
 pub returns-in-58 : goal.returns-in-58
-returns-in-58 c z = c.clear_segment.ensures _ _ false refl c.in-58.is z
+returns-in-58 c = c.clear_segment.ensures _ _ false refl c.in-58.is
 
 pub returns-in-59 : goal.returns-in-59
-returns-in-59 c z = c.clear_segment-in-59.ensures _ _ true refl c.in-59.is z
+returns-in-59 c = c.clear_segment-in-59.ensures _ _ true refl c.in-59.is
 
 pub returns-in-69 : goal.returns-in-69
-returns-in-69 c z = c.edit_row.ensures _ _ c.in-69.is z
+returns-in-69 c = c.edit_row.ensures _ _ c.in-69.is
 
 pub returns-in-81 : goal.returns-in-81
-returns-in-81 c z = c.edit_cell.ensures _ c.in-81.is z
+returns-in-81 c = c.edit_cell.ensures _ c.in-81.is
 
 pub returns-in-82 : goal.returns-in-82
-returns-in-82 c z = c.edit_row-in-82.ensures _ _ c.in-82.is z
+returns-in-82 c = c.edit_row-in-82.ensures _ _ c.in-82.is
 
 pub returns-in-84 : goal.returns-in-84
-returns-in-84 c z = rw (c.clear.ensures, c.line_end.ensures) (clears_row true c.in-84.is)
+returns-in-84 c = rw (c.clear.ensures, c.line_end.ensures) (c.requires.1, clears_row true c.in-84.is)
 
 pub returns-in-87 : goal.returns-in-87
-returns-in-87 c z = c.edit_cell-in-87.ensures _ c.in-87.is z
+returns-in-87 c = c.edit_cell-in-87.ensures _ c.in-87.is
 
 pub returns-in-89 : goal.returns-in-89
-returns-in-89 c z = rw c.clear-in-89.ensures (clears_rest true c.in-89.is)
+returns-in-89 c = rw c.clear-in-89.ensures (c.requires.1, clears_rest true c.in-89.is)
 
 pub returns-in-106 : goal.returns-in-106
-returns-in-106 c z = rw c.in-106.is (c.reverse.ensures _ z)
+returns-in-106 c = rw c.in-106.is (c.reverse.ensures _)
 
 pub returns-in-116 : goal.returns-in-116
-returns-in-116 c z = rw (c.clear-in-116.ensures, c.line_end-in-116.ensures) (clears_row false c.in-116.is)
+returns-in-116 c = rw (c.clear-in-116.ensures, c.line_end-in-116.ensures) (c.requires.1, clears_row false c.in-116.is)
 
 pub returns-in-121 : goal.returns-in-121
-returns-in-121 c z = rw c.clear-in-121.ensures (clears_rest false c.in-121.is)
-
-pub returns-in_default : goal.returns-in_default
-returns-in_default c z = absurd (omega (arith, z, c.none.ensures))
+returns-in-121 c = rw c.clear-in-121.ensures (c.requires.1, clears_rest false c.in-121.is)

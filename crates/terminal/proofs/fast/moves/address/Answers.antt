@@ -3,28 +3,10 @@ use mathlib.Core.Path.{sym, ◌∙◌}
 use native.Mathlib.Omega.{arith}
 use Rattle.terminal.proofs.fast.moves.address.Goals as goal
 
-pub returns-then-input-i : goal.returns-then-input-i
-returns-then-input-i c z = absurd (omega (arith, z))
-
-pub returns-then-input-i-ne61 : goal.returns-then-input-i-ne61
-returns-then-input-i-ne61 c z = absurd (omega (arith, z))
-
-pub returns-then-row-lt32 : goal.returns-then-row-lt32
-returns-then-row-lt32 c z = absurd (omega (arith, z))
-
-pub returns-then-column-lt32 : goal.returns-then-column-lt32
-returns-then-column-lt32 c z = absurd (omega (arith, z))
-
-pub returns-then-column-gt111 : goal.returns-then-column-gt111
-returns-then-column-gt111 c z = absurd (omega (arith, z))
-
 pub cell_at-k-requires : goal.cell_at-k-requires
 cell_at-k-requires c =
     let f = c.requires.0 in
     (omega (arith, f.first, f.inside, f.size), (omega (arith, c.if-row-lt32.false), omega (arith, c.if-column-lt32.false)))
-
-pub returns-then-ground-k : goal.returns-then-ground-k
-returns-then-ground-k c z = absurd (omega (arith, z))
 
 pub is_guarded_at-requires : goal.is_guarded_at-requires
 is_guarded_at-requires c =
@@ -34,21 +16,21 @@ is_guarded_at-requires c =
       c.requires.0.inside,
     )
 
-pub returns-then-is_guarded_at : goal.returns-then-is_guarded_at
-returns-then-is_guarded_at c z = absurd (omega (arith, z))
-
 pub returns : goal.returns
-returns c z = (
-  omega arith,
+returns c = (
+  omega (arith, c.if-ground-k.false),
   (
-    record {
-      escape = c.requires.1.1;
-      equals = omega (arith, c.if-input-i-ne61.false);
-      row = omega (arith, c.if-row-lt32.false);
-      column = omega (arith, c.if-column-lt32.false);
-      most = omega (arith, c.if-column-gt111.false);
-      place = c.cell_at-k.ensures;
-    },
-    sym c.is_guarded_at.ensures ∙ c.if-is_guarded_at.false,
+    omega arith,
+    (
+      record {
+        escape = c.requires.1.1;
+        equals = omega (arith, c.if-input-i-ne61.false);
+        row = omega (arith, c.if-row-lt32.false);
+        column = omega (arith, c.if-column-lt32.false);
+        most = omega (arith, c.if-column-gt111.false);
+        place = c.cell_at-k.ensures;
+      },
+      sym c.is_guarded_at.ensures ∙ c.if-is_guarded_at.false,
+    ),
   ),
 )

@@ -23,25 +23,22 @@ overflow_add-result-in-31 c =
     )
 
 pub returns-in-8 : goal.returns-in-8
-returns-in-8 c p z = rw c.in-8.is (c.back.ensures p)
+returns-in-8 c p = rw c.in-8.is (c.back.ensures p)
 
 pub returns-in-10 : goal.returns-in-10
-returns-in-10 c p z = goes_down c.in-10.is (ap (λ (n : ℕ). c.args.at + n) c.columns-width.ensures)
+returns-in-10 c p = goes_down c.in-10.is (ap (λ (n : ℕ). c.args.at + n) c.columns-width.ensures)
 
 pub returns-in-11 : goal.returns-in-11
-returns-in-11 c p z = rw c.in-11.is (c.up.ensures p)
+returns-in-11 c p = rw c.in-11.is (c.up.ensures p)
 
 pub returns-in-12 : goal.returns-in-12
-returns-in-12 c p z = rw c.in-12.is (c.right.ensures p)
+returns-in-12 c p = rw c.in-12.is (c.right.ensures p)
 
 pub returns-in-13 : goal.returns-in-13
-returns-in-13 c p z = goes_return c.in-13.is c.line_start.ensures
+returns-in-13 c p = goes_return c.in-13.is c.line_start.ensures
 
 pub returns-in-30 : goal.returns-in-30
-returns-in-30 c p z = goes_home c.in-30.is refl
+returns-in-30 c p = goes_home c.in-30.is refl
 
 pub returns-in-31 : goal.returns-in-31
-returns-in-31 c p z = goes_line c.in-31.is (ap₂ (λ (m n : ℕ). m + n) c.line_start-in-31.ensures c.columns-width.ensures)
-
-pub returns-in_default : goal.returns-in_default
-returns-in_default c p z = absurd (omega (arith, z))
+returns-in-31 c p = goes_line c.in-31.is (ap₂ (λ (m n : ℕ). m + n) c.line_start-in-31.ensures c.columns-width.ensures)

@@ -11,18 +11,12 @@ goal-requires c =
     (p.1, (omega (arith, f.inside, f.size), (omega (arith, f.first, f.inside, f.size), f.row)))
 
 pub returns-then-b-ne9 : goal.returns-then-b-ne9
-returns-then-b-ne9 c z = c.goal.ensures _ z
-
-pub returns-then-not-ground : goal.returns-then-not-ground
-returns-then-not-ground c z = absurd (omega (arith, z))
-
-pub returns-then-at-ground : goal.returns-then-at-ground
-returns-then-at-ground c z = absurd (omega (arith, z))
+returns-then-b-ne9 c = c.goal.ensures _
 
 pub next_field-requires : goal.next_field-requires
 next_field-requires c = let p = c.requires in (omega (arith, c.if-at-ground.false), (p.1, p.0.inside))
 
 pub returns : goal.returns
-returns c z =
+returns c =
     goes_field (omega (arith, c.if-b-ne9.false)) (not-false _ c.if-not-ground.false)
     c.next_field.ensures

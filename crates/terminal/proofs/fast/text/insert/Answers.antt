@@ -1,8 +1,7 @@
 -- `terminal::fast::text::insert` meets its contract. The loop: the bytes from `from` up to i are inserted at the cells from `first` up to `at`.
-use Rattle.std.specs.Prelude.{ℕ, ◌*◌, ◌<◌, true}
-use mathlib.Core.Path.{refl, sym, ap, ◌∙◌}
+use Rattle.std.specs.Prelude.{◌<◌, true}
+use mathlib.Core.Path.{refl, sym, ◌∙◌}
 use native.Mathlib.Omega.{arith}
-use Rattle.rules.proofs.Rows.{columns_width}
 use Rattle.terminal.specs.FastPath.{none, acted, inserts}
 use Rattle.terminal.proofs.Along.{next, along}
 use Rattle.terminal.proofs.FastPaths.{fits_size, edited_page}
@@ -34,11 +33,7 @@ returns-then-is_guarded c = c.loop-i.invariant.1.1.1
 pub shift_edit_run-requires : goal.shift_edit_run-requires
 shift_edit_run-requires c =
     let l = c.loop-i in
-    let w = c.columns-width.ensures in
-    let p = c.requires in (
-      rw w (columns_width _),
-      (l.invariant.0 ∙ p.0.whole ∙ ap (λ (n : ℕ). 24 * n) (sym w), omega (arith, l.invariant.1.0, p.0.whole ∙ ap (λ (n : ℕ). 24 * n) (sym w))),
-    )
+    let p = c.requires in (l.invariant.0 ∙ p.0.whole, omega (arith, l.invariant.1.0, p.0.whole))
 
 pub overflow_add-at : goal.overflow_add-at
 overflow_add-at c = let p = c.requires in omega (arith, c.loop-i.invariant.1.0, p.0.size)
@@ -58,8 +53,7 @@ loop-i-preserved c =
     let k = next l.invariant.1.1.0 (tested) in
     let s = c.is_stored.ensures (c.if-not-is_stored.false) in
     let free = sym c.is_guarded.ensures ∙ c.if-is_guarded.false in
-    let e = edited_page c.args.ground l.page true l.at c.text_cell-v.result c.shift_edit_run.ensures
-    c.columns-width.ensures in (
+    let e = edited_page c.args.ground l.page true l.at c.text_cell-v.result c.shift_edit_run.ensures refl in (
       e.1 ∙ l.invariant.0,
       (
         omega (arith, k.0, p.0.inside),

@@ -1,9 +1,0 @@
--- `alert::guarded::is_kept` meets its contract.
-use Rattle.std.proofs.Common.{sym, refl, ◌∙◌}
-use Rattle.alert.proofs.guarded.is_kept.Goals as goal
-
-pub returns-then-is_guarded : goal.returns-then-is_guarded
-returns-then-is_guarded c = rw (sym c.is_guarded.ensures ∙ c.if-is_guarded.true) refl
-
-pub returns-else-is_guarded : goal.returns-else-is_guarded
-returns-else-is_guarded c = rw (sym c.is_guarded.ensures ∙ c.if-is_guarded.false) refl

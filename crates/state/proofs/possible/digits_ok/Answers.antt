@@ -1,9 +1,0 @@
--- `state::possible::digits_ok` meets its contract.
-use borrow.Author.Tests.{le-leb, lt-leb}
-use Rattle.state.proofs.possible.digits_ok.Goals as goal
-
-pub returns-then-most-n : goal.returns-then-most-n
-returns-then-most-n c = rw (lt-leb c.args.n c.args.most c.if-most-n.true)
-
-pub returns : goal.returns
-returns c = rw (c.power_of_ten.ensures, le-leb c.args.n c.args.most c.if-most-n.false)

@@ -1,9 +1,0 @@
--- `wy50::unpack::small` meets its contract.
-use borrow.Author.Tests.{lt-ltb, le-ltb}
-use Rattle.wy50.proofs.unpack.small.Goals as goal
-
-pub returns-then-n-lt256 : goal.returns-then-n-lt256
-returns-then-n-lt256 c = rw (lt-ltb _ _ c.if-n-lt256.true)
-
-pub returns : goal.returns
-returns c = rw (le-ltb _ _ c.if-n-lt256.false)
