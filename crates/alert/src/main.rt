@@ -19,6 +19,7 @@ ghost use Rattle.alert.specs.Watch.{Came};
 use options::Options;
 use print::{attributes, out, picture, report};
 use rules::State;
+use state::screen::cursor_of;
 use std::env::FillError;
 use std::fmt::InlineText;
 use std::io::{ErrorKind, Read};
@@ -89,7 +90,7 @@ fn show(
     let pending = core.pending;
     let refusals = p.refusals;
     report::heading(rt, name, p.bytes)?;
-    picture::show(rt, page, wide, protect, report::cursor_of(screen), setup)?;
+    picture::show(rt, page, wide, protect, cursor_of(screen), setup)?;
     report::place(rt, page, protect, screen)?;
     report::modes(rt, modes)?;
     attributes::remembered(rt, core.attribute)?;

@@ -36,6 +36,7 @@ struct Reading {
 }
 
 // The number that a word spells in decimal digits. No sign, as `parse` would take.
+// `replay_text` has the same: alert stands on no crate of the replay.
 fn number(word: &[u8]) -> Option<usize> {
     if word.is_empty() {
         return None;

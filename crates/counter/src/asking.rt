@@ -8,6 +8,7 @@ ghost use Rattle.terminal.specs.Promise.{RunDone};
 ghost use Rattle.counter.specs.Ask.{is_ready, question, lent, told_rule};
 
 use crate::{NoReply, Refusal, Size};
+use page::search::columns;
 use rules::{Answer, RunResult, Sending, State};
 use terminal::{is_idle, is_sending, run};
 
@@ -20,11 +21,10 @@ pub(crate) fn is_ready(state: State) -> bool
 }
 
 // Whether a page has the length of its width.
-#[tactic(auto, unfolding(rules::specs::Row::columns))]
 pub(crate) fn has_length(page: &[u16], wide: bool) -> bool
     ensures { result ≡ eqb (length page.now) (height * columns wide) }
 {
-    page.len() == if wide { 3168 } else { 1920 }
+    page.len() == 24 * columns(wide)
 }
 
 // Asks a terminal that is ready; of another it asks nothing and lends it no room.

@@ -155,6 +155,7 @@ fn put(room: &mut [u8], page: &[u16], from: usize, to: usize)
     requires { (from ≤ to) × ((to ≤ length page.now) × ((length page.now ≤ wide_cells) × (to - from ≤ length room.old))) }
     ensures { room.new ≡ over (map sent (slice from to page.now)) room.old }
 {
+    // By index: a proof knows nothing of the values that `iter_mut().zip(..)` leaves.
     for i in from..to {
         room[i - from] = sent_code(page[i]);
     }

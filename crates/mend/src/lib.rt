@@ -88,17 +88,14 @@ pub fn is_writable(personality: Personality, v: u16) -> bool
 }
 
 // How many cells are not writable.
+#[tactic(auto, using(crate::proofs::Mending::damaged_counted))]
 fn damaged_count(page: &[u16], personality: Personality) -> u16
     requires { length page.now ≤ wide_cells }
     ensures { result ≡ length (damaged personality 0 page.now) }
 {
-    let mut n: u16 = 0;
-    for v in page {
-        if !is_writable(personality, *v) {
-            n += 1;
-        }
-    }
-    n
+    page.iter()
+        .filter(|v| !is_writable(personality, **v))
+        .count() as u16
 }
 
 // The four numbers of an entry, from place `at` of the list on.
@@ -148,6 +145,7 @@ fn mend_cells(page: &mut [u16], list: &mut [u16], personality: Personality, wide
     ensures listed { list.new ≡ over (entries (columns wide) (damaged personality 0 page.old)) list.old }
 {
     let mut n = 0;
+    // By index: a proof knows nothing of the values that `iter_mut().enumerate()` leaves.
     for at in 0..page.len() {
         n = mend_cell(page, list, personality, wide, at, n);
     }

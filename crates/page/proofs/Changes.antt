@@ -10,6 +10,7 @@
 --     left_turn, left_filled                   the loop of a shift to the left: a turn, and the fill after it
 --     right_turn, right_filled                 to the right
 --     none_shifted                             where nothing moves
+--     last_count                               the counts of a shift
 --     none_or_some, edit_inside, whole_rows    what is lent to it: an edit run, the cells of whole rows
 --     column_step                              one row of a column
 -- Assumes nothing.
@@ -268,6 +269,9 @@ none_shifted right k v p h n =
     (λ i b. absurd (⊎_elim (λ e. omega arith) (λ e. omega arith) h))
 
 -- ---- the parts that move
+
+pub last_count : {k : ℕ} → (k ≡ 1) ⊎ Width k → (k ≡ 1 → ⊥) → (k ≡ 80 → ⊥) → k ≡ 132
+last_count h n m = ⊎_elim (λ e. absurd (n e)) (⊎_elim (λ e. absurd (m e)) (λ e. e)) h
 
 pub none_or_some : (n : ℕ) → (n ≡ 0) ⊎ (1 ≤ n)
 none_or_some zero = inl refl

@@ -1,7 +1,7 @@
 -- Laws of a send: what goes from a place on is what goes from the next, with the place's byte in the room.
 --     gone_one, gone_silent, gone_full, gone_none     one place that gives a byte or none, no room, and the end
 --     cell_open, cell_guarded                         ESC M
---     Copying                                         the loop over the bytes of a short reply
+--     Copying, part_copied, all_copied                the bytes of a short reply, some of them or all
 --     step_sent, step_first, step_silent              a cell of a row
 --     Putting, Skipping                               the loops over a stretch that is sent, and over one that is left out
 --     Rowing                                          the loop over a row, a stretch a turn
@@ -9,14 +9,16 @@
 -- Assumes nothing.
 use mathlib.Core.Path.{◌≡◌, refl, sym, ap, subst, ◌∙◌}
 use mathlib.Core.Bool.{Bool, true, false, false≢true}
-use mathlib.Core.List.{List, [], ◌∷◌}
+use mathlib.Core.List.{List, [], ◌∷◌, ◌++◌}
 use mathlib.Core.Logic.{⊎_elim}
-use Prim.Native.Nat.{ℕ, suc, ◌+◌, ◌-◌, ◌*◌, ◌/◌, ◌≤◌, ◌<◌}
+use Prim.Native.Nat.{ℕ, zero, suc, ◌+◌, ◌-◌, ◌*◌, ◌/◌, ◌≤◌, ◌<◌}
 use native.Mathlib.Numerals.{add-one}
+use native.Mathlib.Nat.{zero-add}
 use native.Mathlib.Omega.{arith}
 use lib.Dec.{eqb, ltb}
-use lib.ListN.{length, get_or, set, take, drop, length-set, drop_of_length-le}
-use lib.Seq.{drop-cons, take-nil}
+use lib.ListN.{length, get_or, set, take, drop, length-set, length-drop, drop_of_length-le}
+use lib.Seq.{drop-cons, take-nil, paste, get_or-drop}
+use Rattle.std.proofs.lemmas.List.Edits.{paste_none, paste_more}
 use borrow.Author.Tests.{eqb-false, eq-eqb, ne_eqb, lt-ltb, le-ltb, ltb-true, ltb-false}
 use Rattle.rules.specs.declared.Short.{Short}
 use Rattle.rules.specs.declared.Place.{Place}
@@ -82,7 +84,7 @@ cell_guarded on v w h = rw h (sym (gone_none 0 w))
 
 -- ---- the bytes of a short reply
 
--- the invariant: the byte i is the next, and n of them are in the room r; from the byte a on, none was in the room q
+-- the byte i is the next, and n of them are in the room r; from the byte a on, none was in the room q
 pub record Copying (x : Short) (bytes : List ℕ) (a : ℕ) (q : List ℕ) (i n : ℕ) (r : List ℕ) : Type 0 where
   pub most : i ≤ length bytes
   pub long : length r ≡ length q
@@ -112,6 +114,35 @@ module _ {x : Short} {bytes : List ℕ} {a : ℕ} {q : List ℕ} {i n : ℕ} {r 
   pub copy_end : length bytes ≤ i → stands r n Sending.Nothing ≡ gone (each x a (drop a bytes)) 0 q
   unfolding each
   copy_end h = sym (c.is ∙ gone_at n r (ap (each x i) (drop_of_length-le bytes h)) ∙ gone_none n r)
+
+-- m of the bytes are copied
+pub copied : (x : Short) (bytes : List ℕ) (a : ℕ) (q : List ℕ) (m : ℕ) → a + m ≤ length bytes → m ≤ length q
+    → Copying x bytes a q (a + m) m (paste q 0 (drop a bytes) m)
+copied x bytes a q zero h k =
+    let e : a + 0 ≡ a = omega arith in
+    rw (e, ← paste_none q 0 (drop a bytes)) (copy_begin (omega arith))
+copied x bytes a q (suc m) h k =
+    let e : a + m + 1 ≡ a + suc m = omega arith in
+    let z : m + 1 ≡ suc m = omega arith in
+    let c = copied x bytes a q m (omega arith) (omega arith) in
+    let p : set (paste q 0 (drop a bytes) m) m (get_or (drop a bytes) m 0) ≡ paste q 0 (drop a bytes) (suc m) =
+    ap (λ (k : ℕ). set (paste q 0 (drop a bytes) m) k (get_or (drop a bytes) m 0)) (sym (zero-add m))
+    ∙ paste_more q 0 (drop a bytes) m 0 (omega arith) (rw (length-drop a bytes) (omega arith))
+    ∙ ap (paste q 0 (drop a bytes)) z in
+    rw (e, z, ← get_or-drop a bytes m 0, p) at (copy_next c (omega arith) (λ f. omega (arith, f, c.long)))
+
+module _ (x : Short) (bytes : List ℕ) (a : ℕ) (q r : List ℕ) (m : ℕ) (e : r ≡ take m (drop a bytes)) where
+  front_is : r ++ drop m q ≡ paste q 0 (drop a bytes) m
+  front_is = rw (e, zero-add m) refl
+
+  pub part_copied : a + m < length bytes → m ≡ length q
+      → stands (r ++ drop m q) m (Sending.Short x (a + m)) ≡ gone (each x a (drop a bytes)) 0 q
+  part_copied h k =
+      let c = copied x bytes a q m (omega arith) (omega arith) in
+      rw front_is (copy_full c h (omega (arith, c.long)))
+
+  pub all_copied : a + m ≡ length bytes → m ≤ length q → stands (r ++ drop m q) m Sending.Nothing ≡ gone (each x a (drop a bytes)) 0 q
+  all_copied h k = rw front_is (copy_end (copied x bytes a q m (omega arith) k) (omega arith))
 
 -- ---- a cell of a row
 

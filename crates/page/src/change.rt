@@ -1,6 +1,6 @@
 // Changes of cells: fills, and the one shift, of cells and of rows.
 ghost use Rattle.std.specs.Prelude.{◌≡◌, true, false, ◌⊎◌, ◌+◌, ◌-◌, ◌*◌, ◌<◌, ◌≤◌, length};
-ghost use Rattle.rules.specs.Row.{columns};
+ghost use Rattle.rules.specs.Row.{Width, columns};
 ghost use Rattle.rules.specs.Cell.{space};
 ghost use Rattle.rules.specs.Change.{within, fill_cell, filled, shift_left, shift_right, shifted, edit_shifted, rows_shifted, column_filled};
 
@@ -114,8 +114,10 @@ fn shift_left(part: &mut [u16], count: usize, value: u16)
     ensures { part.new ≡ shift_left count value part.old }
 {
     let end = part.len() - count;
-    for i in 0..end {
+    let mut i = 0;
+    while i < end {
         part[i] = part[i + count];
+        i += 1;
     }
     put_cells(part, end, count, value);
 }
@@ -124,14 +126,16 @@ fn shift_right(part: &mut [u16], count: usize, value: u16)
     requires { count ≤ length part.old }
     ensures { part.new ≡ shift_right count value part.old }
 {
-    for i in (0..part.len() - count).rev() {
+    let mut i = part.len() - count;
+    while 0 < i {
+        i -= 1;
         part[i + count] = part[i];
     }
     put_cells(part, 0, count, value);
 }
 
-// The one shift, by a cell or by a row: every part that moves is lent to it. The part is empty, or has as many cells.
-fn shift(part: &mut [u16], right: bool, count: usize, value: u16)
+// The part is empty, or has as many cells.
+fn shift_by(part: &mut [u16], right: bool, count: usize, value: u16)
     requires { (length part.old ≡ 0) ⊎ (count ≤ length part.old) }
     ensures { part.new ≡ shifted right count value part.old }
 {
@@ -142,6 +146,20 @@ fn shift(part: &mut [u16], right: bool, count: usize, value: u16)
         shift_right(part, count, value);
     } else {
         shift_left(part, count, value);
+    }
+}
+
+// The one shift, by a cell or by a row: every part that moves is lent to it. Each count is a number that is known when the program is built, and the
+// loops are of this form, so that these become block moves: with `for`, by `copy_within`, or with the count from the caller, an insert takes two
+// fifths more instructions.
+fn shift(part: &mut [u16], right: bool, count: usize, value: u16)
+    requires { ((count ≡ 1) ⊎ Width count) × ((length part.old ≡ 0) ⊎ (count ≤ length part.old)) }
+    ensures { part.new ≡ shifted right count value part.old }
+{
+    match count {
+        1 => shift_by(part, right, 1, value),
+        80 => shift_by(part, right, 80, value),
+        _ => shift_by(part, right, 132, value),
     }
 }
 
@@ -167,7 +185,6 @@ pub fn shift_rows(page: &mut [u16], wide: bool, down: bool, top: usize, bottom: 
     ensures { page.new ≡ rows_shifted (columns wide) down top bottom page.old }
 {
     let part = &mut page[first_cell(wide, top)..first_cell(wide, bottom)];
-    // Each count is a number that is known when the program is built: these become block moves.
     if wide {
         shift(part, down, 132, SPACE);
     } else {

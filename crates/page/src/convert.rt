@@ -25,6 +25,7 @@ pub fn convert_page(page: &[u16], wide: bool, target: &mut [u16])
     requires { (length page.now ≡ 24 * columns wide) × (length target.old ≡ 24 * other_width wide) }
     ensures { target.new ≡ converted wide page.now }
 {
+    // By index: a proof knows nothing of the values that `iter_mut().enumerate()` leaves.
     for i in 0..target.len() {
         target[i] = cell_for(page, wide, i);
     }
@@ -45,6 +46,7 @@ pub fn loses_cells(page: &[u16], wide: bool) -> bool
     if !wide {
         return false;
     }
+    // No `any` over the same pairs: its proof did not close.
     for (i, v) in page.iter().enumerate() {
         if is_lost(*v, i) {
             return true;

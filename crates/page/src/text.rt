@@ -42,16 +42,14 @@ pub fn send_bytes(room: &mut [u8], bytes: &[u8], reply: Short, from: u8) -> Sent
     ensures { stands room.new result.replied result.left
         ≡ gone (each reply from (drop from bytes.now)) 0 room.old }
 {
-    let mut n = 0;
-    for i in from as usize..bytes.len() {
-        if n == room.len() {
-            return Sent {
-                replied: n,
-                left: Sending::Short(reply, i as u8),
-            };
-        }
-        room[n] = bytes[i];
-        n += 1;
+    let rest = &bytes[from as usize..];
+    let n = rest.len().min(room.len());
+    room[..n].copy_from_slice(&rest[..n]);
+    if n < rest.len() {
+        return Sent {
+            replied: n,
+            left: Sending::Short(reply, from + n as u8),
+        };
     }
     Sent {
         replied: n,
@@ -203,7 +201,7 @@ fn send_rows(
     let mut at = from;
     let mut after = follows_left_out(page, wide, all, from);
     let mut end = cut(at, to, row_end(wide, from) - from);
-    // The same for the rows.
+    // The room and the rows both run out, at their own pace: no one range to go over.
     while replied < room.len() {
         let row = send_row(room, replied, page, all, after, at, end);
         replied = row.n;

@@ -9,6 +9,7 @@ use native.Mathlib.Omega.{arith}
 use borrow.Author.Tests.{leb-true, eqb-true, eqb-false, ne_eqb, eq-eqb, le-leb, lt-leb}
 use Rattle.rules.specs.Cell.{both}
 use Rattle.rules.specs.Fields.{page_width}
+use Rattle.rules.specs.Row.{columns}
 use Rattle.rules.proofs.Tests.{both_parts}
 use Rattle.repaint.specs.declared.Span.{Span}
 use Rattle.repaint.specs.declared.Verdict.{Verdict}
@@ -19,6 +20,15 @@ use Rattle.repaint.specs.Pass.{pages_width, alike, equal, fits, turned, finished
 pub width_unlike : (a b : List ℕ) → (length a ≡ length b → ⊥) → 0 ≡ pages_width a b
 unfolding pages_width page_width
 width_unlike a b n = rw (ne_eqb (length a) (length b) n)
+
+pub some_columns : (wide : Bool) → columns wide ≡ 0 → ⊥
+unfolding columns
+some_columns true e = absurd (omega (arith, e))
+some_columns false e = absurd (omega (arith, e))
+
+pub width_alike : (a b : List ℕ) → length a ≡ length b → page_width (length a) ≡ pages_width a b
+unfolding pages_width
+width_alike a b e = rw (eq-eqb (length a) (length b) e)
 
 pub width_80 : (a b : List ℕ) → length a ≡ length b → length a ≡ 1920 → 80 ≡ pages_width a b
 unfolding pages_width page_width

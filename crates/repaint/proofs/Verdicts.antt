@@ -329,44 +329,61 @@ module _ (a b : List ℕ) (ss : List Span) where
       by (inl z) = SpansVerdict.wrong z.1
       by (inr p) = absurd (h (some_width a b ss p))
 
-  pub spans_lost : (next i : ℕ) → (pages_width a b ≡ 0 → ⊥) → i < length ss → passed a b next (drop i ss) ≡ passed a b 0 ss
-      → beyond ≡ turned a b next (span_at ss i) → SpansVerdict a b ss 3
-  spans_lost next i n l e t = by (widths a b)
+  pub spans_beyond : (pages_width a b ≡ 0 → ⊥) → passed a b 0 ss ≡ beyond → SpansVerdict a b ss 3
+  spans_beyond n k = by (widths a b)
     where
       by : ((pages_width a b ≡ 0) × ((w : ℕ) → Pages w a b → ⊥)) ⊎ Pages (pages_width a b) a b → SpansVerdict a b ss 3
       by (inl z) = absurd (n z.0)
       by (inr p) =
-          let k : passed a b 0 ss ≡ beyond = sym (pass_on a b ss next i beyond l e t) ∙ lost a b p (drop (i + 1) ss) in
           let q : equal a b (passed a b 0 ss) (length a) ≡ false = rw k (sym (same_beyond a b beyond (length a) (omega (arith, most a b p)))) in
           SpansVerdict.refused (pages_width a b) p (λ x. false≢true (sym q ∙ of_accepts a b p ss x))
 
--- ---- parallel lists
-pub spans_length : (rs cs ls : List ℕ) → length rs ≡ length cs → length rs ≡ length ls → length (spans_of rs cs ls) ≡ length rs
-spans_length [] cs ls e f = refl
-spans_length (r ∷ rs) [] ls e f = absurd (omega arith)
-spans_length (r ∷ rs) (c ∷ cs) [] e f = absurd (omega arith)
-spans_length (r ∷ rs) (c ∷ cs) (l ∷ ls) e f = ap suc (spans_length rs cs ls (omega arith) (omega arith))
+  pub beyond_stays : (pages_width a b ≡ 0 → ⊥) → passed a b beyond ss ≡ beyond
+  beyond_stays n = by (widths a b)
+    where
+      by : ((pages_width a b ≡ 0) × ((w : ℕ) → Pages w a b → ⊥)) ⊎ Pages (pages_width a b) a b → passed a b beyond ss ≡ beyond
+      by (inl z) = absurd (n z.0)
+      by (inr p) = lost a b p ss
 
-pub spans_at : (rs cs ls : List ℕ) (i : ℕ) → i < length rs → length rs ≡ length cs → length rs ≡ length ls
-    → record { row = get_or rs i 0; column = get_or cs i 0; size = get_or ls i 0 } ≡ span_at (spans_of rs cs ls) i
-spans_at [] cs ls i h e f = absurd (omega arith)
-spans_at (r ∷ rs) [] ls i h e f = absurd (omega arith)
-spans_at (r ∷ rs) (c ∷ cs) [] i h e f = absurd (omega arith)
-spans_at (r ∷ rs) (c ∷ cs) (l ∷ ls) zero h e f = refl
-spans_at (r ∷ rs) (c ∷ cs) (l ∷ ls) (suc i) h e f = spans_at rs cs ls i (omega arith) (omega arith) (omega arith)
+pub spans_lost : (a b : List ℕ) (ss : List Span) (next i : ℕ) → (pages_width a b ≡ 0 → ⊥) → i < length ss → passed a b next (drop i ss) ≡ passed a b 0 ss
+    → beyond ≡ turned a b next (span_at ss i) → SpansVerdict a b ss 3
+spans_lost a b ss next i n l e t =
+    spans_beyond a b ss n (sym (pass_on a b ss next i beyond l e t) ∙ beyond_stays a b (drop (i + 1) ss) n)
 
-module _ (a b rs cs ls : List ℕ) (next i : ℕ) (e : length rs ≡ length cs) (f : length rs ≡ length ls)
-    (inv : passed a b next (drop i (spans_of rs cs ls)) ≡ passed a b 0 (spans_of rs cs ls)) where
-  pub lists_step : i < length rs → (next' : ℕ) → next' ≡ turned a b next (record { row = get_or rs i 0; column = get_or cs i 0; size = get_or ls i 0 })
-      → passed a b next' (drop (i + 1) (spans_of rs cs ls)) ≡ passed a b 0 (spans_of rs cs ls)
-  lists_step l next' t = rw (t, spans_at rs cs ls i l e f, pass_step a b (spans_of rs cs ls) next i (omega (arith, spans_length rs cs ls e f))) inv
+-- ---- parallel lists, of which x, y and z are left
+pub record Left (a b rs cs ls : List ℕ) (next : ℕ) (x y z : List ℕ) : Type 0 where
+  pub columns : length x ≡ length y
+  pub lengths : length x ≡ length z
+  pub is : passed a b next (spans_of x y z) ≡ passed a b 0 (spans_of rs cs ls)
 
-  pub lists_verdict : length rs ≤ i → (r : Verdict) → r ≡ finished a b next → ListsVerdict a b rs cs ls (verdict_number r)
-  lists_verdict l r t = ListsVerdict.parallel e f (pass_verdict a b (spans_of rs cs ls) next i r (omega (arith, spans_length rs cs ls e f)) inv t)
+pub lists_whole : {a b rs cs ls x y z : List ℕ} → x ≡ rs → y ≡ cs → z ≡ ls → length rs ≡ length cs → length rs ≡ length ls → Left a b rs cs ls 0 x y z
+lists_whole e f g p q = rw (e, f, g) (record { columns = p; lengths = q; is = refl })
 
-  pub lists_lost : (pages_width a b ≡ 0 → ⊥) → i < length rs
-      → beyond ≡ turned a b next (record { row = get_or rs i 0; column = get_or cs i 0; size = get_or ls i 0 })
-      → ListsVerdict a b rs cs ls 3
-  lists_lost n l t =
-      ListsVerdict.parallel e f
-      (spans_lost a b (spans_of rs cs ls) next i n (omega (arith, spans_length rs cs ls e f)) inv (t ∙ ap (turned a b next) (spans_at rs cs ls i l e f)))
+module _ {a b rs cs ls : List ℕ} {next : ℕ} {x y z : List ℕ} (h : Left a b rs cs ls next x y z) where
+  module _ {r c l : ℕ} {x' y' z' : List ℕ} (e : x ≡ r ∷ x') (f : y ≡ c ∷ y') (g : z ≡ l ∷ z') where
+    begun : passed a b (turned a b next (record { row = r; column = c; size = l })) (spans_of x' y' z') ≡ passed a b 0 (spans_of rs cs ls)
+    unfolding passed
+    begun = sym (rw (e, f, g) refl) ∙ h.is
+
+    pub lists_step : {next' : ℕ} → next' ≡ turned a b next (record { row = r; column = c; size = l }) → Left a b rs cs ls next' x' y' z'
+    lists_step t = record {
+      columns = omega (arith, h.columns, ap length e, ap length f);
+      lengths = omega (arith, h.lengths, ap length e, ap length g);
+      is = rw t begun;
+    }
+
+    pub lists_lost : length rs ≡ length cs → length rs ≡ length ls → (pages_width a b ≡ 0 → ⊥)
+        → beyond ≡ turned a b next (record { row = r; column = c; size = l }) → ListsVerdict a b rs cs ls 3
+    lists_lost p q n t =
+        ListsVerdict.parallel p q (spans_beyond a b (spans_of rs cs ls) n (sym (lists_step t).is ∙ beyond_stays a b (spans_of x' y' z') n))
+
+  pub lists_verdict : length rs ≡ length cs → length rs ≡ length ls → length x ≡ 0 → (r : Verdict) → r ≡ finished a b next
+      → ListsVerdict a b rs cs ls (verdict_number r)
+  unfolding passed
+  lists_verdict p q n r t =
+      let e : next ≡ passed a b 0 (spans_of rs cs ls) = ended x n ∙ h.is in
+      ListsVerdict.parallel p q (rw (t, e) (verdict a b (spans_of rs cs ls)))
+    where
+      ended : (x : List ℕ) → length x ≡ 0 → next ≡ passed a b next (spans_of x y z)
+      ended [] k = refl
+      ended (s ∷ x) k = absurd (omega (arith, k))

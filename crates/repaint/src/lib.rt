@@ -11,6 +11,7 @@ ghost use Rattle.repaint.specs.Proposal.{refusal_number, told};
 ghost use Rattle.repaint.specs.Pass.{pages_width, equal, fits, beyond, turned, finished};
 
 pub use feeding::judge_bytes;
+use page::search::{columns, is_wide};
 pub use painter::propose;
 
 // Cells of one row: its row and its first column, counted from 1, and how many they are.
@@ -102,11 +103,8 @@ fn width_of(before: &[u16], after: &[u16]) -> Option<usize>
     if before.len() != after.len() {
         return None;
     }
-    match before.len() {
-        1920 => Some(80),
-        3168 => Some(132),
-        _ => None,
-    }
+    let wide = is_wide(before.len())?;
+    Some(columns(wide))
 }
 
 // The cells from `from` up to `to` are equal, and `from` is not beyond `to`.
@@ -176,11 +174,11 @@ pub fn judge_lists(
         return Verdict::WrongLength;
     };
     let mut next = 0;
-    for i in 0..rows.len() {
+    for ((row, column), size) in rows.iter().zip(columns).zip(lengths) {
         let s = Span {
-            row: rows[i],
-            column: columns[i],
-            size: lengths[i],
+            row: *row,
+            column: *column,
+            size: *size,
         };
         let Some(reached) = turn(before, after, width, next, s) else {
             return Verdict::NotAccepted;
@@ -190,7 +188,7 @@ pub fn judge_lists(
     finish(before, after, next)
 }
 
-// The same for a slice of spans.
+// The same for a slice of spans. Its loop is its own: one function over any iterator of spans would have to promise what that gives: no plainer.
 pub fn judge_spans(before: &[u16], after: &[u16], spans: &[Span]) -> Verdict
     ensures { SpansVerdict before.now after.now spans.now (verdict_number result) }
 {

@@ -62,7 +62,8 @@ fn past(at: usize, end: usize) -> usize
     if at < end { end } else { at + 1 }
 }
 
-// Bytes from the place `start` on; the place behind them.
+// Bytes from the place `start` on; the place behind them. The twin of saved's: the two promise definitions of their own, by `sets` here, by `stored`
+// there, and those keep their meaning.
 fn put(out: &mut [u8], start: usize, bytes: &[u8]) -> usize
     requires { start + length bytes.now ≤ length out.old }
     ensures { Put start bytes.now out.old result out.new }

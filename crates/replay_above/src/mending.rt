@@ -1,5 +1,5 @@
 // The line that mends the page.
-use replay_text::rooms::{is_list_untouched, split};
+use replay_text::rooms::{is_untouched, split};
 use replay_text::trace::Numbers;
 use rules::Personality;
 use std::io;
@@ -8,7 +8,7 @@ use std::io::Write;
 // The entries, and whether the list behind them is as it was.
 fn entries(to: &mut impl Write, list: &[u16], written: usize) -> io::Result<()> {
     let (entries, beyond) = split(list, written);
-    let kept = is_list_untouched(beyond) as u8;
+    let kept = is_untouched(beyond, 0xeeee) as u8;
     let entries = Numbers {
         list: entries,
         in_fours: true,

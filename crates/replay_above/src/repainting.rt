@@ -1,6 +1,6 @@
 // The lines that judge spans and bytes for the distant display, and propose them.
 use repaint::{Span, Verdict};
-use replay_text::rooms::{is_list_untouched, is_untouched, split};
+use replay_text::rooms::{is_untouched, split};
 use replay_text::trace::ByteString;
 use replay_text::words::number_as;
 use rules::Personality;
@@ -111,10 +111,10 @@ pub fn propose(
         columns,
         lengths,
     };
-    let kept = is_list_untouched(rows_beyond)
-        && is_list_untouched(columns_beyond)
-        && is_list_untouched(lengths_beyond)
-        && is_untouched(beyond);
+    let kept = is_untouched(rows_beyond, 0xeeee)
+        && is_untouched(columns_beyond, 0xeeee)
+        && is_untouched(lengths_beyond, 0xeeee)
+        && is_untouched(beyond, 0xee);
     write!(to, " answer={} spans={spans}", r.answer)?;
     write!(to, " bytes={} beyond={}", ByteString(bytes), kept as u8)
 }

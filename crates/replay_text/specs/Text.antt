@@ -1,8 +1,9 @@
 -- What the words of a line spell.
-use Rattle.std.specs.Prelude.{◌≡◌, ℕ, ◌+◌, ◌-◌, ◌*◌, Bool, true, false, ◌==◌, nat_le, nat_lt, Option, Some, None}
+use Rattle.std.specs.Prelude.{◌≡◌, ℕ, ◌+◌, ◌-◌, ◌*◌, Bool, true, false, ◌==◌, nat_le, nat_lt, Option, Some, None, option_and_then}
 use Rattle.std.specs.Prelude.{List, [], ◌∷◌, length, take, drop, count_by}
 use Rattle.std.specs.List.{position_or_len}
 use Rattle.rules.specs.Cell.{pick, both, between}
+use Rattle.rules.specs.declared.Personality.{Personality}
 
 -- where b first stands, or the length
 abbrev pub place : ℕ → List ℕ → ℕ
@@ -41,6 +42,16 @@ limit = 0x1000_0000_0000_0000
 
 abbrev pub number_of : List ℕ → Option ℕ
 number_of w = pick (both (nat_lt 0 (length w)) (both (are_digits w) (nat_lt (value 0 w) limit))) (Some (value 0 w)) None
+
+-- a number up to `most`; a flag, 0 or 1; a personality, 50 or 60
+abbrev pub at_most : ℕ → List ℕ → Option ℕ
+at_most most w = option_and_then (λ n. pick (nat_le n most) (Some n) None) (number_of w)
+
+abbrev pub flag_of : List ℕ → Option Bool
+flag_of w = option_and_then (λ n. pick (n == 0) (Some false) (pick (n == 1) (Some true) None)) (number_of w)
+
+abbrev pub personality_of : List ℕ → Option Personality
+personality_of w = option_and_then (λ n. pick (n == 50) (Some Personality.Wy50) (pick (n == 60) (Some Personality.Wy60) None)) (number_of w)
 
 -- a hexadecimal digit in lower case, or 16; the byte that two of them spell, or 256
 abbrev pub hex_digit : ℕ → ℕ

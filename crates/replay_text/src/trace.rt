@@ -114,7 +114,7 @@ pub struct Room<'a> {
 impl fmt::Display for Room<'_> {
     fn fmt<W: fmt::Write>(&self, f: &mut fmt::Formatter<W>) -> fmt::Result {
         let (used, beyond) = split(self.bytes, self.used);
-        let kept = is_untouched(beyond) as u8;
+        let kept = is_untouched(beyond, 0xee) as u8;
         write!(f, "{} beyond={kept}", ByteString(used))
     }
 }

@@ -1,7 +1,7 @@
 // A line's words, and the numbers and byte strings that they spell. Words are parted by one space.
-ghost use Rattle.std.specs.Prelude.{◌≡◌, ◌≤◌, ◌==◌, position, IfSome};
+ghost use Rattle.std.specs.Prelude.{◌≡◌, ◌≤◌, ◌==◌, position, IfSome, IfNone, IsSomeAnd, Ok, Err};
 ghost use Rattle.replay_text.specs.Text.{first_word, later_words, word_count, number_of, decimal_digit, hex_digit, hex_byte, below};
-ghost use Rattle.replay_text.specs.Text.{byte_of, is_hex, hex_bytes, is_string, Put};
+ghost use Rattle.replay_text.specs.Text.{byte_of, is_hex, hex_bytes, is_string, Put, at_most, flag_of, personality_of};
 
 use rules::Personality;
 
@@ -130,19 +130,24 @@ pub fn byte_string(word: &[u8], room: &mut [u8]) -> Option<usize>
 pub fn number_as<T: TryFrom<usize>>(word: &[u8]) -> Option<T>
 where
     T::Error: Drop,
+    ensures spelled { IfSome result (λ v. IsSomeAnd (number_of word.now) (λ n. T.try_from_gives n (Ok v))) }
+    ensures none { IfNone result (IfSome (number_of word.now) (λ n. (e : T.Error) × T.try_from_gives n (Err e))) }
 {
     T::try_from(number(word)?).ok()
 }
 
 // A number up to `most`, a flag, a personality.
 pub fn at_most(most: usize, word: &[u8]) -> Option<usize>
-    ensures { IfSome result (λ n. n ≤ most) }
+    ensures fits { IfSome result (λ n. n ≤ most) }
+    ensures number { result ≡ at_most most word.now }
 {
     let n = number(word)?;
     if n <= most { Some(n) } else { None }
 }
 
-pub fn flag(word: &[u8]) -> Option<bool> {
+pub fn flag(word: &[u8]) -> Option<bool>
+    ensures { result ≡ flag_of word.now }
+{
     match number(word)? {
         0 => Some(false),
         1 => Some(true),
@@ -150,7 +155,9 @@ pub fn flag(word: &[u8]) -> Option<bool> {
     }
 }
 
-pub fn personality(word: &[u8]) -> Option<Personality> {
+pub fn personality(word: &[u8]) -> Option<Personality>
+    ensures { result ≡ personality_of word.now }
+{
     match number(word)? {
         50 => Some(Personality::Wy50),
         60 => Some(Personality::Wy60),

@@ -8,8 +8,8 @@ use mathlib.Core.List.{List, [], ◌∷◌, ◌++◌, append-nil, append_assoc}
 use Prim.Native.Nat.{ℕ, suc, ◌+◌, ◌*◌, ◌<◌, ◌≤◌}
 use native.Mathlib.Numerals.{add-one}
 use native.Mathlib.Omega.{arith}
-use lib.ListN.{length, get_or, set, take, drop, drop_of_length-le, length-append, length-take}
-use lib.Seq.{drop-cons, drop-drop, get_or-take, sets}
+use lib.ListN.{length, get_or, set, take, drop, drop_of_length-le, length-append}
+use lib.Seq.{drop-cons, drop-drop, sets}
 use borrow.Rule.Slice.PartMut.{put_mid}
 use Rattle.std.proofs.lemmas.List.Edits.{sets-eq}
 use borrow.Author.Tests.{lt-ltb, le-ltb}
@@ -123,28 +123,8 @@ unfolding stop_bytes
 stop_none k n w e = rw e (put_none n w)
 
 -- the loop goes over the first 80
-abbrev pub Stopping : List Bool → ℕ → List ℕ → ℕ → ℕ → List ℕ → Type 0
-Stopping tabs start w₀ i n w = Putting stop_bytes (take 80 tabs) start w₀ i n w
-
 abbrev pub stop_piece : ℕ → Bool → List ℕ
 stop_piece k t = stop_bytes k (t ∷ [])
-
-module _ (tabs : List Bool) (e : length tabs ≡ 132) {start : ℕ} {w₀ : List ℕ} {i n : ℕ} {w : List ℕ} (p : Stopping tabs start w₀ i n w) where
-  eighty : length (take 80 tabs) ≡ 80
-  eighty = omega (arith, length-take 80 tabs)
-
-  pub stop_fits : i < 80 → start + length (stop_bytes 0 (take 80 tabs)) ≤ length w₀ → n + length (stop_bytes i (get_or tabs i false ∷ [])) ≤ length w
-  stop_fits h k =
-      rw (get_or-take 80 tabs i false h) at (fits stop_bytes stop_piece stops_none stops_more false p (omega (arith, eighty)) k)
-
-  pub stop_go : {r : ℕ} {v : List ℕ} → i < 80 → Put n (stop_bytes i (get_or tabs i false ∷ [])) w r v → length v ≡ length w
-      → Stopping tabs start w₀ (i + 1) r v
-  stop_go {r} {v} h q z =
-      let y : Put n (stop_bytes i (get_or (take 80 tabs) i false ∷ [])) w r v = rw (get_or-take 80 tabs i false h) q in
-      go stop_bytes stop_piece stops_none stops_more false p (omega (arith, eighty)) y z
-
-  pub stop_finish : 80 ≤ i → Put start (stop_bytes 0 (take 80 tabs)) w₀ n w
-  stop_finish h = finish stop_bytes stop_piece stops_none stops_more false p (omega (arith, eighty))
 
 -- ---- texts
 

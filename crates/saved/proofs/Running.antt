@@ -7,8 +7,8 @@ use Prim.Native.Nat.{ℕ, zero, suc, ◌+◌, ◌-◌, ◌*◌, ◌<◌, ◌≤�
 use native.Mathlib.Numerals.{add-one}
 use native.Mathlib.Omega.{arith}
 use lib.Dec.{leb, ltb, eqb}
-use lib.ListN.{length, get_or, take, drop, set, replicate, length-drop, drop_of_length-le, length-replicate}
-use lib.Seq.{take-add, drop-cons, drop-drop, take_all, take_at}
+use lib.ListN.{length-append, length, get_or, take, drop, set, replicate, length-drop, drop_of_length-le, length-replicate}
+use lib.Seq.{take-append_seam, drop-append_seam, take-add, drop-cons, drop-drop, take_all, take_at}
 use borrow.Rule.Slice.PartMut.{put_mid}
 use borrow.Author.Tests.{eq-eqb, ne_eqb, lt-ltb, le-ltb, le-leb, lt-leb, leb-true, eqb-true}
 use Rattle.std.specs.Prelude.{Result, Ok, Err, nat_eq, ◌&&◌}
@@ -145,30 +145,55 @@ pub store_length : (store : List ℕ) → is_store store ≡ true → length sto
 unfolding is_store
 store_length store e = eqb-true (length store) store_size (both_parts (eqb (length store) store_size) _ e).0
 
--- the loop over the places
-pub record Judging (store : List ℕ) (n k : ℕ) : Type 0 where
+-- the loop over the places, of which j are left
+pub record Judging (store : List ℕ) (n k : ℕ) (rest : List ℕ) : Type 0 where
   pub size : length store ≡ 8714
   pub number : n ≡ last_number store
-  pub range : k ≤ 8
-  pub is : places_ok n k (drop k (places store)) ≡ places_ok n 0 (places store)
+  pub left : ℕ
+  pub range : k + left ≡ 8
+  pub long : length rest ≡ 1089 * left
+  pub is : places_ok n k (cut left rest) ≡ places_ok n 0 (places store)
 
-module _ (store : List ℕ) (n k : ℕ) (j : Judging store n k) where
-  store_ok_lem : places_ok n k (drop k (places store)) ≡ is_store store
-  store_ok_lem = j.is ∙ (ap (λ (i : ℕ). places_ok i 0 (places store)) j.number ∙ sym (store_like store j.size))
+cut_more : (j : ℕ) (p rest' : List ℕ) {rest : List ℕ} → rest ≡ p ++ rest' → length p ≡ place_size → cut (suc j) rest ≡ p ∷ cut j rest'
+unfolding cut
+cut_more j p rest' {rest} e f =
+    let t : take place_size (p ++ rest') ≡ p = rw (← f) (take-append_seam p rest') in
+    let d : drop place_size (p ++ rest') ≡ rest' = rw (← f) (drop-append_seam p rest') in
+    rw (e, t, d)
 
-  pub store_false : k < 8 → pick (ltb k n) (is_place (get_or (places store) k [])) (all_zero (get_or (places store) k [])) ≡ false → false ≡ is_store store
-  store_false h e = sym (used_apart n k (places store) (omega (arith, cut_length 8 (drop 2 store))) e) ∙ store_ok_lem
+module _ {store : List ℕ} {n k : ℕ} {rest : List ℕ} (h : Judging store n k rest) where
+  judged : places_ok n k (cut h.left rest) ≡ is_store store
+  judged = h.is ∙ (ap (λ (i : ℕ). places_ok i 0 (places store)) h.number ∙ sym (store_like store h.size))
 
-  pub store_again : k < 8 → pick (ltb k n) (is_place (get_or (places store) k [])) (all_zero (get_or (places store) k [])) ≡ true → Judging store n (k + 1)
-  store_again h e = record {
-    size = j.size;
-    number = j.number;
-    range = omega arith;
-    is = used_next n k (places store) (omega (arith, cut_length 8 (drop 2 store))) e ∙ j.is;
-  }
+  module _ (p rest' : List ℕ) (e : rest ≡ p ++ rest') (f : length p ≡ 1089) where
+    more : (j : ℕ) → h.left ≡ suc j → places_ok n k (cut h.left rest) ≡ both (pick (ltb k n) (is_place p) (all_zero p)) (places_ok n (suc k) (cut j rest'))
+    unfolding places_ok
+    more j g = rw (g, cut_more j p rest' e f)
 
-  pub store_true : 8 ≤ k → true ≡ is_store store
-  store_true h = sym (used_end n k (places store) (omega (arith, cut_length 8 (drop 2 store)))) ∙ store_ok_lem
+    pub store_false : (i : ℕ) → i ≡ k → 0 < length rest → pick (ltb i n) (is_place p) (all_zero p) ≡ false → false ≡ is_store store
+    store_false i c l q = let t = ap (λ (z : ℕ). pick (ltb z n) (is_place p) (all_zero p)) (sym c) ∙ q in let g : h.left ≡ suc (h.left - 1) = omega (arith, h.long, l) in sym (more (h.left - 1) g ∙ rw t) ∙ judged
+
+    pub store_again : (i m : ℕ) → i ≡ k → m ≡ k + 1 → 0 < length rest → pick (ltb i n) (is_place p) (all_zero p) ≡ true → Judging store n m rest'
+    store_again i m c d l q =
+        let t = ap (λ (z : ℕ). pick (ltb z n) (is_place p) (all_zero p)) (sym c) ∙ q in
+        let g : h.left ≡ suc (h.left - 1) = omega (arith, h.long, l) in
+        let s : m ≡ suc k = omega (arith, d) in
+        record {
+          size = h.size;
+          number = h.number;
+          left = h.left - 1;
+          range = omega (arith, h.range, g, d);
+          long = omega (arith, h.long, g, ap length e, length-append p rest', f);
+          is = rw s (sym (more (h.left - 1) g ∙ rw t)) ∙ h.is;
+        }
+
+  pub store_true : length rest ≡ 0 → true ≡ is_store store
+  unfolding places_ok cut
+  store_true l = let g : h.left ≡ 0 = omega (arith, h.long, l) in sym (rw g refl) ∙ judged
+
+pub store_begun : {store rest : List ℕ} {n k : ℕ} → length store ≡ 8714 → n ≡ last_number store → k ≡ 0 → rest ≡ drop 2 store → Judging store n k rest
+store_begun {store} a b c d =
+    rw (c, d) (record { size = a; number = b; left = 8; range = refl; long = omega (arith, length-drop 2 store, a); is = refl })
 
 -- the place of a number that can be restored
 module _ (store : List ℕ) (n : ℕ) (e : is_store store ≡ true) (h : restorable (last_number store) n ≡ true) where

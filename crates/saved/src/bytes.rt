@@ -33,8 +33,8 @@ fn put_stops(out: &mut [u8], start: usize, tabs: [bool; 132]) -> usize
     ensures { Put start (stop_bytes 0 (take 80 tabs)) out.old result out.new }
 {
     let mut n = start;
-    for i in 0..80 {
-        n = put_stop(out, n, tabs[i], i as u8);
+    for (i, stop) in tabs[..80].iter().enumerate() {
+        n = put_stop(out, n, *stop, i as u8);
     }
     n
 }

@@ -39,14 +39,8 @@ fn is_place(p: &[u8]) -> bool
     ensures { result ≡ is_place p.now }
 {
     let n = two_at(p, 0) as usize;
-    if n > 1087 {
-        return false;
-    }
     let end = 2 + n;
-    if !all_zero(&p[end..]) {
-        return false;
-    }
-    is_setup(&p[2..end])
+    n <= 1087 && all_zero(&p[end..]) && is_setup(&p[2..end])
 }
 
 fn is_used(p: &[u8], used: bool) -> bool
@@ -64,10 +58,8 @@ pub(crate) fn is_store(store: &[u8]) -> bool
         return false;
     }
     let n = two_at(store, 0) as usize;
-    for k in 0..8 {
-        let at = 2 + 1089 * k;
-        let end = at + 1089;
-        if !is_used(&store[at..end], k < n) {
+    for (k, place) in store[2..].chunks(1089).enumerate() {
+        if !is_used(place, k < n) {
             return false;
         }
     }

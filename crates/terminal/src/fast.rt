@@ -191,10 +191,11 @@ fn still(core: Core, from: usize) -> Passed
     }
 }
 
+// The twin of plan's, whose moves no other crate calls.
 fn scrolls(m: Modes) -> bool
     ensures { result ≡ scrolls_of m }
 {
-    if m.autoscroll { !m.protect } else { false }
+    m.autoscroll && !m.protect
 }
 
 fn ground_of(core: Core) -> Ground

@@ -116,6 +116,7 @@ fn sending_at(x: RawSending) -> Option<Sending>
     (raw_sending(y) == x).then_some(y)
 }
 
+// No `TryFrom` here, nor for a flag: neither `Personality` nor `bool` is of this crate.
 pub(crate) fn personality_at(v: u8) -> Option<Personality>
     ensures { result ≡ then_some (is_personality v) (personality_at v) }
 {

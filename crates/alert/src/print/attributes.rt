@@ -55,6 +55,7 @@ fn run(rt: &impl Print, row: u64, first: u64, last: u64, a: u8) -> io::Result<()
 fn row(rt: &impl Print, cells: &[u16], r: u64) -> io::Result<()>
     requires { length cells.now ≤ 132 }
 {
+    // no `for`: a turn passes over a run of cells
     let mut i = 0;
     while i < cells.len() {
         let e = run_end(cells, i);

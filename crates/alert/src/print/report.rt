@@ -1,11 +1,9 @@
 // What is told beside the page: the cursor, the modes, the guarded cells, what was refused, and the replies.
-ghost use Rattle.std.specs.Prelude.{◌≡◌, ◌≤◌, length};
-ghost use Rattle.rules.specs.State.{cursor_of};
-
 use crate::print::out;
 use crate::stream::{Played, Refusals};
 use page::cell::is_guarded;
 use rules::{Modes, Pending, Screen};
+use state::screen::cursor_of;
 use state::width::{column_of, row_of};
 use std::io;
 
@@ -14,16 +12,6 @@ pub fn heading(rt: &impl Print, name: &str, bytes: u64) -> io::Result<()> {
     out::text(rt, b": ")?;
     out::count(rt, bytes, "byte")?;
     out::text(rt, b" from the host\n\n")
-}
-
-// The active cursor, a cell of the page.
-pub fn cursor_of(screen: Screen) -> u16
-    ensures { result ≡ cursor_of screen }
-{
-    if screen.active == 0 {
-        return screen.cursor0;
-    }
-    screen.cursor1
 }
 
 fn split(rt: &impl Print, screen: Screen) -> io::Result<()> {

@@ -23,28 +23,16 @@ pub(crate) fn address(page: &[u16], ground: Ground, input: &[u8], i: usize) -> O
     ensures { IfSome result (λ k. (k < ground.end)
         × ((i + 4 ≤ length input.now) × (Addressed ground input.now i k × OpenAt ground page.now k))) }
 {
-    if input.len() <= i + 3 {
-        return None;
-    }
-    if input[i + 1] != 0x3d {
+    if input.len() <= i + 3 || input[i + 1] != 0x3d {
         return None;
     }
     let row = input[i + 2];
     let column = input[i + 3];
-    if row < 0x20 {
-        return None;
-    }
-    if column < 0x20 {
-        return None;
-    }
-    if 0x6f < column {
+    if row < 0x20 || column < 0x20 || 0x6f < column {
         return None;
     }
     let k = cell_at(ground, row, column);
-    if ground.end <= k {
-        return None;
-    }
-    if is_guarded_at(page, ground.protect, k) {
+    if ground.end <= k || is_guarded_at(page, ground.protect, k) {
         return None;
     }
     Some(k)
@@ -63,24 +51,12 @@ pub(crate) fn is_outside(ground: Ground, input: &[u8], i: usize, stop: bool) -> 
     requires { (ground.top ≤ ground.bottom) × ((ground.bottom ≤ height) × ((i < length input.now) × (slice_index input.now i ≡ 0x1b))) }
     ensures { result ≡ true → (stop ≡ false) × ((i + 4 ≤ length input.now) × Outside ground input.now i) }
 {
-    if stop {
-        return false;
-    }
-    if input.len() <= i + 3 {
-        return false;
-    }
-    if input[i + 1] != 0x3d {
-        return false;
-    }
-    let row = input[i + 2];
-    let column = input[i + 3];
-    if 128 <= row {
-        return false;
-    }
-    if 128 <= column {
-        return false;
-    }
-    !is_addressed(ground, row, column)
+    !stop
+        && i + 3 < input.len()
+        && input[i + 1] == 0x3d
+        && input[i + 2] < 128
+        && input[i + 3] < 128
+        && !is_addressed(ground, input[i + 2], input[i + 3])
 }
 
 // The first cell of a cell's row.
@@ -150,10 +126,7 @@ fn goal_on(page: &[u16], ground: Ground, at: usize, b: u8) -> Option<usize>
     if b != 0x09 {
         return goal(ground, at, b);
     }
-    if !ground.protect {
-        return None;
-    }
-    if at < ground.home {
+    if !ground.protect || at < ground.home {
         return None;
     }
     Some(next_field(page, true, ground.home, ground.end, at))
@@ -164,13 +137,8 @@ pub(crate) fn open_goal(page: &[u16], ground: Ground, at: usize, b: u8) -> Optio
     requires { Fits ground page.now × (at < ground.end) }
     ensures { IfSome result (λ k. (k < ground.end) × (Goes ground page.now at b k × OpenAt ground page.now k)) }
 {
-    let Some(k) = goal_on(page, ground, at, b) else {
-        return None;
-    };
-    if ground.end <= k {
-        return None;
-    }
-    if is_guarded_at(page, ground.protect, k) {
+    let k = goal_on(page, ground, at, b)?;
+    if ground.end <= k || is_guarded_at(page, ground.protect, k) {
         return None;
     }
     Some(k)

@@ -12,16 +12,10 @@ fn is_stored(page: &[u16], ground: Ground, at: usize, b: u8) -> bool
     requires { Fits ground page.now × (at + 1 < ground.end) }
     ensures { result ≡ true → Stored ground page.now at b }
 {
-    if b < 0x20 {
-        return false;
-    }
-    if 0x7e < b {
-        return false;
-    }
-    if is_guarded_at(page, ground.protect, at) {
-        return false;
-    }
-    !is_guarded_at(page, ground.protect, at + 1)
+    0x20 <= b
+        && b <= 0x7e
+        && !is_guarded_at(page, ground.protect, at)
+        && !is_guarded_at(page, ground.protect, at + 1)
 }
 
 // The number of a text cell.
@@ -44,7 +38,8 @@ fn stop(first: usize, end: usize, from: usize, len: usize) -> usize
     len
 }
 
-// Text is stored from the cursor `first` on.
+// Text is stored from the cursor `first` on. Here and below a place and a byte move along together, and both are given back: a `for` would count
+// one of them, and the other would still be counted by hand.
 fn store(page: &mut [u16], ground: Ground, first: usize, input: &[u8], from: usize) -> Reached
     requires { Fits ground page.old × ((first < ground.end) × ((from ≤ length input.now) × (ground.insert ≡ false))) }
     ensures { Passes ground input.now first from page.old result.at result.taken page.new 0 }

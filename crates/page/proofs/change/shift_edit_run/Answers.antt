@@ -1,4 +1,6 @@
 -- `page::change::shift_edit_run` meets its contract.
+use mathlib.Core.Path.{refl}
+use mathlib.Core.Logic.{inl}
 use native.Mathlib.Omega.{arith}
 use Rattle.rules.specs.Change.{shifted, edit_shifted}
 use Rattle.rules.proofs.Rows.{columns_width, page_small}
@@ -32,7 +34,7 @@ slice_bounds-shift-end c =
 
 pub shift-requires : goal.shift-requires
 unfolding edit_shifted
-shift-requires c = none_or_some _
+shift-requires c = (inl refl, none_or_some _)
 
 pub returns : goal.returns
 unfolding edit_shifted

@@ -9,3 +9,7 @@ use Rattle.page.proofs.change.shift_left.Given as goal
 abbrev pub invariant-loop-i : goal.invariant-loop-i
 invariant-loop-i l =
     (l.end ≡ length l.initial.part - l.count) × ((l.i ≤ l.end) × Joined l.i (shift_left l.count l.value l.initial.part) l.initial.part l.part)
+
+abbrev pub decreases-loop-i : goal.decreases-loop-i
+decreases-loop-i l =
+    l.end - l.i

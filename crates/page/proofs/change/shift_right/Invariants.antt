@@ -8,3 +8,7 @@ use Rattle.page.proofs.change.shift_right.Given as goal
 abbrev pub invariant-loop-i : goal.invariant-loop-i
 invariant-loop-i l =
     (l.i ≤ length l.initial.part - l.count) × Joined (l.i + l.count) l.initial.part (shift_right l.count l.value l.initial.part) l.part
+
+abbrev pub decreases-loop-i : goal.decreases-loop-i
+decreases-loop-i l =
+    l.i

@@ -1,7 +1,8 @@
 -- `saved::bytes::put_stops` meets its contract.
-use Rattle.saved.proofs.Puts.{Stopping}
+use Rattle.saved.specs.SetupBytes.{stop_bytes}
+use Rattle.saved.proofs.Puts.{Putting}
 use Rattle.saved.proofs.bytes.put_stops.Given as goal
 
 abbrev pub invariant-loop-i : goal.invariant-loop-i
 invariant-loop-i l =
-    Stopping l.tabs l.start l.initial.out l.i l.n l.out
+    Putting stop_bytes l.stop-items l.start l.initial.out l.i l.n l.out

@@ -1,13 +1,9 @@
 -- `saved::store::is_store` meets its contract.
-use mathlib.Core.Path.{refl, sym, ap, ◌∙◌}
-use mathlib.Core.List.{List}
-use Prim.Native.Nat.{ℕ, ◌+◌, ◌-◌, ◌*◌}
+use mathlib.Core.Path.{◌≡◌, sym, ap, ◌∙◌}
+use lib.ListN.{length, drop, length-drop}
+use lib.Seq.{take_all}
 use native.Mathlib.Omega.{arith}
-use lib.Dec.{ltb}
-use lib.ListN.{drop, length-take, length-drop}
-use Rattle.rules.specs.Cell.{pick}
-use Rattle.saved.specs.Store.{all_zero, is_place}
-use Rattle.saved.proofs.Running.{store_unlike, place_part, store_false, store_again, store_true}
+use Rattle.saved.proofs.Running.{store_unlike, store_begun, store_false, store_again, store_true}
 use Rattle.saved.proofs.store.is_store.Goals as goal
 
 pub returns-then-store-ne8714 : goal.returns-then-store-ne8714
@@ -17,46 +13,34 @@ pub two_at-n-requires : goal.two_at-n-requires
 two_at-n-requires c = omega (arith, c.if-store-ne8714.false)
 
 pub loop-k-init : goal.loop-k-init
-loop-k-init c = record { size = c.if-store-ne8714.false; number = c.two_at-n.ensures; range = omega arith; is = refl }
-
-pub slice_bounds-is_used-end : goal.slice_bounds-is_used-end
-slice_bounds-is_used-end c = omega (arith, c.loop-k.invariant, c.loop-k-test.true)
+loop-k-init c =
+    let i = c.into_iter-k-iterator.ensures.into_iter_gives in
+    let z = c.enumerate-k-items.ensures in
+    let r = c.chunks.ensures in
+    let store = c.args.store.now in (
+      store_begun c.if-store-ne8714.false c.two_at-n.ensures (ap (λ s. s.count) i ∙ z.count)
+          (ap (λ s. s.iter.rest.now) i ∙ (ap (λ s. s.rest.now) z.source ∙ (r.rest ∙ take_all _ (drop 2 store) (omega (arith, length-drop 2 store))))),
+      ap (λ s. s.iter.size) i ∙ (ap (λ s. s.size) z.source ∙ r.size),
+    )
 
 pub is_used-requires : goal.is_used-requires
-is_used-requires c =
-    let at = 2 + 1089 * c.loop-k.k in
-    omega (
-      arith,
-      length-take (at + 1089 - at) (drop at c.args.store.now),
-      length-drop at
-          c.args.store.now,
-      c.loop-k.invariant,
-      c.loop-k-test.true,
-    )
+is_used-requires c = let s = c.in-Some.ensures.steps in let h = c.loop-k.invariant.0 in omega (arith, s.0.1.1, s.0.1.2, c.loop-k.invariant.1, h.long)
 
 pub returns-then-not-is_used : goal.returns-then-not-is_used
 returns-then-not-is_used c =
-    let store = c.args.store.now in
-    let l = c.loop-k in
-    let p = place_part store l.k (2 + 1089 * l.k) (2 + 1089 * l.k + 1089 - (2 + 1089 * l.k)) c.loop-k-test.true refl
-    (omega arith) in
-    let u = sym (c.is_used.ensures
-    ∙ ap (λ (z : List ℕ). pick (ltb l.k c.two_at-n.result) (is_place z) (all_zero z)) p)
-    ∙ c.if-not-is_used.true in
-    store_false store c.two_at-n.result l.k l.invariant c.loop-k-test.true u
+    let s = c.in-Some.ensures.steps in
+    let h = c.loop-k.invariant.0 in
+    let f : length c.in-Some.place.now ≡ 1089 = omega (arith, s.0.1.1, s.0.1.2, c.loop-k.invariant.1, h.long) in
+    store_false h c.in-Some.place.now _ s.0.1.0 f _ s.1 s.0.1.2 (sym c.is_used.ensures ∙ c.if-not-is_used.true)
 
 pub loop-k-preserved : goal.loop-k-preserved
 loop-k-preserved c =
-    let store = c.args.store.now in
-    let l = c.loop-k in
-    let p = place_part store l.k (2 + 1089 * l.k) (2 + 1089 * l.k + 1089 - (2 + 1089 * l.k)) c.loop-k-test.true refl
-    (omega arith) in
-    let u = sym (c.is_used.ensures
-    ∙ ap (λ (z : List ℕ). pick (ltb l.k c.two_at-n.result) (is_place z) (all_zero z)) p)
-    ∙ c.if-not-is_used.false in
-    store_again store c.two_at-n.result l.k l.invariant c.loop-k-test.true u
+    let s = c.in-Some.ensures.steps in
+    let h = c.loop-k.invariant.0 in
+    let f : length c.in-Some.place.now ≡ 1089 = omega (arith, s.0.1.1, s.0.1.2, c.loop-k.invariant.1, h.long) in (
+      store_again h c.in-Some.place.now _ s.0.1.0 f _ _ s.1 s.2 s.0.1.2 (sym c.is_used.ensures ∙ c.if-not-is_used.false),
+      s.0.0 ∙ c.loop-k.invariant.1,
+    )
 
 pub returns : goal.returns
-returns c =
-    let l = c.loop-k in store_true c.args.store.now c.two_at-n.result
-    l.k l.invariant c.loop-k-test.false
+returns c = let s = c.in-None.ensures.steps in store_true c.loop-k.invariant.0 (omega (arith, s))

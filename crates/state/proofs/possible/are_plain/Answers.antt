@@ -6,10 +6,10 @@ use Rattle.state.proofs.Plain.{begin, go, at, finish}
 use Rattle.state.proofs.possible.are_plain.Goals as goal
 
 pub loop-i-init : goal.loop-i-init
-loop-i-init c = begin _
+loop-i-init c = (begin _, omega arith)
 
 pub loop-j-init : goal.loop-j-init
-loop-j-init c = (at _ _ _ _ (omega arith) c.loop-i.invariant, omega arith)
+loop-j-init c = (at _ _ _ _ (omega arith) c.loop-i.invariant.0, omega arith)
 
 pub loop-j-preserved : goal.loop-j-preserved
 loop-j-preserved c =
@@ -19,7 +19,7 @@ loop-j-preserved c =
     (at _ _ _ _ (omega arith) (go _ y.plain _ n (search rules) c.is_plain-plain.ensures y.invariant.0), search rules)
 
 pub loop-i-preserved : goal.loop-i-preserved
-loop-i-preserved c = at _ _ _ _ (omega (arith, c.loop-j.invariant.1, c.loop-j-test.false)) c.loop-j.invariant.0
+loop-i-preserved c = (at _ _ _ _ (omega (arith, c.loop-j.invariant.1, c.loop-j-test.false)) c.loop-j.invariant.0, omega arith)
 
 pub returns : goal.returns
-returns c = finish _ _ (8 * c.loop-i.i) c.loop-i.invariant (search rules)
+returns c = finish _ _ (8 * c.loop-i.i) c.loop-i.invariant.0 (search rules)

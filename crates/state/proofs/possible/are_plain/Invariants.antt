@@ -1,5 +1,5 @@
 -- `state::possible::are_plain` meets its contract. The loops: if the first 8 i and j keys are plain, those behind them decide.
-use Rattle.std.specs.Prelude.{◌+◌, ◌-◌, ◌*◌, ◌≤◌}
+use Rattle.std.specs.Prelude.{◌+◌, ◌*◌, ◌≤◌}
 use Rattle.state.proofs.Plain.{Plain}
 use Rattle.state.proofs.possible.are_plain.Given as goal
 
@@ -7,14 +7,6 @@ abbrev pub invariant-loop-j : goal.invariant-loop-j
 invariant-loop-j l =
     Plain l.keys l.plain (8 * l.i + l.j) × (l.j ≤ 8)
 
-abbrev pub decreases-loop-j : goal.decreases-loop-j
-decreases-loop-j l =
-    8 - l.j
-
 abbrev pub invariant-loop-i : goal.invariant-loop-i
 invariant-loop-i l =
-    Plain l.keys l.plain (8 * l.i)
-
-abbrev pub decreases-loop-i : goal.decreases-loop-i
-decreases-loop-i l =
-    4 - l.i
+    Plain l.keys l.plain (8 * l.i) × (l.i ≤ 4)

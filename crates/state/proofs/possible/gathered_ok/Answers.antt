@@ -11,9 +11,9 @@ pub returns-then-slot_most-n : goal.returns-then-slot_most-n
 unfolding text_ok
 returns-then-slot_most-n c = rw (← c.slot_most.ensures, lt-leb c.args.n c.slot_most.result c.if-slot_most-n.true)
 
-pub text_ok-requires : goal.text_ok-requires
+pub all_text-requires : goal.all_text-requires
 unfolding text_ok
-text_ok-requires c =
+all_text-requires c =
     let e : length c.args.gathered ≡ 46 = search rules in
     omega (
       arith,
@@ -30,6 +30,6 @@ returns c =
       ← c.slot_most.ensures,
       le-leb c.args.n
           c.slot_most.result c.if-slot_most-n.false,
-      c.text_ok.ensures,
+      c.all_text.ensures,
       c.slot_low.ensures,
     )

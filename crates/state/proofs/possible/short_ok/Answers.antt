@@ -10,12 +10,12 @@ pub returns-then-t-gt8 : goal.returns-then-t-gt8
 unfolding text_ok
 returns-then-t-gt8 c = rw (lt-leb c.args.t.len 8 c.if-t-gt8.true)
 
-pub text_ok-requires : goal.text_ok-requires
+pub all_text-requires : goal.all_text-requires
 unfolding text_ok
-text_ok-requires c =
+all_text-requires c =
     let e : length c.args.t.bytes ≡ 8 = search rules in
     omega (arith, e, c.if-t-gt8.false)
 
 pub returns : goal.returns
 unfolding text_ok
-returns c = rw (c.text_ok.ensures, le-leb c.args.t.len 8 c.if-t-gt8.false)
+returns c = rw (c.all_text.ensures, le-leb c.args.t.len 8 c.if-t-gt8.false)

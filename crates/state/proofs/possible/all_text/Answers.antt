@@ -1,4 +1,4 @@
--- `state::possible::text_ok` meets its contract.
+-- `state::possible::all_text` meets its contract.
 use Rattle.std.specs.Prelude.{◌≡◌, ◌<◌, ◌≤◌, length}
 use mathlib.Core.Path.{sym, ◌∙◌}
 use native.Mathlib.Omega.{arith}
@@ -6,7 +6,7 @@ use native.Mathlib.Numerals.{add-one}
 use lib.Seq.{slice-cons, slice_empty}
 use Rattle.rules.specs.Slot.{all_text}
 use borrow.Author.Rules.{rules}
-use Rattle.state.proofs.possible.text_ok.Goals as goal
+use Rattle.state.proofs.possible.all_text.Goals as goal
 
 pub returns-then-not-is_text : goal.returns-then-not-is_text
 unfolding all_text
