@@ -3,7 +3,7 @@
 --     guards_take, guards_drop, guards_part     which cells of a part are guarded
 --     row_fits                             a row's cells lie in the page
 --     all_counted, row_counted, list_all   the loop that counts rows
---     equal_same                           the test of two lists
+--     equal_same, same_length              the test of two lists
 --     listed, listed_length, beside_is     a list that is there is the page's
 -- Assumes nothing.
 use mathlib.Core.Path.{◌≡◌, refl, sym, ap, subst, ◌∙◌}
@@ -24,7 +24,7 @@ use Rattle.rules.specs.Row.{columns}
 use Rattle.rules.specs.Search.{guarded_at, which_cells}
 use Rattle.rules.specs.RowList.{open_count, first_column, row_numbers, row_list, Beside}
 use Rattle.page.specs.RowList.{row_at, RowAt, AllBut}
-use Rattle.rules.proofs.RowSteps.{length_list}
+use Rattle.rules.proofs.RowSteps.{same_is, length_list}
 
 -- ---- the numbers of a row
 
@@ -153,6 +153,13 @@ equal_same (x ∷ k) (y ∷ l) = by (eqb x y) _ _ (equal_same k l)
     by : (t a b : Bool) → a ≡ b → (t && a) ≡ both t b
     by true a b e = e
     by false a b e = refl
+
+pub same_length : (k l : List ℕ) → (length k ≡ length l → ⊥) → false ≡ same k l
+same_length k l n = by (same k l) refl
+  where
+    by : (t : Bool) → same k l ≡ t → false ≡ t
+    by true e = absurd (n (ap length (same_is k l e)))
+    by false e = refl
 
 -- ---- what is kept beside a page
 

@@ -77,6 +77,10 @@ pub fn is_row_list(rows: &[u16], page: &[u16], wide: bool, protect: bool) -> boo
     requires { length page.now ≡ 24 * columns wide }
     ensures { result ≡ same_list rows.now (row_list (columns wide) (guarded_at protect page.now)) }
 {
+    // A list of another length is refused before the page is counted.
+    if rows.len() != 48 {
+        return false;
+    }
     let mut right: [u16; 48] = [0; 48];
     rebuild(&mut right, page, wide, protect);
     rows == right.as_slice()
