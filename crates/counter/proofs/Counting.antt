@@ -1,5 +1,5 @@
 -- Laws of the answers of a count.
---     no_return, some_byte, in_range     what the first tests say
+--     in_range     what a test says
 --     no_return_is, bad_first_is, bad_last_is, counted_is     each answer, in numbers
 --     one_count     the statement of specs/Count
 --     pieces_none, pieces_some     how many pieces

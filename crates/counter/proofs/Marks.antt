@@ -1,5 +1,5 @@
 -- Where the pieces of a text stand.
---     marks_count, marks_steps                  how many marks
+--     marks_on, marks_end, mark_small, bit_is   the loop that counts marks
 --     past_steps                                the loop that looks for a piece
 --     pieces_length                             one piece more than marks
 --     past_none, past_some, past_most, past_less     how places lie
@@ -13,13 +13,10 @@ use native.Mathlib.Nat.{zero-add}
 use native.Mathlib.Numerals.{add-one}
 use native.Mathlib.Omega.{arith}
 use lib.Dec.{eqb}
+use mir.Val.{bool_byte}
 use lib.ListN.{length, get_or, take, drop, drop_of_length-le}
 use lib.Seq.{take-nil, drop-nil, drop-cons, get_or-drop}
 use borrow.Author.Tests.{ne_eqb, eqb-true, eqb-false}
-use Rattle.std.specs.List.{count_by}
-use Rattle.std.proofs.Common.{cond}
-use Rattle.std.proofs.lemmas.List.Recursion.{is_count_by}
-use Rattle.std.proofs.lemmas.List.Sums.{count_by-le-length}
 use Rattle.rules.specs.Cell.{pick}
 use Rattle.counter.specs.Pieces.{is_mark, onto, cut_at_marks, joined}
 use Rattle.counter.specs.Walk.{cuts, remaining, marks_in, past}
@@ -31,18 +28,21 @@ mark_small false = omega arith
 
 -- ---- loops
 
-mark_more : (t : Bool) (n : ℕ) → pick t 1 0 + n ≡ cond t (1 + n) n
-mark_more true n = refl
-mark_more false n = zero-add n
+-- what the code adds for a byte
+pub bit_is : (t : Bool) → bool_byte t ≡ pick t 1 0
+bit_is true = refl
+bit_is false = refl
 
-pub marks_count : (l : List ℕ) → marks_in l ≡ count_by is_mark l
-unfolding marks_in
-marks_count l = is_count_by marks_in is_mark refl (λ b l. mark_more (is_mark b) (marks_in l)) l
+module _ (l : List ℕ) (i : ℕ) where
+  pub marks_on : i < length l → marks_in (drop i l) ≡ pick (is_mark (get_or l i 0)) 1 0 + marks_in (drop (i + 1) l)
+  unfolding marks_in
+  marks_on h = rw (drop-cons l i 0 h, add-one)
 
-pub marks_few : (l : List ℕ) → marks_in l ≤ length l
-marks_few l = omega (arith, marks_count l, count_by-le-length is_mark l)
+  pub marks_end : length l ≤ i → marks_in (drop i l) ≡ 0
+  unfolding marks_in
+  marks_end h = rw (drop_of_length-le l h)
 
-pub ruleset marks_steps = (marks_count, marks_few)
+pub ruleset marks_steps = (mark_small, bit_is, marks_on, marks_end)
 
 module _ (l : List ℕ) (i n : ℕ) where
   pub past_on : 0 < n → i < length l → past n (drop i l) ≡ suc (past (n - pick (is_mark (get_or l i 0)) 1 0) (drop (i + 1) l))

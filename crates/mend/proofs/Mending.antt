@@ -1,20 +1,19 @@
 -- Laws of a page that is mended cell by cell.
 --     damaged_next, entries_append, entries_size     the cells that are not writable, and their entries, four numbers each
---     damaged_counted, count_none, count_next        how many they are, of all cells and up to a place
+--     count_none, count_next, count_all              how many they are, of all cells and up to a place
 --     cell_stays, cell_changes                       one cell
 --     going_begins, going_next, going_done           the loop that mends the page and lists them
 -- Assumes nothing.
 use mathlib.Core.Path.{◌≡◌, refl, sym, ap, ◌∙◌}
-use mathlib.Core.Bool.{Bool, true, false, not, cond}
+use mathlib.Core.Bool.{Bool, true, false, not}
 use mathlib.Core.List.{List, [], ◌∷◌, ◌++◌, map-append, append_assoc, append-nil}
 use Prim.Native.Nat.{ℕ, suc, ◌+◌, ◌*◌, ◌≤◌, ◌<◌}
 use native.Mathlib.Nat.{zero-add, add-zero, le_of_suc-le-suc, not-suc-le-zero}
 use native.Mathlib.Numerals.{add-one}
 use native.Mathlib.Omega.{arith}
+use mir.Val.{bool_byte}
 use lib.ListN.{length, get_or, set, take, drop, length-append, length-map, length-drop, take-append-drop, drop_of_length-le}
 use lib.Seq.{sets, take-suc, drop-cons, take_all, set_at, set-get_or, get_or_at, append_snoc, length-take-le}
-use Rattle.std.specs.List.{count_by}
-use Rattle.std.proofs.lemmas.List.Recursion.{is_count_by}
 use Rattle.rules.specs.declared.Personality.{Personality}
 use Rattle.rules.specs.Cell.{pick, null}
 use Rattle.rules.specs.Row.{row_of, column_of}
@@ -73,24 +72,14 @@ one_damaged m at v e = rw e
 
 -- ---- how many they are
 
-one_counted : (t : Bool) (r : List (ℕ × ℕ)) (c : ℕ × ℕ) (n : ℕ) → length r ≡ n → length (pick t r (c ∷ r)) ≡ cond (not t) (1 + n) n
-one_counted true r c n e = e
-one_counted false r c n e = omega (arith, e)
+-- what a cell adds to the count
+pub bit_most : (t : Bool) → bool_byte t ≤ 1
+bit_most true = omega arith
+bit_most false = omega arith
 
--- wherever they are
-as_many : (m : Personality) (p : List ℕ) (a b : ℕ) → length (damaged m a p) ≡ length (damaged m b p)
-unfolding damaged
-as_many m [] a b = refl
-as_many m (v ∷ p) a b =
-    let n = length (damaged m (suc b) p) in
-    one_counted (writable m v) (damaged m (suc a) p) (a, v) n (as_many m p (suc a) (suc b))
-    ∙ sym (one_counted (writable m v) (damaged m (suc b) p) (b, v) n refl)
-
-pub damaged_counted : (m : Personality) (p : List ℕ) → length (damaged m 0 p) ≡ count_by (λ v. not (writable m v)) p
-unfolding damaged
-damaged_counted m p =
-    is_count_by (λ l. length (damaged m 0 l)) (λ v. not (writable m v)) refl
-    (λ v l. one_counted (writable m v) (damaged m 1 l) (0, v) (length (damaged m 0 l)) (as_many m l 1 0)) p
+pub bit_added : (t : Bool) (n : ℕ) → n + bool_byte (not t) ≡ pick t n (n + 1)
+bit_added true n = add-zero n
+bit_added false n = refl
 
 pub count_none : (m : Personality) (p : List ℕ) → 0 ≡ length (damaged m 0 (take 0 p))
 unfolding damaged
@@ -108,6 +97,9 @@ module _ (m : Personality) (p : List ℕ) (i : ℕ) {n : ℕ} (e : n ≡ length 
       → n' ≡ length (damaged m 0 (take (i + 1) p))
   unfolding damaged
   count_next h f g = g ∙ rw (f, e, damaged_next m p i h) (one_more (writable m (get_or p i 0)) (damaged m 0 (take i p)) (i, get_or p i 0))
+
+pub count_all : (m : Personality) (p : List ℕ) (i : ℕ) {n : ℕ} → n ≡ length (damaged m 0 (take i p)) → length p ≤ i → n ≡ length (damaged m 0 p)
+count_all m p i e h = rw (take_all i p h) at e
 
 -- ---- their entries
 
