@@ -197,7 +197,10 @@ pub fn convert(
     Ok(r.ok())
 }
 
-// All cells.
+// All cells; of a page that has none, nothing stands where a row list has `-`.
 pub fn show(to: &mut impl Write, page: &[u16]) -> io::Result<()> {
+    if page.is_empty() {
+        return write!(to, " cells=");
+    }
     write!(to, " cells={}", plain(page))
 }
