@@ -24,30 +24,32 @@ fn screen(to: &mut impl Write, s: &Screen) -> io::Result<()> {
     )
 }
 
+// Flags as the bits of a number, the first the highest; of more than 64 the last 64.
+fn bits(flags: &[bool]) -> u64 {
+    flags.iter().fold(0, |n, b| n << 1 | u64::from(*b))
+}
+
 fn modes(to: &mut impl Write, m: &Modes) -> io::Result<()> {
-    write!(to, " modes=")?;
-    for b in [
+    let modes = bits(&[
         m.protect,
         m.writeprotect,
         m.insert,
         m.autoscroll,
         m.locked,
         m.local,
-    ] {
-        write!(to, "{}", b as u8)?;
-    }
-    Ok(())
+    ]);
+    write!(to, " modes={modes:06b}")
 }
 
 fn set_up(to: &mut impl Write, u: &Setup) -> io::Result<()> {
-    write!(to, " tabs={}", Tabs(&u.tabs))?;
     write!(
         to,
-        " attributes={} features={}",
+        " tabs={} attributes={} features={} keys={}",
+        Tabs(&u.tabs),
         Hex(&u.attributes),
-        Hex(&u.features)
-    )?;
-    write!(to, " keys={}", ShortTexts(&u.keys))
+        Hex(&u.features),
+        ShortTexts(&u.keys)
+    )
 }
 
 // The bells, and the sequence.
@@ -62,10 +64,10 @@ fn under_way(to: &mut impl Write, s: &State) -> io::Result<()> {
 
 // The host message, the labels, and whether the shifted line is on.
 fn texts(to: &mut impl Write, u: &Setup) -> io::Result<()> {
-    write!(to, " message={}", Message(&u.message))?;
     write!(
         to,
-        " labels={} shifted={}",
+        " message={} labels={} shifted={}",
+        Message(&u.message),
         ShortTexts(&u.labels),
         u.shifted as u8
     )
@@ -98,12 +100,10 @@ struct Tabs<'a>(&'a [bool; 132]);
 impl fmt::Display for Tabs<'_> {
     fn fmt<W: fmt::Write>(&self, f: &mut fmt::Formatter<W>) -> fmt::Result {
         let stops = self.0;
-        for four in stops.chunks_exact(4) {
-            let high = four[0] as u8 * 2 + four[1] as u8;
-            let low = four[2] as u8 * 2 + four[3] as u8;
-            write!(f, "{:x}", high * 4 + low)?;
-        }
-        Ok(())
+        let first = bits(&stops[..64]);
+        let second = bits(&stops[64..128]);
+        let last = bits(&stops[128..]);
+        write!(f, "{first:016x}{second:016x}{last:x}")
     }
 }
 

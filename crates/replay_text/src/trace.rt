@@ -1,8 +1,9 @@
 // The output through a buffer, and what is written to it.
-ghost use Rattle.std.specs.Prelude.{◌≡◌, ◌≤◌, None, OnErr};
+ghost use Rattle.std.specs.Prelude.{◌≡◌, ◌+◌, ◌≤◌, ◌++◌, length, take, None, OnErr, OnOk, IsOk};
 ghost use Rattle.std.specs.Io.{WritesAtMost};
-ghost use Rattle.std.specs.Io.KnownBytes.{Keeps, WriteAppends};
+ghost use Rattle.std.specs.Io.KnownBytes.{Appends, Keeps, WriteAppends};
 
+use crate::buffered::Buffered;
 use crate::rooms::{is_untouched, split};
 use std::io::Write;
 use std::{fmt, io};
@@ -26,6 +27,30 @@ impl<'a, P: Print> Trace<'a, P> {
             at: 0,
         }
     }
+
+    // Takes bytes that there is room for.
+    fn put(&mut self, bytes: &[u8])
+        requires { self.old.at + length bytes.now ≤ 65536 }
+        ensures at { self.new.at ≡ self.old.at + length bytes.now }
+        ensures held { take self.new.at self.new.out ≡ take self.old.at self.old.out ++ bytes.now }
+    {
+        let end = self.at + bytes.len();
+        self.out[self.at..end].copy_from_slice(bytes);
+        self.at = end;
+    }
+
+    // Takes bytes that there is no room for: a full buffer is written out before more is put.
+    #[cold]
+    #[inline(never)]
+    fn put_in_parts(&mut self, bytes: &[u8]) -> io::Result<()> {
+        let (front, behind) = split(bytes, SIZE - self.at);
+        self.put(front);
+        for part in behind.chunks(SIZE) {
+            self.flush()?;
+            self.put(part);
+        }
+        Ok(())
+    }
 }
 
 impl<P: Print> Write for Trace<'_, P> {
@@ -38,18 +63,30 @@ impl<P: Print> Write for Trace<'_, P> {
             self.flush()?;
         }
         let n = buf.len().min(SIZE - self.at);
-        self.out[self.at..self.at + n].copy_from_slice(&buf[..n]);
-        self.at += n;
+        self.put(&buf[..n]);
         Ok(n)
     }
 
     fn flush(&mut self) -> io::Result<()>
         ensures bytes { Keeps None None }
+        ensures emptied { OnOk result (self.new.at ≡ 0) }
         ensures kept { OnErr result (self.new ≡ self.old) }
     {
         self.to.write_all(&self.out[..self.at])?;
         self.at = 0;
         Ok(())
+    }
+
+    fn write_all(&mut self, buf: &[u8]) -> io::Result<()>
+        ensures bytes { OnOk result (Appends None None buf.now) }
+        ensures fits { self.old.at + length buf.now ≤ 65536 → IsOk result }
+        ensures held { self.old.at + length buf.now ≤ 65536 → take self.new.at self.new.out ≡ take self.old.at self.old.out ++ buf.now }
+    {
+        if buf.len() <= SIZE - self.at {
+            self.put(buf);
+            return Ok(());
+        }
+        self.put_in_parts(buf)
     }
 }
 
@@ -59,10 +96,11 @@ pub struct Hex<'a>(pub &'a [u8]);
 
 impl fmt::Display for Hex<'_> {
     fn fmt<W: fmt::Write>(&self, f: &mut fmt::Formatter<W>) -> fmt::Result {
+        let mut digits = Buffered::new(f);
         for b in self.0 {
-            write!(f, "{b:02x}")?;
+            digits.hex(*b)?;
         }
-        Ok(())
+        digits.flush()
     }
 }
 
@@ -75,7 +113,7 @@ impl fmt::Display for ByteString<'_> {
         if self.0.is_empty() {
             return write!(f, "-");
         }
-        write!(f, "{}", Hex(self.0))
+        fmt::Display::fmt(&Hex(self.0), f)
     }
 }
 
@@ -91,16 +129,18 @@ impl fmt::Display for Numbers<'_> {
         let Some((first, others)) = self.list.split_first() else {
             return write!(f, "-");
         };
-        write!(f, "{first}")?;
+        let mut text = Buffered::new(f);
+        text.decimal(*first)?;
         for (i, n) in others.iter().enumerate() {
             let parting = if self.in_fours && i % 4 != 3 {
-                ':'
+                b':'
             } else {
-                ','
+                b','
             };
-            write!(f, "{parting}{n}")?;
+            text.byte(parting)?;
+            text.decimal(*n)?;
         }
-        Ok(())
+        text.flush()
     }
 }
 
