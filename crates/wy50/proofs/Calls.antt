@@ -2,15 +2,20 @@
 --     powered_on, stepped, completed, sent     the terminal's, in numbers, of a bad page or state too: the numbers of a state that is left are left
 --     cursor_none, cursor_is     the place of the cursor
 --     power_on_refused     a number that is no personality
+--     named_bells     a bell count that is named is below 256
+--     good_step, good_run     a good page and state answer no 7
 --     nothing_done, step_refused, run_refused, press_refused     numbers that name no state
 -- Assumes nothing.
 use mathlib.Core.Path.{◌≡◌, refl, sym, ap, ap₂, ◌∙◌}
 use mathlib.Core.Bool.{Bool, true, false}
 use Rattle.std.specs.Prelude.{Ok, Err}
-use mathlib.Core.List.{List, []}
-use Prim.Native.Nat.{ℕ}
+use mathlib.Core.List.{List, [], ◌∷◌}
+use Prim.Native.Nat.{ℕ, ◌-◌, ◌<◌}
 use native.Mathlib.Omega.{arith}
+use borrow.Author.Tests.{ltb-true}
+use lib.Dec.{ltb, eqb}
 use lib.ListN.{length}
+use Rattle.rules.specs.declared.Core.{Core}
 use Rattle.rules.specs.declared.State.{State}
 use Rattle.rules.specs.declared.PowerOn.{PowerOn}
 use Rattle.rules.specs.declared.Position.{Position}
@@ -18,19 +23,23 @@ use Rattle.rules.specs.declared.Personality.{Personality}
 use Rattle.rules.specs.declared.StepResult.{StepResult}
 use Rattle.rules.specs.declared.RunResult.{RunResult}
 use Rattle.rules.specs.declared.Answer.{Answer}
-use Rattle.rules.specs.Cell.{pick}
+use Rattle.rules.specs.Cell.{pick, both}
 use Rattle.rules.specs.Room.{over}
-use Rattle.rules.specs.State.{number, page_length, cursor_of}
-use Rattle.rules.specs.Step.{Outcome, unheard, step_rule}
+use Rattle.rules.specs.State.{number, sends, page_length, cursor_of}
+use Rattle.rules.specs.Step.{Outcome, unheard, goes_on, step_inside, step_rule}
 use Rattle.rules.specs.Possible.{power_on, good}
 use Rattle.rules.specs.Fields.{position_rule}
-use Rattle.rules.specs.Calls.{Ran, ended, power_on_rule, run_rule, press_rule}
-use Rattle.rules.proofs.Tests.{pick_if}
+use Rattle.rules.specs.Carry.{Effect}
+use Rattle.rules.specs.Calls.{Ran, ended, joined, repeated, behind, run_inside, power_on_rule, run_rule, press_rule}
+use Rattle.rules.proofs.Tests.{pick_if, between_parts}
+use Rattle.rules.proofs.Kept.{possible_parts, good_parts}
+use Rattle.rules.proofs.Left.{Ended, ends, clears, keeps, inner_ends}
+use Rattle.state.proofs.Tests.{both_left, both_right}
 use Rattle.terminal.specs.Promise as terminal
 use Rattle.wy50.specs.declared.raw.RawState.{RawState}
 use Rattle.wy50.specs.declared.raw.RawStep.{RawStep}
 use Rattle.wy50.specs.declared.raw.RawRun.{RawRun}
-use Rattle.wy50.specs.Raw.{flag, is_personality, personality_at}
+use Rattle.wy50.specs.Raw.{all_below, flag, is_personality, personality_at, are_flags, is_sequence, is_sending}
 use Rattle.wy50.specs.Raw.{packed, unpacked, named}
 use Rattle.wy50.specs.Promise.{raw_good, raw_possible, raw_cursor, fresh_numbers, raw_power_on, raw_step, raw_ran, bad_run, raw_run, raw_press, PoweredOn}
 use Rattle.wy50.specs.Promise.{RawOutcome, RawRan, raw, bad_step, step_numbers, run_numbers, Stepped, RunDone, Sent}
@@ -39,6 +48,50 @@ use Rattle.wy50.proofs.RoundTrip.{packed_unpacked}
 pub not_good : (t : Bool) → (t ≡ true → ⊥) → t ≡ false
 not_good true h = absurd (h refl)
 not_good false h = refl
+
+pub named_bells : (x : RawState) → named x ≡ true → x.bells < 256
+unfolding named
+named_bells x h =
+    let r = both (is_sequence x.sequence)
+    (both (is_sending x.sending)
+    (both (all_below 2 x.tabs)
+    (both (both (ltb x.shifted 2) (both (ltb x.wish 2) (ltb x.screen.wide 2))) (is_personality x.personality)))) in
+    ltb-true x.bells 256 (both_left (ltb x.bells 256) r (both_right (are_flags x.modes) (both (ltb x.bells 256) r) h))
+
+-- ---- a good page and state answer no 7
+
+ended_seven : {p : List ℕ} {c : Core} {e : Effect} → Ended p c e → e.answer ≡ 7 → ⊥
+ended_seven (ends a) h = omega (arith, a, h)
+ended_seven (clears m a) h = omega (arith, between_parts 2 4 m a, h)
+ended_seven (keeps m a l) h = omega (arith, l.0, h)
+
+pub good_step : (p : List ℕ) (s : State) (b room : ℕ) → good p s ≡ true → (step_rule p s b room).answer ≡ 7 → ⊥
+unfolding step_rule step_inside goes_on
+good_step p s b room g e =
+    pick_if (λ (o : Outcome). o.answer ≡ 7 → ⊥) (sends s.sending)
+    (λ u. pick_if (λ (o : Outcome). o.answer ≡ 7 → ⊥) (eqb room 0) (λ t z. omega (arith, z)) (λ t z. omega (arith, z)))
+    (λ u. ended_seven (inner_ends p s.core s.setup.tabs s.gathered room b (possible_parts s (good_parts p s g).1).core.pending))
+    (rw g at e)
+
+repeated_seven : (bytes p : List ℕ) (s : State) (room : ℕ) → (repeated bytes p s room).answer ≡ 7 → ⊥
+unfolding repeated joined
+repeated_seven [] p s room e = omega (arith, e)
+repeated_seven (b ∷ bytes) p s room z =
+    pick_if (λ (r : Ran). r.answer ≡ 7 → ⊥) (sends s.sending) (λ u e. omega (arith, e))
+    (λ u. pick_if (λ (r : Ran). r.answer ≡ 7 → ⊥) (eqb (step_rule p s b room).answer 6) (λ t e. omega (arith, e))
+    (λ t. repeated_seven bytes (step_rule p s b room).page (step_rule p s b room).state (room - length (step_rule p s b room).reply))) z
+
+inside_seven : (p : List ℕ) (s : State) (l : List ℕ) (room : ℕ) → (run_inside p s l room).answer ≡ 7 → ⊥
+unfolding run_inside behind
+inside_seven p s l room z =
+    pick_if (λ (r : Ran). r.answer ≡ 7 → ⊥) (eqb room 0)
+    (λ t. pick_if (λ (n : ℕ). n ≡ 7 → ⊥) (eqb (length l) 0) (λ u e. omega (arith, e)) (λ u e. omega (arith, e)))
+    (λ t. repeated_seven l p (goes_on p s room).state (room - length (goes_on p s room).reply)) z
+
+pub good_run : (p : List ℕ) (s : State) (l : List ℕ) (room : ℕ) → good p s ≡ true → (run_rule p s l room).answer ≡ 7 → ⊥
+unfolding run_rule
+good_run p s l room g e =
+    pick_if (λ (r : Ran). r.answer ≡ 7 → ⊥) (sends s.sending) (λ u. inside_seven p s l room) (λ u. repeated_seven l p s room) (rw g at e)
 
 -- ---- a bad page or state: all goes back as it came, the numbers too
 
