@@ -1,7 +1,7 @@
 -- The forward reading of the stretches: an equal cell is passed, and a stretch is one.
 --     turn                       one stretch or none, and those from beyond it
 --     reach_none, reach_stop, reach_turn, reach_go     a turn of the loop that looks for a stretch's end
---     put_none, put_then, put_one, put_done            numbers put one after the other
+--     put_none, put_then, put_copied     numbers put one after the other
 -- Assumes nothing.
 use Rattle.std.specs.Prelude.{◌≡◌, ℕ, suc, ◌+◌, ◌-◌, ◌/◌, ◌%◌, ◌<◌, ◌≤◌, Bool, true, false, not, eqb, ltb, leb, ◌⊎◌, List, [], ◌∷◌, ◌++◌, length, get_or, take, drop, set}
 use Rattle.std.specs.List.{list_all}

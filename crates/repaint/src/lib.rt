@@ -112,7 +112,10 @@ fn same_cells(before: &[u16], after: &[u16], from: usize, to: usize) -> bool
     requires { (to ≤ length before.now) × (length before.now ≡ length after.now) }
     ensures { result ≡ equal before.now after.now from to }
 {
-    from <= to && before[from..to] == after[from..to]
+    if to < from {
+        return false;
+    }
+    before[from..to] == after[from..to]
 }
 
 // A span that is not empty and lies within its row.
