@@ -39,7 +39,9 @@ fn stop(first: usize, end: usize, from: usize, len: usize) -> usize
 }
 
 // Text is stored from the cursor `first` on. Here and below a place and a byte move along together, and both are given back: a `for` would count
-// one of them, and the other would still be counted by hand.
+// one of them, and the other would still be counted by hand. It stands by itself, for speed: as a part of the run its loop fetches the place of the
+// input from the stack at each byte, and text takes half as long again.
+#[inline(never)]
 fn store(page: &mut [u16], ground: Ground, first: usize, input: &[u8], from: usize) -> Reached
     requires { Fits ground page.old × ((first < ground.end) × ((from ≤ length input.now) × (ground.insert ≡ false))) }
     ensures { Passes ground input.now first from page.old result.at result.taken page.new 0 }
